@@ -1,0 +1,105 @@
+-- The striping layout as its bytes and back, and its rules one by one. Document 01, "The striping layout".
+use Prim.Native.Nat.{ℕ, _+_, _-_, _*_}
+use mathlib.Core.List.{List, _++_}
+use mathlib.Core.Bool.{Bool, cond, _&&_, _||_}
+use lib.ListN.{length, take, drop}
+use lib.Dec.{leb, eqb}
+use Rattle.wire.specs.Numbers.{le, bytes}
+use Rattle.layout.specs.Slot.{decodeSlots, encodeSlots, allowedSlots}
+use Rattle.layout.specs.declared.Header.{Header}
+use Rattle.layout.specs.declared.Slot.{Slot}
+
+-- a header, the pool name of version 3, and the slots; the stripe count is the number of slots
+pub record Layout : Type 0 where
+  pub header : Header
+  pub pool : List ℕ
+  pub slots : List Slot
+
+-- "Version 1, magic 0x0BD10BD0", "Version 3, magic 0x0BD30BD0"
+abbrev pub magicOne : ℕ
+magicOne = 0x0bd10bd0
+
+abbrev pub magicThree : ℕ
+magicThree = 0x0bd30bd0
+
+-- "header 32 bytes", "the same and 16 bytes of pool name, 48 in all"
+unfoldable pub headerSize : ℕ → ℕ
+headerSize magic = cond (eqb magic magicThree) 48 32
+
+-- "magic 4, pattern 4, own id 8, own sequence 8, stripe size 4, stripe count 2, generation 2"
+unfoldable pub decodeHeader : List ℕ → Header
+decodeHeader l =
+    record {
+      magic = le 4 l;
+      pattern = le 4 (drop 4 l);
+      oid = le 8 (drop 8 l);
+      seq = le 8 (drop 16 l);
+      stripe = le 4 (drop 24 l);
+      generation = le 2 (drop 30 l);
+    }
+
+unfoldable pub stripeCount : List ℕ → ℕ
+stripeCount l = le 2 (drop 28 l)
+
+-- the 32 bytes of a header with a stripe count
+unfoldable pub encodeHeader : Header → ℕ → List ℕ
+encodeHeader h count =
+    bytes 4 (h .magic) ++ bytes 4 (h .pattern) ++ bytes 8 (h .oid) ++ bytes 8 (h .seq) ++ bytes 4 (h .stripe)
+    ++ bytes 2 count ++ bytes 2 (h .generation)
+
+-- where the slots start: after the header
+unfoldable pub slotStart : List ℕ → ℕ
+slotStart l = headerSize (le 4 l)
+
+-- "The slots follow the header and are handled as the part of the bytes after it"
+unfoldable pub decodeLayout : List ℕ → Layout
+decodeLayout l =
+    record {
+      header = decodeHeader l;
+      pool = take (slotStart l - 32) (drop 32 l);
+      slots = decodeSlots (stripeCount l) (drop (slotStart l) l);
+    }
+
+unfoldable pub encodeLayout : Layout → List ℕ
+encodeLayout L = encodeHeader (L .header) (length (L .slots)) ++ L .pool ++ encodeSlots (L .slots)
+
+-- ## The rules
+
+unfoldable pub knownVersion : Header → Bool
+knownVersion h = eqb (h .magic) magicOne || eqb (h .magic) magicThree
+
+abbrev pub plainPattern : ℕ
+plainPattern = 1
+
+abbrev pub holePattern : ℕ
+holePattern = 0x40000001
+
+-- "Pattern 1, or 0x40000001 (with holes)"
+unfoldable pub knownPattern : Header → Bool
+knownPattern h = eqb (h .pattern) plainPattern || eqb (h .pattern) holePattern
+
+unfoldable pub withHoles : Header → Bool
+withHoles h = eqb (h .pattern) holePattern
+
+-- "At most 160 slots"
+abbrev pub maxSlots : ℕ
+maxSlots = 160
+
+unfoldable pub fewSlots : ℕ → Bool
+fewSlots n = leb n maxSlots
+
+-- the bytes of a layout of n slots
+unfoldable pub layoutSize : ℕ → ℕ → ℕ
+layoutSize magic n = headerSize magic + 24 * n
+
+-- "The length is exactly header plus 24 times count"
+unfoldable pub exactLength : List ℕ → Bool
+exactLength l = eqb (length l) (layoutSize (le 4 l) (stripeCount l))
+
+-- the rules on header and slots. "Own id and sequence, stripe size, generations and pool name may be anything"
+unfoldable pub layoutRules : Header → List Slot → Bool
+layoutRules h ss = knownVersion h && knownPattern h && fewSlots (length ss) && allowedSlots (withHoles h) ss
+
+-- the layouts that are read: anything else is 13
+unfoldable pub acceptedLayout : List ℕ → Bool
+acceptedLayout l = exactLength l && layoutRules (decodeHeader l) (decodeLayout l .slots)

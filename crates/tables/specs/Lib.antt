@@ -1,0 +1,4 @@
+pub mod Records
+pub mod Bytes
+pub mod Positions
+pub mod Check

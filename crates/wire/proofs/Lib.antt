@@ -1,0 +1,3 @@
+pub mod Splice
+pub mod NumberLaws
+pub mod RowLaws

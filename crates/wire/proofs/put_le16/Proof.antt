@@ -1,0 +1,40 @@
+use borrow.Author.Needs.{needs}
+use mathlib.Core.Path.{_≡_}
+use Prim.Native.Nat.{_/_, _%_}
+use native.Mathlib.Numerals.{add-one}
+use native.Mathlib.Omega.{arith}
+use lib.ListN.{length-set}
+use Rattle.wire.specs.Numbers.{bytes}
+use Rattle.wire.proofs.put_le16.Statement.{statement}
+use Rattle.wire.proofs.put_le16.Tie as tie
+use Rattle.wire.proofs.put_le16.Reads as reads
+use Rattle.wire.proofs.put_le16.Lts as lts
+
+cast-s : tie.Need-cast-s
+cast-s c = search needs
+
+slice-write-s : tie.Need-slice-write-s
+slice-write-s c = search needs
+
+cast-s-2 : tie.Need-cast-s-2
+cast-s-2 c = search needs
+
+add-s : tie.Need-add-s
+add-s c = search needs
+
+slice-write-s-2 : tie.Need-slice-write-s-2
+slice-write-s-2 c = simp length-set (omega arith)
+
+same-length : tie.Need-same-length
+same-length c = search needs
+
+returns : tie.Need-returns
+unfolding bytes
+returns c =
+    let v = c .args .v in
+    let e : v / 256 % 256 ≡ v / 256 = omega arith in
+    rw (add-one, e)
+
+pub put-le16-spec : {M : Type 1} → statement M
+put-le16-spec =
+    tie.close (tie.spec cast-s slice-write-s cast-s-2 add-s slice-write-s-2 same-length returns)
