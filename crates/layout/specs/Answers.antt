@@ -10,8 +10,8 @@ use Rattle.layout.specs.Layout.{Layout, decodeHeader, decodeLayout, enco
 use Rattle.layout.specs.declared.Header.{Header}
 use Rattle.layout.specs.declared.Slot.{Slot}
 use Rattle.layout.specs.declared.Slot.the-variants.{Hole, Names}
-use Rattle.layout.specs.declared.Read.{Read}
-use Rattle.layout.specs.declared.Read.the-variants.{Refused, Accepted}
+use Rattle.layout.specs.declared.Reading.{Reading}
+use Rattle.layout.specs.declared.Reading.the-variants.{Refused, Accepted}
 use Rattle.layout.specs.declared.SlotRead.{SlotRead}
 use Rattle.layout.specs.declared.SlotRead.the-variants.{BadLayout, NoSlot, SlotIs}
 use Rattle.layout.specs.declared.Given.{Given}
@@ -22,11 +22,11 @@ use Rattle.layout.specs.declared.Written.the-variants.{BadFields, TooSho
 -- ## The reader
 
 -- header and stripe count of a layout that the rules accept
-unfoldable pub readLayout : List ℕ → Read
+unfoldable pub readLayout : List ℕ → Reading
 readLayout l = cond (acceptedLayout l) (Accepted (decodeHeader l) (stripeCount l)) Refused
 
 -- "13: layout not as above"
-unfoldable pub readNumber : Read → ℕ
+unfoldable pub readNumber : Reading → ℕ
 readNumber Refused = 13
 readNumber (Accepted h n) = 0
 
