@@ -255,10 +255,10 @@ module _ (holes : Bool) (area : List ℕ) (n : ℕ) where
   unfolding allowedFrom decodeSlots allowedSlots
   allowed-end j i h = let e : n - j ≡ 0 = omega arith in rw (i, e)
 
-  pub allowed-stop : (j : ℕ) → allowedSlots holes (decodeSlots n area) ≡ allowedFrom holes area n j → j < n →
-      allowedSlot holes (slotOf area j) ≡ false → false ≡ allowedSlots holes (decodeSlots n area)
-  allowed-stop j i h t = rw (i, allowed-step j h, t)
+  module _ (j : ℕ) (s : Slot) (b : Bool) (i : allowedSlots holes (decodeSlots n area) ≡ allowedFrom holes area n j) (h : j < n)
+      (e : s ≡ slotOf area j) (t : b ≡ allowedSlot holes s) where
+    pub allowed-stop : b ≡ false → false ≡ allowedSlots holes (decodeSlots n area)
+    allowed-stop z = rw (i, allowed-step j h, ← e, ← t, z)
 
-  pub allowed-next : (j : ℕ) → allowedSlots holes (decodeSlots n area) ≡ allowedFrom holes area n j → j < n →
-      allowedSlot holes (slotOf area j) ≡ true → allowedSlots holes (decodeSlots n area) ≡ allowedFrom holes area n (j + 1)
-  allowed-next j i h t = rw (i, allowed-step j h, t)
+    pub allowed-next : b ≡ true → allowedSlots holes (decodeSlots n area) ≡ allowedFrom holes area n (j + 1)
+    allowed-next z = rw (i, allowed-step j h, ← e, ← t, z)

@@ -8,7 +8,7 @@ ghost use lib.ListN.{length, drop};
 ghost use lib.Seq.{sets};
 ghost use Rattle.layout.specs.Slot.{zeroSlot, slotOf, encodeSlot, decodeSlots, encodeSlots, allowedSlot, allowedSlots, slotNames};
 ghost use Rattle.layout.specs.Layout.{headerSize, decodeHeader, encodeHeader, stripeCount, slotStart, knownVersion, knownPattern, withHoles, exactLength, acceptedLayout};
-ghost use Rattle.layout.specs.Answers.{readLayout, readSlot, rewriteAnswer, rewriteBytes, givenFrom, givenAt, isSlot, slotGiven, givenSlots, allGiven, writable, writeLayout, writeBytes};
+ghost use Rattle.layout.specs.Answers.{readLayout, readSlot, rewriteAnswer, rewriteBytes, zeroGiven, givenFrom, givenAt, isSlot, slotGiven, givenSlots, allGiven, writable, writeLayout, writeBytes};
 
 // The greatest number of slots.
 pub const MAX_SLOTS: usize = 160;
@@ -210,19 +210,34 @@ pub fn read_header(layout: &[u8]) -> Header
     }
 }
 
-// Whether magic and pattern are known.
-fn known_header(h: Header) -> bool
-    ensures { λ r. ⌜ r ≡ (knownVersion h && knownPattern h) ⌝ }
+// Whether the magic number is that of version 1 or 3.
+fn known_version(h: Header) -> bool
+    ensures { λ r. ⌜ r ≡ knownVersion h ⌝ }
 {
-    if h.magic != MAGIC_ONE {
-        if h.magic != MAGIC_THREE {
-            return false;
-        }
+    if h.magic == MAGIC_ONE {
+        return true;
     }
+    h.magic == MAGIC_THREE
+}
+
+// Whether the pattern is known.
+fn known_pattern(h: Header) -> bool
+    ensures { λ r. ⌜ r ≡ knownPattern h ⌝ }
+{
     if h.pattern == PLAIN_PATTERN {
         return true;
     }
     h.pattern == HOLE_PATTERN
+}
+
+// Whether magic and pattern are known.
+fn known_header(h: Header) -> bool
+    ensures { λ r. ⌜ r ≡ (knownVersion h && knownPattern h) ⌝ }
+{
+    if !known_version(h) {
+        return false;
+    }
+    known_pattern(h)
 }
 
 // Whether the pattern allows holes.
@@ -315,18 +330,46 @@ pub fn rewrite(layout: &mut [u8], j: usize, s: Slot) -> u32
     0
 }
 
+// Whether five numbers are all zero.
+fn is_zero_given(k: u64, s: u64, o: u64, g: u64, i: u64) -> bool
+    ensures { λ r. ⌜ r ≡ zeroGiven k s o g i ⌝ }
+{
+    if k != 0 {
+        return false;
+    }
+    if s != 0 {
+        return false;
+    }
+    if o != 0 {
+        return false;
+    }
+    if g != 0 {
+        return false;
+    }
+    i == 0
+}
+
 // The slot of five numbers, if they are one.
 pub fn given_from(k: u64, s: u64, o: u64, g: u64, i: u64) -> Given
     ensures { λ r. ⌜ r ≡ givenFrom k s o g i ⌝ }
 {
-    if k == 0 && s == 0 && o == 0 && g == 0 && i == 0 {
+    if is_zero_given(k, s, o, g, i) {
         return Given::GivenSlot(Slot::Hole);
     }
-    if k == 1 && o <= 0xffff_ffff && g <= 0xffff_ffff && i <= 0xffff_ffff {
-        let f = Fid { seq: s, oid: o as u32, ver: 0 };
-        return Given::GivenSlot(Slot::Names(OstFid(f), g as u32, i as u32));
+    if k != 1 {
+        return Given::NotSlot;
     }
-    Given::NotSlot
+    if 0xffff_ffff < o {
+        return Given::NotSlot;
+    }
+    if 0xffff_ffff < g {
+        return Given::NotSlot;
+    }
+    if 0xffff_ffff < i {
+        return Given::NotSlot;
+    }
+    let f = Fid { seq: s, oid: o as u32, ver: 0 };
+    Given::GivenSlot(Slot::Names(OstFid(f), g as u32, i as u32))
 }
 
 // The j-th slot of a list of numbers, five to a slot.

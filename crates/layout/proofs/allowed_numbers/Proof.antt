@@ -1,3 +1,12 @@
+use native.Mathlib.Omega.{arith}
+use borrow.Author.Tests.{not-true, not-false}
+use borrow.Author.Needs.{needs}
+use mathlib.Core.Path.{_≡_}
+use mathlib.Core.Bool.{_&&_}
+use Prim.Native.Nat.{ℕ, _+_, _-_, _*_, _≤_, _<_}
+use Rattle.layout.specs.Slot.{allowedSlots}
+use Rattle.layout.specs.Answers.{allGiven, givenSlots}
+use Rattle.layout.proofs.GivenLaws.{givenFromOn, given-start, given-stop, given-next, given-end}
 use Rattle.layout.proofs.allowed_numbers.Statement.{statement}
 use Rattle.layout.proofs.allowed_numbers.Tie as tie
 use Rattle.layout.proofs.allowed_numbers.Reads as reads
@@ -6,42 +15,38 @@ use Rattle.layout.proofs.allowed_given.Reads as allowed-given-reads
 use Rattle.layout.proofs.given_at.Reads as given-at-reads
 
 abbrev Inv-loop : tie.InvT-loop
-Inv-loop numbers count holes j₀ j = ?
+Inv-loop numbers count holes j₀ j = (j ≤ count) × ((allGiven numbers count 0 && allowedSlots holes (givenSlots numbers count 0)) ≡ givenFromOn holes numbers count j)
 
 abbrev μ-loop : tie.MeasureT-loop
-μ-loop numbers count holes j₀ j = ?
+μ-loop numbers count holes j₀ j = count - j
 
--- src/lib.rt:356:5
 loop-holds : tie.Need-loop-holds Inv-loop μ-loop
-loop-holds c = ?
+loop-holds c = (omega arith, given-start _ _ _)
 
--- src/lib.rt:357:13
 given-at-requires : tie.Need-given-at-requires Inv-loop μ-loop
-given-at-requires c κs = ?
+given-at-requires c κs = omega arith
 
--- src/lib.rt:358:13
 allowed-given-requires : tie.Need-allowed-given-requires Inv-loop μ-loop
-allowed-given-requires c κs = ?
+allowed-given-requires c κs = search needs
 
--- src/lib.rt:359:13
 returns : tie.Need-returns Inv-loop μ-loop
-returns c = ?
+returns c = 
+    let i = c .before .before .before .before .loop .inv in
+    given-stop _ _ _ _ _ _ (i .1) (omega arith) (c .before .before .given-at .ensures) (c .before .allowed-given .ensures) (not-true _ (c .if1 .taken))
 
--- src/lib.rt:356:9
 add-j : tie.Need-add-j Inv-loop μ-loop
-add-j c = ?
+add-j c = omega arith
 
--- src/lib.rt:356:5
 loop-less : tie.Need-loop-less Inv-loop μ-loop
-loop-less c = ?
+loop-less c = omega arith
 
--- src/lib.rt:356:5
 loop-again : tie.Need-loop-again Inv-loop μ-loop
-loop-again c = ?
+loop-again c = 
+    let i = c .before .before .before .before .loop .inv in
+    (omega arith, given-next _ _ _ _ _ _ (i .1) (omega arith) (c .before .before .given-at .ensures) (c .before .allowed-given .ensures) (not-false _ (c .if1 .left)))
 
--- src/lib.rt:352:1
 returns-2 : tie.Need-returns-2 Inv-loop μ-loop
-returns-2 c = ?
+returns-2 c = given-end _ _ _ _ (c .before .loop .inv .1) (omega arith)
 
 pub allowed-numbers-spec : {M : Type 1} → statement M
 allowed-numbers-spec =

@@ -1,3 +1,5 @@
+use native.Mathlib.Omega.{arith}
+use Rattle.layout.proofs.LayoutLaws.{exact-short, exact-is, start-most}
 use borrow.Author.Needs.{needs}
 use Rattle.layout.proofs.exact_length.Statement.{statement}
 use Rattle.layout.proofs.exact_length.Tie as tie
@@ -6,33 +8,26 @@ use Rattle.layout.proofs.exact_length.Lts as lts
 use Rattle.layout.proofs.slot_start.Reads as slot-start-reads
 use Rattle.layout.proofs.stripe_count.Reads as stripe-count-reads
 
--- src/lib.rt:240:9
 returns : tie.Need-returns
-returns c = ?
+returns c = exact-short _ (omega arith)
 
--- src/lib.rt:242:9
 slot-start-requires : tie.Need-slot-start-requires
 slot-start-requires c κs = search needs
 
--- src/lib.rt:243:13
 stripe-count-requires : tie.Need-stripe-count-requires
 stripe-count-requires c κs = search needs
 
--- src/lib.rt:243:13
 cast-n : tie.Need-cast-n
 cast-n c = search needs
 
--- src/lib.rt:244:25
 mul-result : tie.Need-mul-result
 mul-result c = search needs
 
--- src/lib.rt:244:21
 add-result : tie.Need-add-result
-add-result c = ?
+add-result c = omega (arith, start-most _ (c .before .slot-start .ensures))
 
--- src/lib.rt:236:1
 returns-2 : tie.Need-returns-2
-returns-2 c = ?
+returns-2 c = exact-is _ _ _ (c .before .slot-start .ensures) (c .stripe-count .ensures)
 
 pub exact-length-spec : {M : Type 1} → statement M
 exact-length-spec =

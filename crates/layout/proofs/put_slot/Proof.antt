@@ -1,3 +1,5 @@
+use denote.Ref.{now}
+use Rattle.layout.proofs.SlotLaws.{put-hole, put-names}
 use borrow.Author.Needs.{needs}
 use Rattle.layout.proofs.put_slot.Statement.{statement}
 use Rattle.layout.proofs.put_slot.Tie as tie
@@ -7,53 +9,45 @@ use Rattle.fid.proofs.write_fid.Reads as write-fid-reads
 use Rattle.wire.proofs.put_le32.Reads as put-le32-reads
 use Rattle.wire.proofs.put_le64.Reads as put-le64-reads
 
--- src/lib.rt:148:28
 enum-told : tie.Need-enum-told
 enum-told c = search needs
 
--- src/lib.rt:148:13
 put-le64-requires : tie.Need-put-le64-requires
 put-le64-requires c κs = search needs
 
--- src/lib.rt:149:13
 put-le64-requires-2 : tie.Need-put-le64-requires-2
 put-le64-requires-2 c κs = search needs
 
--- src/lib.rt:150:13
 put-le64-requires-3 : tie.Need-put-le64-requires-3
 put-le64-requires-3 c κs = search needs
 
--- src/lib.rt:152:21
 enum-known-s : tie.Need-enum-known-s
 enum-known-s c = search needs
 
--- src/lib.rt:154:13
 write-fid-requires : tie.Need-write-fid-requires
 write-fid-requires c κs = search needs
 
--- src/lib.rt:155:13
 put-le32-requires : tie.Need-put-le32-requires
 put-le32-requires c κs = search needs
 
--- src/lib.rt:156:13
 put-le32-requires-2 : tie.Need-put-le32-requires-2
 put-le32-requires-2 c κs = search needs
 
--- src/lib.rt:142:1
 same-length : tie.Need-same-length
 same-length c = search needs
 
--- src/lib.rt:142:1
 returns : tie.Need-returns
-returns c = ?
+returns c = let d = c .before .before .before .before .before .before .before .before .before .before .before .before .before .before .before in cc (put-hole (now (d .args .part)) (d .pre))
 
--- src/lib.rt:142:1
 same-length-2 : tie.Need-same-length-2
 same-length-2 c = search needs
 
--- src/lib.rt:142:1
 returns-2 : tie.Need-returns-2
-returns-2 c = ?
+returns-2 c = 
+    let k = c .before .before .before .before .before .before .before .before .before .before .before .before .before .before in
+    let v = k .s .given .0 in
+    let d = k .before .before .before in
+    cc (put-names (now (d .args .part)) (v .0 .0) (v .1 .0) (v .1 .1 .0) (d .pre))
 
 pub put-slot-spec : {M : Type 1} → statement M
 put-slot-spec =

@@ -1,3 +1,5 @@
+use denote.Ref.{now}
+use Rattle.layout.proofs.HeaderLaws.{header-stores}
 use borrow.Author.Needs.{needs}
 use Rattle.layout.proofs.write_header.Statement.{statement}
 use Rattle.layout.proofs.write_header.Tie as tie
@@ -7,41 +9,32 @@ use Rattle.wire.proofs.put_le16.Reads as put-le16-reads
 use Rattle.wire.proofs.put_le32.Reads as put-le32-reads
 use Rattle.wire.proofs.put_le64.Reads as put-le64-reads
 
--- src/lib.rt:389:5
 put-le32-requires : tie.Need-put-le32-requires
 put-le32-requires c κs = search needs
 
--- src/lib.rt:390:5
 put-le32-requires-2 : tie.Need-put-le32-requires-2
 put-le32-requires-2 c κs = search needs
 
--- src/lib.rt:391:5
 put-le64-requires : tie.Need-put-le64-requires
 put-le64-requires c κs = search needs
 
--- src/lib.rt:392:5
 put-le64-requires-2 : tie.Need-put-le64-requires-2
 put-le64-requires-2 c κs = search needs
 
--- src/lib.rt:393:5
 put-le32-requires-3 : tie.Need-put-le32-requires-3
 put-le32-requires-3 c κs = search needs
 
--- src/lib.rt:394:5
 put-le16-requires : tie.Need-put-le16-requires
 put-le16-requires c κs = search needs
 
--- src/lib.rt:395:5
 put-le16-requires-2 : tie.Need-put-le16-requires-2
 put-le16-requires-2 c κs = search needs
 
--- src/lib.rt:385:1
 same-length : tie.Need-same-length
 same-length c = search needs
 
--- src/lib.rt:385:1
 returns : tie.Need-returns
-returns c = ?
+returns c = let d = c .before .before .before .before .before .before .before .before .before .before .before .before .before .before .before .before .before .before .before .before .before .before .before .before .before .before .before .before .before .args in cc (header-stores (now (d .dest)) (d .h) (d .count))
 
 pub write-header-spec : {M : Type 1} → statement M
 write-header-spec =

@@ -4,10 +4,10 @@ use Rattle.layout.proofs.write_pool.Reads as reads
 use Rattle.layout.proofs.write_pool.Lts as lts
 
 abbrev Inv-loop : tie.InvT-loop
-Inv-loop dest₀ pool i₀ i-end dest i = ?
+Inv-loop dest₀ pool i₀ i-end dest i = (i ≤ length pool) × (dest ≡ sets dest₀ 32 (take i pool))
 
 abbrev μ-loop : tie.MeasureT-loop
-μ-loop dest₀ pool i₀ i-end dest i = ?
+μ-loop dest₀ pool i₀ i-end dest i = length pool - i
 
 -- src/lib.rt:403:5
 loop-holds : tie.Need-loop-holds Inv-loop μ-loop
