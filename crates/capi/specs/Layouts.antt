@@ -49,10 +49,13 @@ slotReadFields (SlotIs s) = slotFields s
 unfoldable pub magicOf : ℕ → ℕ
 magicOf version = cond (eqb version 3) magicThree magicOne
 
+unfoldable pub isVersion : ℕ → Bool
+isVersion version = eqb version 1 || eqb version 3
+
 -- seven numbers, each fitting its field; own id and sequence are 64 bits wide, and the writer looks at the count
 unfoldable pub fieldsFit : List ℕ → Bool
 fieldsFit l =
-    eqb (length l) 7 && (eqb (getD l 0 0) 1 || eqb (getD l 0 0) 3) && leb (getD l 1 0) 0xffffffff && leb (getD l 4 0) 0xffffffff
+    eqb (length l) 7 && isVersion (getD l 0 0) && leb (getD l 1 0) 0xffffffff && leb (getD l 4 0) 0xffffffff
     && leb (getD l 6 0) 0xffff
 
 -- "version, pattern, own id, own sequence, stripe size, stripe count, generation"

@@ -13,7 +13,7 @@ ghost use lib.ListN.{length};
 ghost use lib.Seq.{sets};
 ghost use Rattle.layout.specs.Answers.{readLayout, readNumber, readSlot, slotReadNumber};
 ghost use Rattle.capi.specs.Out.{outAnswer, outNumbers};
-ghost use Rattle.capi.specs.Layouts.{versionOf, headerFields, readFields, slotFields, slotReadFields, magicOf, fieldsFit, fieldsHeader, fieldsCount, headerGiven, writeNumber, writeValues, writeAnswer, writeDest, rewriteNumber, rewriteLeft};
+ghost use Rattle.capi.specs.Layouts.{versionOf, headerFields, readFields, slotFields, slotReadFields, magicOf, isVersion, fieldsFit, fieldsHeader, fieldsCount, headerGiven, writeNumber, writeValues, writeAnswer, writeDest, rewriteNumber, rewriteLeft};
 
 // A header that is handed in as numbers.
 pub enum HeaderGiven {
@@ -36,14 +36,9 @@ fn put_header(fields: &mut [u64], h: Header, count: u16)
     requires { ⌜ 8 ≤ length (now fields) ⌝ }
     ensures { λ _. ⌜ now (fields .exit) ≡ sets (now (fields .entry)) 0 (headerFields h count) ⌝ }
 {
-    fields[0] = version_of(h.magic);
-    fields[1] = h.pattern as u64;
-    fields[2] = h.oid;
-    fields[3] = h.seq;
-    fields[4] = h.stripe as u64;
-    fields[5] = count as u64;
-    fields[6] = h.generation as u64;
-    fields[7] = layout::header_size(h.magic) as u64;
+    let start = layout::header_size(h.magic) as u64;
+    out::put_four(fields, 0, version_of(h.magic), h.pattern as u64, h.oid, h.seq);
+    out::put_four(fields, 4, h.stripe as u64, count as u64, h.generation as u64, start);
 }
 
 // Reads a layout: 8 numbers into fields.
@@ -71,10 +66,14 @@ fn put_slot(out: &mut [u64], s: Slot)
     ensures { λ _. ⌜ now (out .exit) ≡ sets (now (out .entry)) 0 (slotFields s) ⌝ }
 {
     match s {
-        Slot::Hole => out::put5(out, 0, 0, 0, 0, 0),
+        Slot::Hole => {
+            out::put_four(out, 0, 0, 0, 0, 0);
+            out::put(out, 4, 0);
+        }
         Slot::Names(f, g, i) => {
             let named = f.0;
-            out::put5(out, 1, named.seq, named.oid as u64, g as u64, i as u64)
+            out::put_four(out, 0, 1, named.seq, named.oid as u64, g as u64);
+            out::put(out, 4, i as u64);
         }
     }
 }
@@ -99,6 +98,16 @@ pub extern "C" fn lfsck_layout_slot(layout: &[u8], index: u64, out: &mut [u64]) 
     }
 }
 
+// Whether a number is that of a version.
+fn is_version(version: u64) -> bool
+    ensures { λ r. ⌜ r ≡ isVersion version ⌝ }
+{
+    if version == 1 {
+        return true;
+    }
+    version == 3
+}
+
 // Whether seven numbers fit the fields of a header.
 fn fields_fit(fields: &[u64]) -> bool
     ensures { λ r. ⌜ r ≡ fieldsFit (now (fields .entry)) ⌝ }
@@ -106,10 +115,8 @@ fn fields_fit(fields: &[u64]) -> bool
     if fields.len() != 7 {
         return false;
     }
-    if fields[0] != 1 {
-        if fields[0] != 3 {
-            return false;
-        }
+    if !is_version(fields[0]) {
+        return false;
     }
     if 0xffff_ffff < fields[1] {
         return false;
@@ -170,7 +177,7 @@ pub extern "C" fn lfsck_layout_write(fields: &[u64], pool: &[u8], slots: &[u64],
                 Written::BadFields => 13,
                 Written::TooShort => 17,
                 Written::Bytes(n) => {
-                    out[0] = n as u64;
+                    out::put(out, 0, n as u64);
                     0
                 }
             }

@@ -1,91 +1,83 @@
+use denote.Ref.{now}
+use native.Mathlib.Omega.{arith}
+use mathlib.Core.Path.{sym, _∙_}
+use borrow.Author.Tests.{not-true, not-false}
+use Rattle.capi.proofs.LayoutNumbers.{fit-fields, given-is, count-of, write-none, write-refused, write-unplaced, write-full, write-wrong, write-done}
 use borrow.Author.Needs.{needs}
 use Rattle.capi.proofs.layouts.lfsck_layout_write.Statement.{statement}
 use Rattle.capi.proofs.layouts.lfsck_layout_write.Tie as tie
 use Rattle.capi.proofs.layouts.lfsck_layout_write.Reads as reads
 use Rattle.capi.proofs.layouts.lfsck_layout_write.Lts as lts
 use Rattle.capi.proofs.layouts.given_header.Reads as given-header-reads
+use Rattle.capi.proofs.out.put.Reads as put-reads
 use Rattle.layout.proofs.may_write.Reads as may-write-reads
 use Rattle.layout.proofs.write.Reads as write-reads
 
--- src/layouts.rt:157:9
 given-header-requires : tie.Need-given-header-requires
 given-header-requires c κs = search needs
 
--- src/layouts.rt:159:35
 enum-told : tie.Need-enum-told
 enum-told c = search needs
 
--- src/layouts.rt:160:31
 enum-known-given : tie.Need-enum-known-given
 enum-known-given c = search needs
 
--- src/layouts.rt:161:25
 shared-slice-read-count : tie.Need-shared-slice-read-count
-shared-slice-read-count c = ?
+shared-slice-read-count c = let v = c .before .before .given .given .0 in omega (arith, fit-fields _ (given-is (now (c .before .before .before .before .before .before .before .before .before .before .args .fields)) (v .0) (cc) .0))
 
--- src/layouts.rt:162:17
 may-write-requires : tie.Need-may-write-requires
 may-write-requires c κs = search needs
 
--- src/layouts.rt:163:17
 returns : tie.Need-returns
-returns c = ?
+returns c = let v = c .before .before .before .before .given .given .0 in write-refused _ _ _ _ _ (v .0) _ (cc) (count-of _) (sym (c .before .may-write .ensures) ∙ not-true _ (c .if1 .taken))
 
--- src/layouts.rt:166:17
 returns-2 : tie.Need-returns-2
-returns-2 c = ?
+returns-2 c = let v = c .before .before .before .before .before .given .given .0 in write-unplaced _ _ _ _ _ (v .0) _ (cc) (count-of _) (sym (c .before .before .may-write .ensures) ∙ not-false _ (c .before .if1 .left)) (omega arith)
 
--- src/layouts.rt:168:17
 write-requires : tie.Need-write-requires
 write-requires c κs = search needs
 
--- src/layouts.rt:170:39
 enum-told-2 : tie.Need-enum-told-2
 enum-told-2 c = search needs
 
--- src/layouts.rt:171:38
 enum-told-3 : tie.Need-enum-told-3
 enum-told-3 c = search needs
 
--- src/layouts.rt:172:32
 enum-known-written : tie.Need-enum-known-written
 enum-known-written c = search needs
 
--- src/layouts.rt:173:21
-slice-write-out : tie.Need-slice-write-out
-slice-write-out c = search needs
+put-requires : tie.Need-put-requires
+put-requires c κs = search needs
 
--- src/layouts.rt:151:1
 returns-3 : tie.Need-returns-3
-returns-3 c = ?
+returns-3 c = write-none _ _ _ _ _ (cc)
 
--- src/layouts.rt:151:1
 same-length : tie.Need-same-length
 same-length c = search needs
 
--- src/layouts.rt:151:1
 returns-4 : tie.Need-returns-4
-returns-4 c = ?
+returns-4 c = 
+    let v = c .before .before .before .before .before .before .before .before .before .before .before .given .given .0 in
+    write-wrong _ _ _ _ _ (v .0) _ (cc) (count-of _) _ (cc) (c .before .before .before .before .write .ensures .1)
 
--- src/layouts.rt:151:1
 same-length-2 : tie.Need-same-length-2
 same-length-2 c = search needs
 
--- src/layouts.rt:151:1
 returns-5 : tie.Need-returns-5
-returns-5 c = ?
+returns-5 c = 
+    let v = c .before .before .before .before .before .before .before .before .before .before .before .given .given .0 in
+    write-full _ _ _ _ _ (v .0) _ (cc) (count-of _) _ (cc) (c .before .before .before .before .write .ensures .1)
 
--- src/layouts.rt:151:1
 same-length-3 : tie.Need-same-length-3
 same-length-3 c = search needs
 
--- src/layouts.rt:151:1
 same-length-4 : tie.Need-same-length-4
 same-length-4 c = search needs
 
--- src/layouts.rt:151:1
 returns-6 : tie.Need-returns-6
-returns-6 c = ?
+returns-6 c = 
+    let v = c .before .before .before .before .before .before .before .before .before .before .before .before .before .before .before .before .given .given .0 in
+    write-done _ _ _ _ _ (v .0) _ (cc) (count-of _) (c .before .before .before .before .before .written .given .0 .0) _ _ (cc) (omega arith) (c .before .before .before .before .before .before .before .before .before .write .ensures .1) (c .before .before .put .ensures)
 
 pub lfsck-layout-write-spec : {M : Type 1} → statement M
 lfsck-layout-write-spec =
@@ -102,7 +94,7 @@ lfsck-layout-write-spec =
     enum-told-2
     enum-told-3
     enum-known-written
-    slice-write-out
+    put-requires
     returns-3
     same-length
     returns-4
