@@ -1,4 +1,9 @@
 // The lent tables: parent rows, object rows and the reserve.
+mod fids;
+pub mod rows;
+mod twice;
+mod whole;
+
 use fid::MdtFid;
 use fid::OstFid;
 

@@ -1,0 +1,78 @@
+use mathlib.Core.Path.{_≡_, refl, sym, ap, _∙_}
+use native.Mathlib.Omega.{arith}
+use borrow.Author.Tests.{not-true, not-false}
+use denote.Ref.{now}
+use Rattle.tables.proofs.TestLaws.{when-unused, when-used, object-self, object-index, object-claim, object-fresh}
+use Rattle.fid.specs.Fid.{goodFid}
+use Rattle.tables.specs.Check.{goodObject}
+use borrow.Author.Needs.{needs}
+use Rattle.tables.proofs.fids.good_object.Statement.{statement}
+use Rattle.tables.proofs.fids.good_object.Tie as tie
+use Rattle.tables.proofs.fids.good_object.Reads as reads
+use Rattle.tables.proofs.fids.good_object.Lts as lts
+use Rattle.fid.proofs.is_good.Reads as is-good-reads
+use Rattle.tables.proofs.fids.fresh_claims.Reads as fresh-claims-reads
+use Rattle.tables.proofs.fids.good_claim.Reads as good-claim-reads
+use Rattle.tables.proofs.rows.is_used.Reads as is-used-reads
+use Rattle.tables.proofs.rows.self_fid.Reads as self-fid-reads
+use Rattle.wire.proofs.le32.Reads as le32-reads
+
+-- src/fids.rt:66:9
+is-used-requires : tie.Need-is-used-requires
+is-used-requires c κs = search needs
+
+-- src/fids.rt:67:9
+returns : tie.Need-returns
+returns c = when-unused _ _ (sym (c .before .is-used .ensures) ∙ not-true _ (c .if1 .taken))
+
+-- src/fids.rt:69:22
+self-fid-requires : tie.Need-self-fid-requires
+self-fid-requires c κs = search needs
+
+-- src/fids.rt:69:9
+is-good-requires : tie.Need-is-good-requires
+is-good-requires c κs = search needs
+
+-- src/fids.rt:70:9
+returns-2 : tie.Need-returns-2
+returns-2 c = ?
+
+-- src/fids.rt:72:20
+le32-requires : tie.Need-le32-requires
+le32-requires c κs = search needs
+
+-- src/fids.rt:73:9
+returns-3 : tie.Need-returns-3
+returns-3 c = ?
+
+-- src/fids.rt:75:9
+good-claim-requires : tie.Need-good-claim-requires
+good-claim-requires c κs = search needs
+
+-- src/fids.rt:76:9
+returns-4 : tie.Need-returns-4
+returns-4 c = ?
+
+-- src/fids.rt:78:5
+fresh-claims-requires : tie.Need-fresh-claims-requires
+fresh-claims-requires c κs = search needs
+
+-- src/fids.rt:62:1
+returns-5 : tie.Need-returns-5
+returns-5 c = ?
+
+pub good-object-spec : {M : Type 1} → statement M
+good-object-spec =
+    tie.close
+    (tie.spec
+    is-used-requires
+    returns
+    self-fid-requires
+    is-good-requires
+    returns-2
+    le32-requires
+    returns-3
+    good-claim-requires
+    returns-4
+    fresh-claims-requires
+    returns-5)
