@@ -1,3 +1,4 @@
 pub mod AllLaws
 pub mod RowReads
 pub mod TestLaws
+pub mod TwiceLaws

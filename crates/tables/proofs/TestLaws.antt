@@ -104,15 +104,15 @@ all-on false = refl
 module _ (row : List ℕ) (f : Fid) where
   pub has-oid : (le 4 (drop 9 row) ≡ f .oid → ⊥) → false ≡ (isUsed row && sameFid (selfFid row) f)
   unfolding sameFid selfFid decodeFid
-  has-oid h = rw (drop-drop 8 1 row, ne-eqb _ _ h) (oid-off (isUsed row) _ _)
+  has-oid h = rw (drop-drop 8 1 row, drop-drop 12 1 row, ne-eqb _ _ h) (oid-off (isUsed row) (eqb (le 8 (drop 1 row)) (f .seq)) (eqb (le 4 (drop 13 row)) (f .ver)))
 
   pub has-seq : (le 8 (drop 1 row) ≡ f .seq → ⊥) → false ≡ (isUsed row && sameFid (selfFid row) f)
   unfolding sameFid selfFid decodeFid
-  has-seq h = rw (ne-eqb _ _ h) (seq-off (isUsed row) _ _)
+  has-seq h = rw (ne-eqb _ _ h) (seq-off (isUsed row) (eqb (le 4 (drop 8 (drop 1 row))) (f .oid)) (eqb (le 4 (drop 12 (drop 1 row))) (f .ver)))
 
   pub has-ver : (le 4 (drop 13 row) ≡ f .ver → ⊥) → false ≡ (isUsed row && sameFid (selfFid row) f)
   unfolding sameFid selfFid decodeFid
-  has-ver h = rw (drop-drop 12 1 row, ne-eqb _ _ h) (ver-off (isUsed row) _ _)
+  has-ver h = rw (drop-drop 8 1 row, drop-drop 12 1 row, ne-eqb _ _ h) (ver-off (isUsed row) (eqb (le 8 (drop 1 row)) (f .seq)) (eqb (le 4 (drop 9 row)) (f .oid)))
 
   pub has-used : le 4 (drop 9 row) ≡ f .oid → le 8 (drop 1 row) ≡ f .seq → le 4 (drop 13 row) ≡ f .ver →
       eqb (getD row 0 0) 1 ≡ (isUsed row && sameFid (selfFid row) f)

@@ -1,3 +1,4 @@
+use Rattle.fid.specs.Fid.{goodFid}
 use Prim.Native.Nat.{_-_, _≤_}
 use mathlib.Core.Path.{_≡_, refl, sym, ap, _∙_}
 use native.Mathlib.Omega.{arith}
@@ -38,7 +39,12 @@ is-good-requires c κs = omega arith
 
 -- src/fids.rt:101:13
 returns : tie.Need-returns Inv-loop μ-loop
-returns c = ?
+unfolding goodEntry
+returns c = 
+    let d = c .before .before .before in
+    let i = d .before .before .loop .inv in
+    all-fail goodEntry entrySize _ _ _ _ _ (i .1) (omega arith) (d .row-at .ensures .0)
+    (ap goodFid (sym (c .before .before .read-fid .ensures)) ∙ sym (c .before .is-good .ensures) ∙ not-true _ (c .if1 .taken))
 
 -- src/fids.rt:98:9
 add-r : tie.Need-add-r Inv-loop μ-loop
@@ -50,7 +56,12 @@ loop-less c = omega arith
 
 -- src/fids.rt:98:5
 loop-again : tie.Need-loop-again Inv-loop μ-loop
-loop-again c = ?
+unfolding goodEntry
+loop-again c = 
+    let d = c .before .before .before in
+    let i = d .before .before .loop .inv in
+    (omega arith, all-pass goodEntry entrySize _ _ _ _ _ (i .1) (omega arith) (d .row-at .ensures .0)
+    (ap goodFid (sym (c .before .before .read-fid .ensures)) ∙ sym (c .before .is-good .ensures) ∙ not-false _ (c .if1 .left)))
 
 -- src/fids.rt:94:1
 returns-2 : tie.Need-returns-2 Inv-loop μ-loop

@@ -16,7 +16,7 @@ le32-requires c κs = search needs
 
 -- src/twice.rt:21:9
 returns : tie.Need-returns
-returns c = ?
+returns c = let a = c .before .before .before .before .args in has-oid (now (a .row)) (a .f) (λ e. c .if1 .taken (c .before .before .le32 .ensures ∙ e))
 
 -- src/twice.rt:23:8
 le64-requires : tie.Need-le64-requires
@@ -24,7 +24,7 @@ le64-requires c κs = search needs
 
 -- src/twice.rt:24:9
 returns-2 : tie.Need-returns-2
-returns-2 c = ?
+returns-2 c = let a = c .before .before .before .before .before .before .before .args in has-seq (now (a .row)) (a .f) (λ e. c .if2 .taken (c .before .before .le64 .ensures ∙ e))
 
 -- src/twice.rt:26:8
 le32-requires-2 : tie.Need-le32-requires-2
@@ -32,7 +32,7 @@ le32-requires-2 c κs = search needs
 
 -- src/twice.rt:27:9
 returns-3 : tie.Need-returns-3
-returns-3 c = ?
+returns-3 c = let a = c .before .before .before .before .before .before .before .before .before .before .args in has-ver (now (a .row)) (a .f) (λ e. c .if3 .taken (c .before .before .le322 .ensures ∙ e))
 
 -- src/twice.rt:29:5
 shared-slice-read-result : tie.Need-shared-slice-read-result
@@ -40,7 +40,7 @@ shared-slice-read-result c = search needs
 
 -- src/twice.rt:16:1
 returns-4 : tie.Need-returns-4
-returns-4 c = ?
+returns-4 c = let a = c .before .before .before .before .before .before .before .before .before .before .before .args in has-used (now (a .row)) (a .f) (omega arith) (omega arith) (omega arith)
 
 pub has-fid-spec : {M : Type 1} → statement M
 has-fid-spec =

@@ -16,15 +16,15 @@ div-n c = search needs
 
 -- src/whole.rt:24:8
 mul-if1 : tie.Need-mul-if1
-mul-if1 c = let a = c .before .before .args in omega (arith, mul-div-le (length (now (a .table))) (a .size))
+mul-if1 c = let a = c .args in omega (arith, mul-div-le (length (now (a .table))) (a .size))
 
 -- src/whole.rt:25:9
 returns : tie.Need-returns
-returns c = ?
+returns c = whole-not _ _ (now (c .before .args .table)) (c .if1 .taken)
 
 -- src/whole.rt:19:1
 returns-2 : tie.Need-returns-2
-returns-2 c = ?
+returns-2 c = whole-most _ _ (now (c .before .args .table)) (omega arith)
 
 pub whole-rows-spec : {M : Type 1} → statement M
 whole-rows-spec = tie.close (tie.spec div-n mul-if1 returns returns-2)
