@@ -11,8 +11,8 @@ use Rattle.wire.specs.Numbers.{le}
 use Rattle.fid.specs.Fid.{decodeFid, goodFid, goodNumber, sameFid, zeroFid}
 use Rattle.fid.specs.declared.Fid.{Fid}
 use Rattle.layout.specs.Slot.{maxIndex}
-use Rattle.tables.specs.Bytes.{isUsed}
-use Rattle.tables.specs.Check.{whenUsed, wholeRows, isMark, usedMark, freshMark, selfFid, goodSelf, goodIndex, claimed, goodClaim, freshClaims, goodObject, goodEntry}
+use Rattle.tables.specs.Bytes.{parentSize, objectSize, isUsed, parentRows, objectRows}
+use Rattle.tables.specs.Check.{all, whenUsed, maxParents, maxObjects, wholeRows, parentsWhole, objectsWhole, allDifferent, noneTwice, isMark, usedMark, freshMark, selfFid, goodSelf, goodIndex, claimed, goodClaim, freshClaims, goodObject, goodEntry}
 
 module _ (test : List ℕ → Bool) (row : List ℕ) where
   pub when-unused : isUsed row ≡ false → true ≡ whenUsed test row
@@ -42,6 +42,28 @@ module _ (row : List ℕ) where
   pub mark-good : getD row 0 0 ≤ 1 → usedMark row ≡ true
   unfolding usedMark isMark
   mark-good h = le-leb _ _ h
+
+module _ (l : List ℕ) where
+  pub parents-not : wholeRows parentSize maxParents l ≡ false → false ≡ parentsWhole l
+  unfolding parentsWhole
+  parents-not h = rw h
+
+  pub parents-marks : wholeRows parentSize maxParents l ≡ true → all usedMark (parentRows l) ≡ parentsWhole l
+  unfolding parentsWhole
+  parents-marks h = rw h
+
+  pub objects-not : wholeRows objectSize maxObjects l ≡ false → false ≡ objectsWhole l
+  unfolding objectsWhole
+  objects-not h = rw h
+
+  pub objects-used : wholeRows objectSize maxObjects l ≡ true → all usedMark (objectRows l) ≡ false → false ≡ objectsWhole l
+  unfolding objectsWhole
+  objects-used h k = rw (h, k)
+
+  pub objects-fresh : wholeRows objectSize maxObjects l ≡ true → all usedMark (objectRows l) ≡ true →
+      all (whenUsed freshMark) (objectRows l) ≡ objectsWhole l
+  unfolding objectsWhole
+  objects-fresh h k = rw (h, k)
 
 -- ## 14
 
@@ -119,3 +141,12 @@ module _ (row : List ℕ) (f : Fid) where
   unfolding isUsed sameFid selfFid decodeFid
   has-used p q r =
       rw (drop-drop 8 1 row, drop-drop 12 1 row, eq-eqb _ _ p, eq-eqb _ _ q, eq-eqb _ _ r) (all-on (eqb (getD row 0 0) 1))
+
+module _ (p o : List ℕ) where
+  pub parents-twice : noneTwice (parentRows p) ≡ false → false ≡ allDifferent p o
+  unfolding allDifferent
+  parents-twice h = rw h
+
+  pub objects-twice : noneTwice (parentRows p) ≡ true → noneTwice (objectRows o) ≡ allDifferent p o
+  unfolding allDifferent
+  objects-twice h = rw h

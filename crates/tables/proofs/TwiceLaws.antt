@@ -52,10 +52,12 @@ module _ (size : ℕ) (l : List ℕ) (n : ℕ) where
     unfolding noneFrom noneTwice
     none-unused u = rw (e, rows-step size n r l h, ← at, u)
 
-    pub none-pass : isUsed row ≡ true → hasFrom (selfFid row) size l n (r + 1) ≡ false → x ≡ noneFrom size l n (r + 1)
-    unfolding noneFrom noneTwice hasFrom
-    none-pass u t = rw (e, rows-step size n r l h, ← at, u, t)
+    -- a used row, with what the search from the next row on says of its FID
+    module _ (u : isUsed row ≡ true) (g : Fid) (k : g ≡ selfFid row) where
+      pub none-pass : hasSelf g (rows size (n - (r + 1)) (drop (size * (r + 1)) l)) ≡ false → x ≡ noneFrom size l n (r + 1)
+      unfolding noneFrom noneTwice
+      none-pass t = rw (e, rows-step size n r l h, ← at, u, ← k, t)
 
-    pub none-fail : isUsed row ≡ true → hasFrom (selfFid row) size l n (r + 1) ≡ true → false ≡ x
-    unfolding noneFrom noneTwice hasFrom
-    none-fail u t = rw (e, rows-step size n r l h, ← at, u, t)
+      pub none-fail : hasSelf g (rows size (n - (r + 1)) (drop (size * (r + 1)) l)) ≡ true → false ≡ x
+      unfolding noneFrom noneTwice
+      none-fail t = rw (e, rows-step size n r l h, ← at, u, ← k, t)

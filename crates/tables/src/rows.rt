@@ -9,7 +9,7 @@ ghost use mathlib.Core.Path.{_≡_};
 ghost use Prim.Native.Nat.{_+_, _*_, _≤_};
 ghost use lib.ListN.{length, take, drop};
 ghost use Rattle.fid.specs.Fid.{zeroFid, sameFid};
-ghost use Rattle.tables.specs.Bytes.{objectSize, parentSize, isUsed, decodeOwner, claimFrom, decodeObject, decodeParent, layoutLength};
+ghost use Rattle.tables.specs.Bytes.{objectSize, parentSize, layoutRoom, layoutBytes, isUsed, decodeOwner, claimFrom, decodeObject, decodeParent, layoutLength};
 ghost use Rattle.tables.specs.Check.{selfFid};
 
 // The room for a layout, and where it starts: after mark, self FID, uid, gid and layout length.
@@ -126,4 +126,14 @@ pub fn layout_len(row: &[u8]) -> u16
     ensures { λ r. ⌜ r ≡ layoutLength (now (row .entry)) ⌝ }
 {
     wire::le16(row, 25)
+}
+
+// A parent row's layout.
+pub fn layout_of(row: &[u8]) -> &[u8]
+    requires { ⌜ (length (now row) ≡ parentSize) × (layoutLength (now row) ≤ layoutRoom) ⌝ }
+    ensures { λ l. ⌜ (now l ≡ layoutBytes (now (row .entry))) × (length (now l) ≡ layoutLength (now (row .entry))) ⌝ }
+{
+    let start = LAYOUT_START;
+    let end = start + layout_len(row) as usize;
+    &row[start..end]
 }

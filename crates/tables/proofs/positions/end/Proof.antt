@@ -1,0 +1,11 @@
+use Rattle.tables.proofs.positions.end.Statement.{statement}
+use Rattle.tables.proofs.positions.end.Tie as tie
+use Rattle.tables.proofs.positions.end.Reads as reads
+use Rattle.tables.proofs.positions.end.Lts as lts
+
+-- src/positions.rt:96:1
+returns : tie.Need-returns
+returns c = ?
+
+pub end-spec : {M : Type 1} → statement M
+end-spec = tie.close (tie.spec returns)

@@ -1,0 +1,27 @@
+use borrow.Author.Needs.{needs}
+use Rattle.tables.proofs.positions.from_parent.Statement.{statement}
+use Rattle.tables.proofs.positions.from_parent.Tie as tie
+use Rattle.tables.proofs.positions.from_parent.Reads as reads
+use Rattle.tables.proofs.positions.from_parent.Lts as lts
+use Rattle.tables.proofs.positions.from_object.Reads as from-object-reads
+use Rattle.tables.proofs.positions.parent_count.Reads as parent-count-reads
+
+-- src/positions.rt:124:8
+parent-count-requires : tie.Need-parent-count-requires
+parent-count-requires c κs = search needs
+
+-- src/positions.rt:125:9
+from-object-requires : tie.Need-from-object-requires
+from-object-requires c κs = search needs
+
+-- src/positions.rt:125:9
+returns : tie.Need-returns
+returns c = ?
+
+-- src/positions.rt:121:1
+returns-2 : tie.Need-returns-2
+returns-2 c = ?
+
+pub from-parent-spec : {M : Type 1} → statement M
+from-parent-spec =
+    tie.close (tie.spec parent-count-requires from-object-requires returns returns-2)

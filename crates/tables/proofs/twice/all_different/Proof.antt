@@ -1,0 +1,26 @@
+use borrow.Author.Needs.{needs}
+use Rattle.tables.proofs.twice.all_different.Statement.{statement}
+use Rattle.tables.proofs.twice.all_different.Tie as tie
+use Rattle.tables.proofs.twice.all_different.Reads as reads
+use Rattle.tables.proofs.twice.all_different.Lts as lts
+use Rattle.tables.proofs.twice.none_twice.Reads as none-twice-reads
+
+-- src/twice.rt:66:9
+none-twice-requires : tie.Need-none-twice-requires
+none-twice-requires c κs = search needs
+
+-- src/twice.rt:67:9
+returns : tie.Need-returns
+returns c = ?
+
+-- src/twice.rt:69:5
+none-twice-requires-2 : tie.Need-none-twice-requires-2
+none-twice-requires-2 c κs = search needs
+
+-- src/twice.rt:63:1
+returns-2 : tie.Need-returns-2
+returns-2 c = ?
+
+pub all-different-spec : {M : Type 1} → statement M
+all-different-spec =
+    tie.close (tie.spec none-twice-requires returns none-twice-requires-2 returns-2)
