@@ -2,13 +2,14 @@
 use mathlib.Core.Path.{_≡_, refl, sym, ap, _∙_}
 use mathlib.Core.List.{List, [], _∷_}
 use mathlib.Core.Bool.{Bool, true, false}
-use Prim.Native.Nat.{ℕ, suc, _+_, _-_, _*_, _/_, _≤_, _<_}
-use native.Mathlib.Nat.{mul-comm, mul-suc, le-div-iff-mul-le}
+use Prim.Native.Nat.{ℕ, zero, suc, _+_, _-_, _*_, _/_, _≤_, _<_}
+use native.Mathlib.Nat.{not-suc-le-zero, mul-comm, mul-suc, le-div-iff-mul-le}
 use native.Mathlib.Omega.{arith}
-use lib.ListN.{length, take, drop, length-drop}
+use lib.ListN.{length, getD, take, drop, length-drop}
 use lib.Seq.{length-take-le}
 use Rattle.wire.specs.Rows.{rows}
-use Rattle.wire.proofs.RowLaws.{rows-start, rows-step, rows-end}
+use Rattle.wire.proofs.RowLaws.{rows-length, rows-at, rows-start, rows-step, rows-end}
+use Rattle.wire.proofs.Both.{and-first, and-second}
 use Rattle.tables.specs.Check.{all}
 
 -- row r lies in the table
@@ -45,3 +46,15 @@ module _ (test : List ℕ → Bool) (size : ℕ) (l : List ℕ) (n : ℕ) where
     pub all-fail : test row ≡ false → false ≡ x
     unfolding allFrom all
     all-fail t = rw (e, rows-step size n r l h, ← at, t)
+
+-- a test of every row is a test of each
+all-each : (test : List ℕ → Bool) (ls : List (List ℕ)) (r : ℕ) → all test ls ≡ true → r < length ls → test (getD ls r []) ≡ true
+unfolding all
+all-each test [] r e h = absurd (not-suc-le-zero h)
+all-each test (row ∷ ls) zero e h = and-first (test row) (all test ls) e
+all-each test (row ∷ ls) (suc r) e h = all-each test ls r (and-second (test row) (all test ls) e) (omega arith)
+
+pub all-at : (test : List ℕ → Bool) (size n r : ℕ) (l : List ℕ) → all test (rows size n l) ≡ true → r < n →
+    test (take size (drop (size * r) l)) ≡ true
+all-at test size n r l e h =
+    ap test (sym (rows-at size n r l h)) ∙ all-each test (rows size n l) r e (rw rows-length h)

@@ -8,20 +8,20 @@ ghost use mathlib.Core.List.{[], map};
 ghost use mathlib.Core.Bool.{true};
 ghost use Prim.Native.Nat.{_+_, _/_, _≤_, _<_};
 ghost use lib.ListN.{length};
-ghost use Rattle.tables.specs.Bytes.{parentSize, parentRows, objectRows, parseParent, parse};
+ghost use Rattle.tables.specs.Bytes.{parentSize, objectSize, parentRows, parseParent, parse};
 ghost use Rattle.tables.specs.Positions.{slotsOf, width, inStageOne, inStageTwo, isEnd, isPosition, place, fromObject, fromParent, start, afterPart, next, rowSteps, countSteps};
 ghost use Rattle.tables.specs.Check.{whenUsed, maxParents, goodLayout, goodLayouts, Sound};
 
 // The number of parent rows.
 pub fn parent_count(parents: &[u8]) -> usize
-    ensures { λ n. ⌜ n ≡ length (parentRows (now (parents .entry))) ⌝ }
+    ensures { λ n. ⌜ n ≡ length (now (parents .entry)) / parentSize ⌝ }
 {
     parents.len() / PARENT_SIZE
 }
 
 // The number of object rows.
 pub fn object_count(objects: &[u8]) -> usize
-    ensures { λ n. ⌜ n ≡ length (objectRows (now (objects .entry))) ⌝ }
+    ensures { λ n. ⌜ n ≡ length (now (objects .entry)) / objectSize ⌝ }
 {
     objects.len() / OBJECT_SIZE
 }
@@ -39,7 +39,7 @@ pub fn row_width(row: &[u8]) -> u16
 
 // The number of slots of parent row r.
 pub fn width(parents: &[u8], r: usize) -> u16
-    requires { ⌜ (goodLayouts (now parents) ≡ true) × (r < length (parentRows (now parents))) ⌝ }
+    requires { ⌜ (goodLayouts (now parents) ≡ true) × (r < length (now parents) / parentSize) ⌝ }
     ensures { λ n. ⌜ n ≡ width (parse (now (parents .entry)) []) r ⌝ }
 {
     row_width(rows::row_at(parents, PARENT_SIZE, r))
@@ -140,7 +140,7 @@ pub fn first(parents: &[u8], objects: &[u8]) -> Position
 
 // The part after this one in the row if there is one, else the next row.
 pub fn after_part(parents: &[u8], objects: &[u8], row: u64, part: u64) -> Position
-    requires { ⌜ (goodLayouts (now parents) ≡ true) × (row < length (parentRows (now parents))) ⌝ }
+    requires { ⌜ (goodLayouts (now parents) ≡ true) × (row < length (now parents) / parentSize) ⌝ }
     ensures { λ p. ⌜ p ≡ afterPart (parse (now (parents .entry)) (now (objects .entry))) row part ⌝ }
 {
     let r = row as usize;
@@ -171,7 +171,7 @@ pub fn next_position(parents: &[u8], objects: &[u8], at: Position) -> Position
 
 // The steps of stage one: one for each row and one for each slot.
 pub fn row_steps(parents: &[u8]) -> u64
-    requires { ⌜ (goodLayouts (now parents) ≡ true) × (length (parentRows (now parents)) ≤ maxParents) ⌝ }
+    requires { ⌜ (goodLayouts (now parents) ≡ true) × (length (now parents) / parentSize ≤ maxParents) ⌝ }
     ensures { λ n. ⌜ n ≡ rowSteps (map parseParent (parentRows (now (parents .entry)))) ⌝ }
 {
     let n = parents.len() / PARENT_SIZE;

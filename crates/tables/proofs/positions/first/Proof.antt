@@ -1,3 +1,4 @@
+use Rattle.tables.specs.Positions.{start}
 use borrow.Author.Needs.{needs}
 use Rattle.tables.proofs.positions.first.Statement.{statement}
 use Rattle.tables.proofs.positions.first.Tie as tie
@@ -11,7 +12,8 @@ from-parent-requires c κs = search needs
 
 -- src/positions.rt:135:1
 returns : tie.Need-returns
-returns c = ?
+unfolding start
+returns c = c .from-parent .ensures
 
 pub first-spec : {M : Type 1} → statement M
 first-spec = tie.close (tie.spec from-parent-requires returns)

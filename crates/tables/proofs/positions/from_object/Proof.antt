@@ -1,3 +1,9 @@
+use mathlib.Core.Path.{_≡_, refl, sym, ap, _∙_}
+use native.Mathlib.Omega.{arith}
+use denote.Ref.{now}
+use mathlib.Core.List.{List, []}
+use Rattle.tables.specs.Positions.{place}
+use Rattle.tables.proofs.PositionLaws.{object-past, object-is}
 use borrow.Author.Needs.{needs}
 use Rattle.tables.proofs.positions.from_object.Statement.{statement}
 use Rattle.tables.proofs.positions.from_object.Tie as tie
@@ -16,11 +22,12 @@ end-requires c κs = search needs
 
 -- src/positions.rt:111:9
 returns : tie.Need-returns
-returns c = ?
+returns c = let a = c .before .before .before .before .args in c .end .ensures ∙ object-past [] (now (a .objects)) (a .o) (omega arith)
 
 -- src/positions.rt:107:1
 returns-2 : tie.Need-returns-2
-returns-2 c = ?
+unfolding place
+returns-2 c = let a = c .before .before .before .args in object-is [] (now (a .objects)) (a .o) (omega arith)
 
 pub from-object-spec : {M : Type 1} → statement M
 from-object-spec = tie.close (tie.spec object-count-requires end-requires returns returns-2)

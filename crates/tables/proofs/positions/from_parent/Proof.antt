@@ -1,3 +1,8 @@
+use mathlib.Core.Path.{_≡_, refl, sym, ap, _∙_}
+use native.Mathlib.Omega.{arith}
+use denote.Ref.{now}
+use Rattle.tables.specs.Positions.{place}
+use Rattle.tables.proofs.PositionLaws.{object-alone, parent-past, parent-is}
 use borrow.Author.Needs.{needs}
 use Rattle.tables.proofs.positions.from_parent.Statement.{statement}
 use Rattle.tables.proofs.positions.from_parent.Tie as tie
@@ -16,11 +21,12 @@ from-object-requires c κs = search needs
 
 -- src/positions.rt:125:9
 returns : tie.Need-returns
-returns c = ?
+returns c = let a = c .before .before .before .before .before .args in c .from-object .ensures ∙ object-alone (now (a .parents)) (now (a .objects)) 0 ∙ parent-past (now (a .parents)) (now (a .objects)) (a .r) (omega arith)
 
 -- src/positions.rt:121:1
 returns-2 : tie.Need-returns-2
-returns-2 c = ?
+unfolding place
+returns-2 c = let a = c .before .before .before .before .args in parent-is (now (a .parents)) (now (a .objects)) (a .r) (omega arith)
 
 pub from-parent-spec : {M : Type 1} → statement M
 from-parent-spec =

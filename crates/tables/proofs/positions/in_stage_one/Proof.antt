@@ -1,3 +1,8 @@
+use mathlib.Core.Path.{_≡_, refl, sym, ap, _∙_}
+use native.Mathlib.Omega.{arith}
+use denote.Ref.{now}
+use mathlib.Core.List.{List, [], map}
+use Rattle.tables.proofs.PositionLaws.{one-past, one-part}
 use borrow.Author.Needs.{needs}
 use Rattle.tables.proofs.positions.in_stage_one.Statement.{statement}
 use Rattle.tables.proofs.positions.in_stage_one.Tie as tie

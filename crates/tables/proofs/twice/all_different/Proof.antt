@@ -1,3 +1,7 @@
+use mathlib.Core.Path.{_≡_, refl, sym, ap, _∙_}
+use borrow.Author.Tests.{not-true, not-false}
+use Rattle.tables.specs.Bytes.{parentRows, objectRows}
+use Rattle.tables.proofs.TestLaws.{parents-twice, objects-twice}
 use borrow.Author.Needs.{needs}
 use Rattle.tables.proofs.twice.all_different.Statement.{statement}
 use Rattle.tables.proofs.twice.all_different.Tie as tie
@@ -11,7 +15,8 @@ none-twice-requires c κs = search needs
 
 -- src/twice.rt:67:9
 returns : tie.Need-returns
-returns c = ?
+unfolding parentRows
+returns c = parents-twice _ _ (sym (c .before .none-twice .ensures) ∙ not-true _ (c .if1 .taken))
 
 -- src/twice.rt:69:5
 none-twice-requires-2 : tie.Need-none-twice-requires-2
@@ -19,7 +24,8 @@ none-twice-requires-2 c κs = search needs
 
 -- src/twice.rt:63:1
 returns-2 : tie.Need-returns-2
-returns-2 c = ?
+unfolding parentRows objectRows
+returns-2 c = c .none-twice2 .ensures ∙ objects-twice _ _ (sym (c .before .before .none-twice .ensures) ∙ not-false _ (c .before .if1 .left))
 
 pub all-different-spec : {M : Type 1} → statement M
 all-different-spec =
