@@ -75,6 +75,14 @@ pub given-test : (holes : Bool) (g : Given) (s : Slot) (b : Bool) → g ≡ Give
 unfolding isSlot slotGiven
 given-test holes g s b e t = rw (e, t)
 
+pub given-put-none : (l : List ℕ) (j : ℕ) (y : List ℕ) → y ≡ encodeSlot Hole → givenAt l j ≡ NotSlot → y ≡ encodeSlot (slotGiven (givenAt l j))
+unfolding slotGiven
+given-put-none l j y p e = rw (e, p)
+
+pub given-put : (l : List ℕ) (j : ℕ) (y : List ℕ) (s : Slot) → y ≡ encodeSlot s → givenAt l j ≡ GivenSlot s → y ≡ encodeSlot (slotGiven (givenAt l j))
+unfolding slotGiven
+given-put l j y s p e = rw (e, p)
+
 -- ## All of them, from the j-th on
 
 pub givenFromOn : Bool → List ℕ → ℕ → ℕ → Bool

@@ -39,6 +39,15 @@ size-most m = go (eqb m magicThree)
     go true = omega arith
     go false = omega arith
 
+-- a header's size that was computed lies between 32 and 48
+pub record SizeFacts (m b : ℕ) : Type 0 where
+  pub least : 32 ≤ b
+  pub most : b ≤ 48
+  pub is : b ≡ headerSize m
+
+pub size-known : (m b : ℕ) → b ≡ headerSize m → SizeFacts m b
+size-known m b e = record { least = rw e (size-least m); most = rw e (size-most m); is = e }
+
 module _ (h : Header) where
   pub version-one : h .magic ≡ magicOne → true ≡ knownVersion h
   unfolding knownVersion
@@ -111,16 +120,22 @@ field n v k before after l e h f = rw (e, drop-at before (bytes n v ++ after) k 
 module _ (h : Header) (n : ℕ) (r : List ℕ) where
   m : List ℕ
   m = bytes 4 (h .magic)
+
   p : List ℕ
   p = bytes 4 (h .pattern)
+
   o : List ℕ
   o = bytes 8 (h .oid)
+
   s : List ℕ
   s = bytes 8 (h .seq)
+
   t : List ℕ
   t = bytes 4 (h .stripe)
+
   c : List ℕ
   c = bytes 2 n
+
   g : List ℕ
   g = bytes 2 (h .generation)
 

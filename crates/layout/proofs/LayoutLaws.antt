@@ -198,9 +198,15 @@ written-back l b a =
     let h : ℕ = slotStart l in
     let n : ℕ = stripeCount l in
     let e : 32 + (h - 32) ≡ h = omega arith in
-    rw (length-slots n (drop h l), header-written-back l b (omega arith), ← take-add 32 (h - 32) l, e,
+    rw (
+      length-slots n (drop h l),
+      header-written-back l b (omega arith),
+      ← take-add 32 (h - 32) l,
+      e,
       slots-written-back n (drop h l) (bytes-drop h l b) (rw length-drop (omega arith)),
-      take-all (24 * n) (drop h l) (rw length-drop (omega arith)), take-append-drop h l)
+      take-all (24 * n) (drop h l) (rw length-drop (omega arith)),
+      take-append-drop h l,
+    )
 
 -- a layout that can be written: its numbers fit, its pool name is as long as the version says, and the rules hold
 pub record Writable (L : Layout) : Type 0 where

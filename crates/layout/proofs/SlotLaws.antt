@@ -148,10 +148,13 @@ slot-written-back l h k = go (zeroSlot (decodeFid l) (le 4 (drop 16 l)) (le 4 (d
   where
     f : Fid
     f = decodeFid l
+
     g : ℕ
     g = le 4 (drop 16 l)
+
     i : ℕ
     i = le 4 (drop 20 l)
+
     go : (b : Bool) → zeroSlot f g i ≡ b → encodeSlot (cond b Hole (Names (record { 0 = f }) g i)) ≡ take 24 l
     go true e = zero-bytes f g i e ∙ names-written l h k
     go false e = names-written l h k
@@ -214,8 +217,12 @@ unfolding decodeSlots encodeSlots
 slots-written-back zero l h k = refl
 slots-written-back (suc n) l h k =
     let m : 24 * suc n ≡ 24 + 24 * n = omega arith in
-    rw (m, take-add 24 (24 * n) l, slot-written-back l h (omega arith),
-      slots-written-back n (drop 24 l) (bytes-drop 24 l h) (rw length-drop (omega arith)))
+    rw (
+      m,
+      take-add 24 (24 * n) l,
+      slot-written-back l h (omega arith),
+      slots-written-back n (drop 24 l) (bytes-drop 24 l h) (rw length-drop (omega arith)),
+    )
 
 -- every slot of a list fits its fields
 unfoldable pub FitSlots : List Slot → Type 0
@@ -228,9 +235,11 @@ pub slots-read-back : (holes : Bool) (ss : List Slot) (r : List ℕ) → FitSlot
 unfolding decodeSlots encodeSlots FitSlots allowedSlots
 slots-read-back holes [] r h t = refl
 slots-read-back holes (s ∷ ss) r h t =
-    rw (append-assoc (encodeSlot s) (encodeSlots ss) r,
+    rw (
+      append-assoc (encodeSlot s) (encodeSlots ss) r,
       slot-read-back holes s (encodeSlots ss ++ r) (h .0) (and-first (allowedSlot holes s) (allowedSlots holes ss) t),
-      drop-at (encodeSlot s) (encodeSlots ss ++ r) 24 (length-slot s))
+      drop-at (encodeSlot s) (encodeSlots ss ++ r) 24 (length-slot s),
+    )
     (ap (λ (l : List Slot). s ∷ l) (slots-read-back holes ss r (h .1) (rw (and-first (allowedSlot holes s) (allowedSlots holes ss) t) at t)))
 
 -- ## The test of all slots, from slot j on

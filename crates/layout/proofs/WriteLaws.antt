@@ -8,7 +8,7 @@ use native.Mathlib.Omega.{arith}
 use native.Mathlib.Numerals.{add-one}
 use lib.Dec.{eqb, leb}
 use lib.ListN.{length, take, drop, set, getD, length-append}
-use lib.Seq.{sets, take-suc, take-all, length-take-le}
+use lib.Seq.{sets, length-sets, take-suc, take-all, length-take-le}
 use Rattle.wire.proofs.Both.{and-first, and-second}
 use Rattle.wire.proofs.Splice.{sets-at, put-sets}
 use borrow.Rule.Slice.PartMut.{putMid}
@@ -45,31 +45,32 @@ module _ (h : Header) (n : ℕ) (pool numbers : List ℕ) where
   third-false true x = refl
   third-false false x = refl
 
-  pub write-pool : length numbers ≡ 5 * n → (length pool ≡ headerSize (h .magic) - 32 → ⊥) → false ≡ writable h n pool numbers
+  pub write-pool : (b : ℕ) → b ≡ headerSize (h .magic) → length numbers ≡ 5 * n → (length pool ≡ b - 32 → ⊥) → false ≡ writable h n pool numbers
   unfolding writable
-  write-pool e k = rw (eq-eqb (length numbers) (5 * n) e, ne-eqb (length pool) (headerSize (h .magic) - 32) k) (sym (third-false (allGiven numbers n 0) (layoutRules h (givenSlots numbers n 0))))
+  write-pool b q e k = rw (← q, eq-eqb (length numbers) (5 * n) e, ne-eqb (length pool) (b - 32) k) (sym (third-false (allGiven numbers n 0) (layoutRules h (givenSlots numbers n 0))))
 
   last-false : (a b x y : Bool) → ((a && b) && (false && x && y)) ≡ false
   last-false true true x y = refl
   last-false true false x y = refl
   last-false false b x y = refl
 
-  pub write-unknown : length numbers ≡ 5 * n → length pool ≡ headerSize (h .magic) - 32 → (knownVersion h && knownPattern h) ≡ false →
+  pub write-unknown : (b : ℕ) → b ≡ headerSize (h .magic) → length numbers ≡ 5 * n → length pool ≡ b - 32 → (knownVersion h && knownPattern h) ≡ false →
       false ≡ writable h n pool numbers
   unfolding writable layoutRules
-  write-unknown e p k =
-      rw (eq-eqb (length numbers) (5 * n) e, eq-eqb (length pool) (headerSize (h .magic) - 32) p, k)
+  write-unknown b q e p k =
+      rw (← q, eq-eqb (length numbers) (5 * n) e, eq-eqb (length pool) (b - 32) p, k)
       (sym (last-false (allGiven numbers n 0) true (fewSlots (length (givenSlots numbers n 0))) (allowedSlots (withHoles h) (givenSlots numbers n 0))))
 
   and-true-in : (a x : Bool) → (a && x) ≡ ((a && true) && x)
   and-true-in true x = refl
   and-true-in false x = refl
 
-  pub write-slots : length numbers ≡ 5 * n → length pool ≡ headerSize (h .magic) - 32 → (knownVersion h && knownPattern h) ≡ true → n ≤ maxSlots →
-      (allGiven numbers n 0 && allowedSlots (withHoles h) (givenSlots numbers n 0)) ≡ writable h n pool numbers
+  pub write-slots : (b : ℕ) (holes r : Bool) → b ≡ headerSize (h .magic) → holes ≡ withHoles h →
+      r ≡ (allGiven numbers n 0 && allowedSlots holes (givenSlots numbers n 0)) → length numbers ≡ 5 * n → length pool ≡ b - 32 →
+      (knownVersion h && knownPattern h) ≡ true → n ≤ maxSlots → r ≡ writable h n pool numbers
   unfolding writable layoutRules fewSlots
-  write-slots e p k m =
-      rw (eq-eqb (length numbers) (5 * n) e, eq-eqb (length pool) (headerSize (h .magic) - 32) p, k, length-given numbers n 0, le-leb n maxSlots m)
+  write-slots b holes r q w t e p k m =
+      rw (← q, eq-eqb (length numbers) (5 * n) e, eq-eqb (length pool) (b - 32) p, k, length-given numbers n 0, le-leb n maxSlots m, t, w)
       (and-true-in (allGiven numbers n 0) (allowedSlots (withHoles h) (givenSlots numbers n 0)))
 
 -- what the writer takes, as facts
@@ -103,40 +104,65 @@ write-facts h n pool numbers w =
 
 -- ## The stores
 
--- the pool name, byte by byte
+-- the destination with the first i bytes of the pool name
+pub poolDone : List ℕ → List ℕ → ℕ → List ℕ
+poolDone d pool i = sets d 32 (take i pool)
+
 module _ (d pool : List ℕ) where
-  pub pool-start : d ≡ sets d 32 (take 0 pool)
+  pub pool-start : d ≡ poolDone d pool 0
+  unfolding poolDone
   pool-start = refl
 
-  pub pool-step : (i b : ℕ) → i < length pool → b ≡ getD pool i 0 → set (sets d 32 (take i pool)) (32 + i) b ≡ sets d 32 (take (i + 1) pool)
-  pool-step i b h e =
-      rw (add-one i, take-suc pool i 0 h, ← e) (sets-at (take i pool) (b ∷ []) d 32 i (length-take-le i pool (omega arith)))
+  pub pool-step : (i b : ℕ) (x : List ℕ) → x ≡ poolDone d pool i → i < length pool → b ≡ getD pool i 0 →
+      set x (32 + i) b ≡ poolDone d pool (i + 1)
+  unfolding poolDone
+  pool-step i b x q h e =
+      rw (q, add-one i, take-suc pool i 0 h, ← e) (sets-at (take i pool) (b ∷ []) d 32 i (length-take-le i pool (omega arith)))
 
-  pub pool-end : (i : ℕ) → length pool ≤ i → sets d 32 (take i pool) ≡ sets d 32 pool
-  pool-end i h = rw (take-all i pool h)
+  pub pool-end : (i : ℕ) (x : List ℕ) → x ≡ poolDone d pool i → length pool ≤ i → x ≡ sets d 32 pool
+  unfolding poolDone
+  pool-end i x q h = rw (q, take-all i pool h)
 
 encode-append : (ss ts : List Slot) → encodeSlots (ss ++ ts) ≡ encodeSlots ss ++ encodeSlots ts
 unfolding encodeSlots
 encode-append [] ts = refl
 encode-append (s ∷ ss) ts = rw (encode-append ss ts) (sym (append-assoc (encodeSlot s) (encodeSlots ss) (encodeSlots ts)))
 
--- the slots, one by one
+-- the destination with the first j slots from a place on
+pub slotsDone : List ℕ → List ℕ → ℕ → ℕ → List ℕ
+slotsDone d numbers start j = sets d start (encodeSlots (givenSlots numbers j 0))
+
 module _ (d numbers : List ℕ) (start : ℕ) where
-  pub slots-start : d ≡ sets d start (encodeSlots (givenSlots numbers 0 0))
-  unfolding givenSlots encodeSlots
+  pub slots-start : d ≡ slotsDone d numbers start 0
+  unfolding slotsDone givenSlots encodeSlots
   slots-start = refl
 
-  pub slots-step : (j : ℕ) (x y : List ℕ) → start + 24 * j + 24 ≤ length x → x ≡ sets d start (encodeSlots (givenSlots numbers j 0)) →
+  pub slots-step : (j : ℕ) (x y : List ℕ) → start + 24 * j + 24 ≤ length x → x ≡ slotsDone d numbers start j →
       y ≡ encodeSlot (slotGiven (givenAt numbers j)) →
-      putMid (start + 24 * j) (start + 24 * j + 24 - (start + 24 * j)) x y ≡ sets d start (encodeSlots (givenSlots numbers (j + 1) 0))
-  unfolding encodeSlots
+      putMid (start + 24 * j) (start + 24 * j + 24 - (start + 24 * j)) x y ≡ slotsDone d numbers start (j + 1)
+  unfolding slotsDone encodeSlots
   slots-step j x y h e f =
       let s : List ℕ = encodeSlot (slotGiven (givenAt numbers j)) in
       let z : 0 + j ≡ j = omega arith in
       let k : length (encodeSlots (givenSlots numbers j 0)) ≡ 24 * j = rw (length-encode-slots (givenSlots numbers j 0), length-given numbers j 0) in
       let m : givenSlots numbers (j + 1) 0 ≡ givenSlots numbers j 0 ++ (slotGiven (givenAt numbers j) ∷ []) = rw (add-one j, given-more numbers j 0, z) in
-      rw (f, put-sets (start + 24 * j) (start + 24 * j + 24) x s (omega (arith, length-slot (slotGiven (givenAt numbers j)))) h, e,
-        sets-at (encodeSlots (givenSlots numbers j 0)) s d start (24 * j) k, m, encode-append (givenSlots numbers j 0) (slotGiven (givenAt numbers j) ∷ []), append-nil s)
+      rw (
+        f,
+        put-sets (start + 24 * j) (start + 24 * j + 24) x s (omega (arith, length-slot (slotGiven (givenAt numbers j)))) h,
+        e,
+        sets-at (encodeSlots (givenSlots numbers j 0)) s d start (24 * j) k,
+        m,
+        encode-append (givenSlots numbers j 0) (slotGiven (givenAt numbers j) ∷ []),
+        append-nil s,
+      )
+
+  pub slots-length : (j : ℕ) (x : List ℕ) → x ≡ slotsDone d numbers start j → length x ≡ length d
+  unfolding slotsDone
+  slots-length j x e = ap length e ∙ length-sets d start (encodeSlots (givenSlots numbers j 0))
+
+  pub slots-end : (j n : ℕ) (x : List ℕ) → x ≡ slotsDone d numbers start j → j ≤ n → n ≤ j → x ≡ sets d start (encodeSlots (givenSlots numbers n 0))
+  unfolding slotsDone
+  slots-end j n x e h k = let q : n ≡ j = omega arith in rw q e
 
 -- ## The writer's answers
 

@@ -17,8 +17,11 @@ pub const MAX_SLOTS: usize = 160;
 pub const MAX_INDEX: u32 = 65535;
 
 const MAGIC_ONE: u32 = 0x0bd1_0bd0;
+
 const MAGIC_THREE: u32 = 0x0bd3_0bd0;
+
 const PLAIN_PATTERN: u32 = 1;
+
 const HOLE_PATTERN: u32 = 0x4000_0001;
 
 // One stripe: a hole, or an object's FID, the generation and the OST index.
@@ -172,11 +175,7 @@ pub fn set_slot(layout: &mut [u8], h: usize, j: usize, s: Slot)
 pub fn header_size(magic: u32) -> usize
     ensures { λ r. ⌜ r ≡ headerSize magic ⌝ }
 {
-    if magic == MAGIC_THREE {
-        48
-    } else {
-        32
-    }
+    if magic == MAGIC_THREE { 48 } else { 32 }
 }
 
 // Where the slots start.
@@ -368,7 +367,11 @@ pub fn given_from(k: u64, s: u64, o: u64, g: u64, i: u64) -> Given
     if 0xffff_ffff < i {
         return Given::NotSlot;
     }
-    let f = Fid { seq: s, oid: o as u32, ver: 0 };
+    let f = Fid {
+        seq: s,
+        oid: o as u32,
+        ver: 0,
+    };
     Given::GivenSlot(Slot::Names(OstFid(f), g as u32, i as u32))
 }
 
@@ -378,7 +381,13 @@ fn given_at(numbers: &[u64], j: usize) -> Given
     ensures { λ r. ⌜ r ≡ givenAt (now (numbers .entry)) j ⌝ }
 {
     let a = 5 * j;
-    given_from(numbers[a], numbers[a + 1], numbers[a + 2], numbers[a + 3], numbers[a + 4])
+    given_from(
+        numbers[a],
+        numbers[a + 1],
+        numbers[a + 2],
+        numbers[a + 3],
+        numbers[a + 4],
+    )
 }
 
 // Whether a slot is given, and allowed.

@@ -44,12 +44,12 @@ slot-start-requires : tie.Need-slot-start-requires
 slot-start-requires c κs = omega (arith, exact-long _ (sym (c .before .before .before .before .before .before .exact-length .ensures) ∙ not-false _ (c .before .before .before .before .before .if1 .left)))
 
 sub-allowed-slots : tie.Need-sub-allowed-slots
-sub-allowed-slots c = 
+sub-allowed-slots c =
     let x = (sym (c .before .before .before .before .before .before .before .exact-length .ensures) ∙ not-false _ (c .before .before .before .before .before .before .if1 .left)) in
     omega (arith, exact-size _ x, c .slot-start .ensures)
 
 part-allowed-slots-start : tie.Need-part-allowed-slots-start
-part-allowed-slots-start c = 
+part-allowed-slots-start c =
     let x = (sym (c .before .before .before .before .before .before .before .exact-length .ensures) ∙ not-false _ (c .before .before .before .before .before .before .if1 .left)) in
     omega (arith, exact-size _ x, c .slot-start .ensures)
 
@@ -63,7 +63,7 @@ allowed-slots-requires : tie.Need-allowed-slots-requires
 allowed-slots-requires c κs = area-long _ _ _ (sym (c .before .before .before .before .before .before .before .before .before .exact-length .ensures) ∙ not-false _ (c .before .before .before .before .before .before .before .before .if1 .left)) (c .before .before .slot-start .ensures) (c .before .before .before .before .stripe-count .ensures)
 
 returns-4 : tie.Need-returns-4
-returns-4 c = 
+returns-4 c =
     c .allowed-slots .ensures
     ∙ accepted-slots _ _ _ _ _ (c .before .before .before .before .before .before .before .before .read-header .ensures) (c .before .before .before .before .before .stripe-count .ensures) (c .before .before .before .slot-start .ensures) (c .before .with-holes .ensures)
     (sym (c .before .before .before .before .before .before .before .before .before .before .exact-length .ensures) ∙ not-false _ (c .before .before .before .before .before .before .before .before .before .if1 .left)) (sym (c .before .before .before .before .before .before .before .known-header .ensures) ∙ not-false _ (c .before .before .before .before .before .before .if2 .left)) (omega arith)

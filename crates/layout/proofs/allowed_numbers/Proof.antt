@@ -30,7 +30,7 @@ allowed-given-requires : tie.Need-allowed-given-requires Inv-loop μ-loop
 allowed-given-requires c κs = search needs
 
 returns : tie.Need-returns Inv-loop μ-loop
-returns c = 
+returns c =
     let i = c .before .before .before .before .loop .inv in
     given-stop _ _ _ _ _ _ (i .1) (omega arith) (c .before .before .given-at .ensures) (c .before .allowed-given .ensures) (not-true _ (c .if1 .taken))
 
@@ -41,7 +41,7 @@ loop-less : tie.Need-loop-less Inv-loop μ-loop
 loop-less c = omega arith
 
 loop-again : tie.Need-loop-again Inv-loop μ-loop
-loop-again c = 
+loop-again c =
     let i = c .before .before .before .before .loop .inv in
     (omega arith, given-next _ _ _ _ _ _ (i .1) (omega arith) (c .before .before .given-at .ensures) (c .before .allowed-given .ensures) (not-false _ (c .if1 .left)))
 

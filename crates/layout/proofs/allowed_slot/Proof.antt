@@ -19,7 +19,7 @@ is-good-requires : tie.Need-is-good-requires
 is-good-requires c κs = search needs
 
 returns : tie.Need-returns
-returns c = 
+returns c =
     let v = c .before .before .before .before .s .given .0 in
     cc (allowed-bad (c .before .before .before .before .before .before .args .holes) (v .0) (v .1 .0) (v .1 .1 .0) (sym (c .before .is-good .ensures) ∙ not-true _ (c .if1 .taken)))
 
@@ -28,7 +28,7 @@ unfolding allowedSlot
 returns-2 c = cc
 
 returns-3 : tie.Need-returns-3
-returns-3 c = 
+returns-3 c =
     let v = c .before .before .before .before .s .given .0 in
     cc (allowed-index (c .before .before .before .before .before .before .args .holes) (v .0) (v .1 .0) (v .1 .1 .0) (sym (c .before .is-good .ensures) ∙ not-false _ (c .if1 .left)))
 

@@ -28,7 +28,7 @@ allowed-slot-requires : tie.Need-allowed-slot-requires Inv-loop μ-loop
 allowed-slot-requires c κs = search needs
 
 returns : tie.Need-returns Inv-loop μ-loop
-returns c = 
+returns c =
     let i = c .before .before .before .before .loop .inv in
     allowed-stop _ _ _ _ _ _ (i .1) (omega arith) (c .before .before .slot-at .ensures) (c .before .allowed-slot .ensures) (not-true _ (c .if1 .taken))
 
@@ -39,7 +39,7 @@ loop-less : tie.Need-loop-less Inv-loop μ-loop
 loop-less c = omega arith
 
 loop-again : tie.Need-loop-again Inv-loop μ-loop
-loop-again c = 
+loop-again c =
     let i = c .before .before .before .before .loop .inv in
     (omega arith, allowed-next _ _ _ _ _ _ (i .1) (omega arith) (c .before .before .slot-at .ensures) (c .before .allowed-slot .ensures) (not-false _ (c .if1 .left)))
 

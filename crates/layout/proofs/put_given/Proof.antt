@@ -1,3 +1,4 @@
+use Rattle.layout.proofs.GivenLaws.{given-put-none, given-put}
 use borrow.Author.Needs.{needs}
 use Rattle.layout.proofs.put_given.Statement.{statement}
 use Rattle.layout.proofs.put_given.Tie as tie
@@ -6,41 +7,32 @@ use Rattle.layout.proofs.put_given.Lts as lts
 use Rattle.layout.proofs.given_at.Reads as given-at-reads
 use Rattle.layout.proofs.put_slot.Reads as put-slot-reads
 
--- src/lib.rt:414:9
 given-at-requires : tie.Need-given-at-requires
 given-at-requires c κs = search needs
 
--- src/lib.rt:416:36
 enum-told : tie.Need-enum-told
 enum-told c = search needs
 
--- src/lib.rt:416:27
 put-slot-requires : tie.Need-put-slot-requires
 put-slot-requires c κs = search needs
 
--- src/lib.rt:417:26
 enum-known-g : tie.Need-enum-known-g
 enum-known-g c = search needs
 
--- src/lib.rt:417:32
 put-slot-requires-2 : tie.Need-put-slot-requires-2
 put-slot-requires-2 c κs = search needs
 
--- src/lib.rt:410:1
 same-length : tie.Need-same-length
 same-length c = search needs
 
--- src/lib.rt:410:1
 returns : tie.Need-returns
-returns c = ?
+returns c = given-put-none _ _ _ (c .before .before .put-slot .ensures) (cc)
 
--- src/lib.rt:410:1
 same-length-2 : tie.Need-same-length-2
 same-length-2 c = search needs
 
--- src/lib.rt:410:1
 returns-2 : tie.Need-returns-2
-returns-2 c = ?
+returns-2 c = given-put _ _ _ _ (c .before .before .put-slot2 .ensures) (cc)
 
 pub put-given-spec : {M : Type 1} → statement M
 put-given-spec =

@@ -39,7 +39,7 @@ same-length : tie.Need-same-length
 same-length c = search needs
 
 returns : tie.Need-returns
-returns c = 
+returns c =
     let a = c .before .before .before .before .before .args in
     let b : ℕ = a .h + 24 * a .j in
     ap (λ (l : List ℕ). putMid b (b + 24 - b) (now (a .layout)) l) (c .before .before .put-slot .ensures)

@@ -32,13 +32,13 @@ is-zero-slot-requires : tie.Need-is-zero-slot-requires
 is-zero-slot-requires c κs = search needs
 
 returns : tie.Need-returns
-returns c = 
+returns c =
     let a = c .before .before .before .before .before .before .args in
     slot-hole _ _ _ (now (a .area)) (a .j) (c .before .before .before .before .read-fid .ensures) (c .before .before .before .le32 .ensures)
     (c .before .before .le322 .ensures) (sym (c .before .is-zero-slot .ensures) ∙ c .if1 .taken)
 
 returns-2 : tie.Need-returns-2
-returns-2 c = 
+returns-2 c =
     let a = c .before .before .before .before .before .before .args in
     slot-names _ _ _ (now (a .area)) (a .j) (c .before .before .before .before .read-fid .ensures) (c .before .before .before .le32 .ensures)
     (c .before .before .le322 .ensures) (sym (c .before .is-zero-slot .ensures) ∙ c .if1 .left)
