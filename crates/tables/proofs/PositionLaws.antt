@@ -13,7 +13,7 @@ use Rattle.wire.specs.Rows.{rows}
 use Rattle.wire.proofs.RowLaws.{rows-length, rows-at, rows-start, rows-step, rows-end}
 use Rattle.wire.proofs.Both.{and-first}
 use Rattle.layout.specs.Layout.{decodeLayout, stripeCount, slotStart}
-use Rattle.tables.proofs.Awaited.{length-slots}
+use Rattle.layout.proofs.SlotLaws.{length-slots}
 use Rattle.tables.specs.Records.{ParentRow, noParent, parent, ObjectRow, Tables}
 use Rattle.tables.specs.Bytes.{parentSize, objectSize, isUsed, layoutBytes, decodeParent, parseParent, parseObject, parentRows, objectRows, parse}
 use Rattle.tables.specs.Positions.{slotsOf, rowAt, width, inStageOne, inStageTwo, isEnd, isPosition, place, fromObject, fromParent, start, afterPart, next, rowSteps, countSteps}
