@@ -5,4 +5,6 @@ pub mod TwiceLaws
 pub mod PositionLaws
 pub mod CheckLaws
 pub mod SoundLaws
+pub mod SameLaws
 pub mod ApartLaws
+pub mod RenderLaws
