@@ -8,3 +8,5 @@ pub mod SoundLaws
 pub mod SameLaws
 pub mod ApartLaws
 pub mod RenderLaws
+pub mod FitLaws
+pub mod ParseLaws

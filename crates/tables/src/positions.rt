@@ -1,8 +1,8 @@
 // Positions: which exist, the first and the next, and the count of steps.
+use super::Position;
 use super::rows;
 use super::rows::OBJECT_SIZE;
 use super::rows::PARENT_SIZE;
-use super::Position;
 ghost use mathlib.Core.Path.{_≡_};
 ghost use mathlib.Core.List.{[], map};
 ghost use mathlib.Core.Bool.{true};

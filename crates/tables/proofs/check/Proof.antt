@@ -22,7 +22,7 @@ both-whole-requires c κs = search needs
 
 -- src/lib.rt:82:9
 returns : tie.Need-returns
-returns c = 
+returns c =
     let a = c .before .before .before .before .before .args in
     check-11 (now (a .parents)) (now (a .objects)) (now (a .reserve)) (a .policy) (a .at)
     (sym (c .before .both-whole .ensures) ∙ not-true _ (c .if1 .taken))
@@ -33,7 +33,7 @@ reserve-whole-requires c κs = search needs
 
 -- src/lib.rt:85:9
 returns-2 : tie.Need-returns-2
-returns-2 c = 
+returns-2 c =
     let a = c .before .before .before .before .before .before .before .args in
     check-11-reserve (now (a .parents)) (now (a .objects)) (now (a .reserve)) (a .policy) (a .at)
     (sym (c .before .before .before .both-whole .ensures) ∙ not-false _ (c .before .before .if1 .left))
@@ -41,7 +41,7 @@ returns-2 c =
 
 -- src/lib.rt:88:9
 returns-3 : tie.Need-returns-3
-returns-3 c = 
+returns-3 c =
     let a = c .before .before .before .before .before .before .before .before .args in
     check-12 (now (a .parents)) (now (a .objects)) (now (a .reserve)) (a .policy) (a .at)
     (sym (c .before .before .before .before .both-whole .ensures) ∙ not-false _ (c .before .before .before .if1 .left))
@@ -54,7 +54,7 @@ good-layouts-requires c κs = search needs
 
 -- src/lib.rt:91:9
 returns-4 : tie.Need-returns-4
-returns-4 c = 
+returns-4 c =
     let a = c .before .before .before .before .before .before .before .before .before .before .args in
     check-13 (now (a .parents)) (now (a .objects)) (now (a .reserve)) (a .policy) (a .at)
     (sym (c .before .before .before .before .before .before .both-whole .ensures) ∙ not-false _ (c .before .before .before .before .before .if1 .left))
@@ -68,7 +68,7 @@ good-rows-requires c κs = search needs
 
 -- src/lib.rt:94:9
 returns-5 : tie.Need-returns-5
-returns-5 c = 
+returns-5 c =
     let a = c .before .before .before .before .before .before .before .before .before .before .before .before .args in
     check-14 (now (a .parents)) (now (a .objects)) (now (a .reserve)) (a .policy) (a .at)
     (sym (c .before .before .before .before .before .before .before .before .both-whole .ensures) ∙ not-false _ (c .before .before .before .before .before .before .before .if1 .left))
@@ -83,7 +83,7 @@ good-reserve-requires c κs = search needs
 
 -- src/lib.rt:97:9
 returns-6 : tie.Need-returns-6
-returns-6 c = 
+returns-6 c =
     let a = c .before .before .before .before .before .before .before .before .before .before .before .before .before .before .args in
     check-14-reserve (now (a .parents)) (now (a .objects)) (now (a .reserve)) (a .policy) (a .at)
     (sym (c .before .before .before .before .before .before .before .before .before .before .both-whole .ensures) ∙ not-false _ (c .before .before .before .before .before .before .before .before .before .if1 .left))
@@ -99,7 +99,7 @@ all-different-requires c κs = search needs
 
 -- src/lib.rt:100:9
 returns-7 : tie.Need-returns-7
-returns-7 c = 
+returns-7 c =
     let a = c .before .before .before .before .before .before .before .before .before .before .before .before .before .before .before .before .args in
     check-15 (now (a .parents)) (now (a .objects)) (now (a .reserve)) (a .policy) (a .at)
     (sym (c .before .before .before .before .before .before .before .before .before .before .before .before .both-whole .ensures) ∙ not-false _ (c .before .before .before .before .before .before .before .before .before .before .before .if1 .left))
@@ -112,7 +112,7 @@ returns-7 c =
 
 -- src/lib.rt:102:9
 is-position-requires : tie.Need-is-position-requires
-is-position-requires c κs = 
+is-position-requires c κs =
     let a = c .before .before .before .before .before .before .before .before .before .before .before .before .before .before .before .before .args in
     tables-sound (now (a .parents)) (now (a .objects))
     (sym (c .before .before .before .before .before .before .before .before .before .before .before .before .both-whole .ensures) ∙ not-false _ (c .before .before .before .before .before .before .before .before .before .before .before .if1 .left))
@@ -122,7 +122,7 @@ is-position-requires c κs =
 
 -- src/lib.rt:103:9
 returns-8 : tie.Need-returns-8
-returns-8 c = 
+returns-8 c =
     let a = c .before .before .before .before .before .before .before .before .before .before .before .before .before .before .before .before .before .before .args in
     check-16 (now (a .parents)) (now (a .objects)) (now (a .reserve)) (a .policy) (a .at)
     (sym (c .before .before .before .before .before .before .before .before .before .before .before .before .before .before .both-whole .ensures) ∙ not-false _ (c .before .before .before .before .before .before .before .before .before .before .before .before .before .if1 .left))
@@ -136,7 +136,7 @@ returns-8 c =
 
 -- src/lib.rt:78:1
 returns-9 : tie.Need-returns-9
-returns-9 c = 
+returns-9 c =
     let a = c .before .before .before .before .before .before .before .before .before .before .before .before .before .before .before .before .before .before .args in
     check-0 (now (a .parents)) (now (a .objects)) (now (a .reserve)) (a .policy) (a .at)
     (sym (c .before .before .before .before .before .before .before .before .before .before .before .before .before .before .both-whole .ensures) ∙ not-false _ (c .before .before .before .before .before .before .before .before .before .before .before .before .before .if1 .left))

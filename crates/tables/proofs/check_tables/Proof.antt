@@ -18,7 +18,7 @@ both-whole-requires c κs = search needs
 
 -- src/lib.rt:63:9
 returns : tie.Need-returns
-returns c = 
+returns c =
     let a = c .before .before .before .before .args in
     tables-11 (now (a .parents)) (now (a .objects))
     (sym (c .before .both-whole .ensures) ∙ not-true _ (c .if1 .taken))
@@ -29,7 +29,7 @@ good-layouts-requires c κs = search needs
 
 -- src/lib.rt:66:9
 returns-2 : tie.Need-returns-2
-returns-2 c = 
+returns-2 c =
     let a = c .before .before .before .before .before .before .args in
     tables-13 (now (a .parents)) (now (a .objects))
     (sym (c .before .before .before .both-whole .ensures) ∙ not-false _ (c .before .before .if1 .left))
@@ -41,7 +41,7 @@ good-rows-requires c κs = search needs
 
 -- src/lib.rt:69:9
 returns-3 : tie.Need-returns-3
-returns-3 c = 
+returns-3 c =
     let a = c .before .before .before .before .before .before .before .before .args in
     tables-14 (now (a .parents)) (now (a .objects))
     (sym (c .before .before .before .before .before .both-whole .ensures) ∙ not-false _ (c .before .before .before .before .if1 .left))
@@ -54,7 +54,7 @@ all-different-requires c κs = search needs
 
 -- src/lib.rt:72:9
 returns-4 : tie.Need-returns-4
-returns-4 c = 
+returns-4 c =
     let a = c .before .before .before .before .before .before .before .before .before .before .args in
     tables-15 (now (a .parents)) (now (a .objects))
     (sym (c .before .before .before .before .before .before .before .both-whole .ensures) ∙ not-false _ (c .before .before .before .before .before .before .if1 .left))
@@ -64,7 +64,7 @@ returns-4 c =
 
 -- src/lib.rt:59:1
 returns-5 : tie.Need-returns-5
-returns-5 c = 
+returns-5 c =
     let a = c .before .before .before .before .before .before .before .before .before .before .args in
     tables-0 (now (a .parents)) (now (a .objects))
     (sym (c .before .before .before .before .before .before .before .both-whole .ensures) ∙ not-false _ (c .before .before .before .before .before .before .if1 .left))

@@ -18,7 +18,7 @@ good-parents-requires c κs = search needs
 
 -- src/fids.rt:113:9
 returns : tie.Need-returns
-returns c = 
+returns c =
     let a = c .before .before .before .before .args in
     first-off (all (whenUsed goodSelf) (parentRows (now (a .parents)))) (all (whenUsed goodObject) (objectRows (now (a .objects)))) (sym (c .before .good-parents .ensures) ∙ not-true _ (c .if1 .taken))
 
@@ -28,7 +28,7 @@ good-objects-requires c κs = search needs
 
 -- src/fids.rt:109:1
 returns-2 : tie.Need-returns-2
-returns-2 c = 
+returns-2 c =
     let a = c .before .before .before .before .before .args in
     c .good-objects .ensures ∙ first-on (all (whenUsed goodSelf) (parentRows (now (a .parents)))) (all (whenUsed goodObject) (objectRows (now (a .objects)))) (sym (c .before .before .good-parents .ensures) ∙ not-false _ (c .before .if1 .left))
 

@@ -45,7 +45,7 @@ accepted-requires c κs = search needs
 
 -- src/layouts.rt:11:1
 returns-3 : tie.Need-returns-3
-returns-3 c = 
+returns-3 c =
     let a = c .before .before .before .before .before .before .before .args in
     c .accepted .ensures ∙ ap acceptedLayout (c .before .layout-of .ensures .0) ∙ layout-read (now (a .row)) (omega arith)
     ∙ when-used goodLayout (now (a .row)) (sym (c .before .before .before .before .before .is-used .ensures) ∙ not-false _ (c .before .before .before .before .if1 .left))
