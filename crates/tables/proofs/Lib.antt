@@ -10,3 +10,4 @@ pub mod ApartLaws
 pub mod RenderLaws
 pub mod FitLaws
 pub mod ParseLaws
+pub mod SoundFits
