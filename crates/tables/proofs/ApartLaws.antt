@@ -147,3 +147,14 @@ module _ (p o : List ℕ) (h : Sound p o) (r s : ℕ) where
       let u = object-used (take objectSize (drop (objectSize * r) o)) a (sym (parsed-object p o r k) ∙ x) in
       let v = object-used (take objectSize (drop (objectSize * s) o)) b (sym (parsed-object p o s l) ∙ y) in
       objects-apart p o h r s k l (u .0) (v .0) (ap (λ (c : Object). c .fid .0) (u .1) ∙ e ∙ sym (ap (λ (c : Object). c .fid .0) (v .1)))
+
+-- no FID stands twice among the files, or twice among the objects
+pub record Apart (T : Tables) : Type 0 where
+  pub parents : (r s : ℕ) (a b : Parent) → getD (T .parents) r (noParent []) ≡ parent a → getD (T .parents) s (noParent []) ≡ parent b →
+      a .self .0 ≡ b .self .0 → r ≡ s
+  pub objects : (r s : ℕ) (a b : Object) → getD (T .objects) r (noObject []) ≡ object a → getD (T .objects) s (noObject []) ≡ object b →
+      a .fid .0 ≡ b .fid .0 → r ≡ s
+
+pub sound-apart : (p o : List ℕ) → Sound p o → Apart (parse p o)
+unfolding rowAt
+sound-apart p o h = record { parents = one-parent p o h; objects = one-object p o h }

@@ -21,6 +21,7 @@ use Rattle.layout.proofs.HeaderLaws.{field}
 use Rattle.layout.proofs.LayoutLaws.{Writable, read-back}
 use Rattle.tables.specs.Records.{Parent, ParentRow, noParent, parent, ObjectRow, noObject, object}
 use Rattle.tables.specs.Bytes.{parentSize, objectSize, layoutRoom, isUsed, decodeOwner, encodeOwner, layoutLength, layoutBytes, decodeParent, encodeParent, parseParent, renderParent, claimFrom, claimFid, decodeObject, mark, encodeObject, parseObject, renderObject}
+use Rattle.tables.specs.Check.{selfFid, claimed}
 use Rattle.tables.specs.declared.Owner.{Owner}
 use Rattle.tables.specs.declared.Claim.{Claim}
 use Rattle.tables.specs.declared.Claim.the-variants.{Unclaimed, Claims}
@@ -276,3 +277,35 @@ pub object-length : (w : ObjectRow) → FitObject w → length (renderObject w) 
 unfolding FitObject renderObject line
 object-length (noObject b) f = f
 object-length (object x) f = thing-length x
+
+-- ## What a written row says
+
+module _ (a : Parent) (f : FitFile a) where
+  pub file-self : selfFid (renderParent (parent a)) ≡ a .self .0
+  unfolding selfFid renderParent row
+  file-self = self-back a f
+
+  pub file-room : layoutLength (renderParent (parent a)) ≤ layoutRoom
+  unfolding renderParent row L
+  file-room = omega (arith, length-back a f, f .room)
+
+  pub file-layout : layoutBytes (renderParent (parent a)) ≡ encodeLayout (a .layout)
+  unfolding renderParent row L
+  file-layout = bytes-back a f
+
+module _ (x : Object) (f : FitThing x) where
+  pub thing-self : selfFid (renderObject (object x)) ≡ x .fid .0
+  unfolding selfFid renderObject line
+  thing-self = fid-back x f
+
+  pub thing-index : le 4 (drop 17 (renderObject (object x))) ≡ x .ost
+  unfolding renderObject line
+  thing-index = ost-back x f
+
+  pub thing-claim : claimed (renderObject (object x)) ≡ claimFid (x .claim)
+  unfolding claimed renderObject line C
+  thing-claim = rw (from-claim x, decode-encode (claimFid (x .claim)) (M x) (claim-fits (x .claim) (f .claim)))
+
+  pub thing-fresh : getD (renderObject (object x)) 45 0 ≡ mark (x .fresh)
+  unfolding renderObject line
+  thing-fresh = fresh-byte x

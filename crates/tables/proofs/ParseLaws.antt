@@ -67,7 +67,7 @@ pub record FitTables (T : Tables) : Type 0 where
   pub objects : (r : ℕ) → r < length (T .objects) → FitObject (getD (T .objects) r (noObject []))
 
 -- rows of one size, put together and taken apart
-module _ {R : Type 0} (read : List ℕ → R) (write : R → List ℕ) (size : ℕ) (d : R) where
+module _ {R : Type 0} (write : R → List ℕ) (size : ℕ) (d : R) where
   pub join-length : (ws : List R) → ((r : ℕ) → r < length ws → length (write (getD ws r d)) ≡ size) → length (join (map write ws)) ≡ size * length ws
   unfolding join
   join-length [] h = sym (mul-zero size)
@@ -76,22 +76,32 @@ module _ {R : Type 0} (read : List ℕ → R) (write : R → List ℕ) (size : �
       let b : length (join (map write ws)) ≡ size * length ws = join-length ws (λ r k. h (suc r) (omega arith)) in
       rw (length-append (write w) (join (map write ws)), a, b) (omega (arith, mul-suc size (length ws)))
 
-  apart : (ws : List R) → ((r : ℕ) → r < length ws → length (write (getD ws r d)) ≡ size) →
-      ((r : ℕ) → r < length ws → read (write (getD ws r d)) ≡ getD ws r d) → map read (rows size (length ws) (join (map write ws))) ≡ ws
+  -- the rows of the joined rows
+  pub rows-join : 1 ≤ size → (ws : List R) → ((r : ℕ) → r < length ws → length (write (getD ws r d)) ≡ size) →
+      rows size (length (join (map write ws)) / size) (join (map write ws)) ≡ map write ws
   unfolding join rows
-  apart [] h k = refl
-  apart (w ∷ ws) h k =
-      let a : length (write w) ≡ size = h 0 (omega arith) in
+  rows-join p ws h =
+      let n : length (join (map write ws)) / size ≡ length ws = rw (join-length ws h) (mul-div-right (length ws) p) in
+      rw n (go ws h)
+    where
+      go : (vs : List R) → ((r : ℕ) → r < length vs → length (write (getD vs r d)) ≡ size) → rows size (length vs) (join (map write vs)) ≡ map write vs
+      go [] h = refl
+      go (v ∷ vs) h =
+          let a : length (write v) ≡ size = h 0 (omega arith) in
+          let l : List ℕ = join (map write vs) in
+          rw (take-at (write v) l size a, drop-at (write v) l size a, go vs (λ r g. h (suc r) (omega arith)))
+
+module _ {R : Type 0} (read : List ℕ → R) (write : R → List ℕ) (size : ℕ) (d : R) where
+  read-all : (ws : List R) → ((r : ℕ) → r < length ws → read (write (getD ws r d)) ≡ getD ws r d) → map read (map write ws) ≡ ws
+  read-all [] k = refl
+  read-all (w ∷ ws) k =
       let b : read (write w) ≡ w = k 0 (omega arith) in
-      let l : List ℕ = join (map write ws) in
-      rw (take-at (write w) l size a, drop-at (write w) l size a, b, apart ws (λ r g. h (suc r) (omega arith)) (λ r g. k (suc r) (omega arith)))
+      rw (b, read-all ws (λ r g. k (suc r) (omega arith)))
 
   join-apart : 1 ≤ size → (ws : List R) → ((r : ℕ) → r < length ws → length (write (getD ws r d)) ≡ size) →
       ((r : ℕ) → r < length ws → read (write (getD ws r d)) ≡ getD ws r d) →
       map read (rows size (length (join (map write ws)) / size) (join (map write ws))) ≡ ws
-  join-apart p ws h k =
-      let n : length (join (map write ws)) / size ≡ length ws = rw (join-length ws h) (mul-div-right (length ws) p) in
-      rw n (apart ws h k)
+  join-apart p ws h k = ap (λ (ls : List (List ℕ)). map read ls) (rows-join write size d p ws h) ∙ read-all ws k
 
 -- rendered tables are read back
 pub tables-read-back : (T : Tables) → FitTables T → parse (renderParents T) (renderObjects T) ≡ T
