@@ -96,8 +96,8 @@ go policy reserve T = run policy reserve (countSteps T) T (start T)
 same : List ℕ → List ℕ → Bool
 same [] [] = true
 same [] (b ∷ bs) = false
-same (a ∷ as) [] = false
-same (a ∷ as) (b ∷ bs) = eqb a b && same as bs
+same (a ∷ l) [] = false
+same (a ∷ l) (b ∷ bs) = eqb a b && same l bs
 
 -- the repairs by class, in the order of the C interface
 numbers : Counts → List ℕ

@@ -199,8 +199,10 @@ made f i w bytes =
       layout = record {
         header = record { magic = magicOne; pattern = holePattern; oid = f .0 .oid; seq = f .0 .seq; stripe = 1048576; generation = 0 };
         pool = [];
-        slots = replicate (suc i) Hole };
-      tail = drop (26 + layoutSize magicOne (suc i)) bytes })
+        slots = replicate (suc i) Hole;
+      };
+      tail = drop (26 + layoutSize magicOne (suc i)) bytes;
+    })
 
 -- "the layout grows to i+1 slots with holes between"; the bytes past its new length stay
 unfoldable pub grown : ParentRow → ℕ → ParentRow

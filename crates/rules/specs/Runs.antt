@@ -70,8 +70,10 @@ after c x =
         answer = x .report .answer;
         steps = suc (x .report .steps);
         counts = addCounts c (x .report .counts);
-        position = x .report .position };
-      tables = x .tables }
+        position = x .report .position;
+      };
+      tables = x .tables;
+    }
 
 -- "With 21 to 23 the position rests on the step that couldn't be made, and tables and counts are those after the steps before it"
 unfoldable pub onStep : Tables → Position → (Tables → Run) → Step → Run
