@@ -1,0 +1,2 @@
+pub mod Steps
+unfoldable pub use Steps.*

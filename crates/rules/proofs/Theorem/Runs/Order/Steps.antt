@@ -1,0 +1,2 @@
+pub mod Quiet
+unfoldable pub use Quiet.*

@@ -1,0 +1,2 @@
+pub mod Writes
+unfoldable pub use Writes.*

@@ -1,0 +1,2 @@
+pub mod Frames
+unfoldable pub use Frames.*
