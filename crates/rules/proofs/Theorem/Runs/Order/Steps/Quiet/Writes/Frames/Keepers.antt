@@ -14,9 +14,9 @@ snoc : (p : ℕ → Bool) (i : ℕ) → ((k : ℕ) → k < i → p k ≡ false) 
 snoc p i lo e k h = go (compareℕ k i)
   where
     go : Compare k i → p k ≡ false
-    go (less l) = lo k l
-    go (same q) = ap p q ∙ e
-    go (more m) = absurd (omega arith)
+    go (is-less l) = lo k l
+    go (is-same q) = ap p q ∙ e
+    go (is-more m) = absurd (omega arith)
 
 below-or-past : (p : ℕ → Bool) (i : ℕ) → ((k : ℕ) → k < i → p k ≡ false) → ((k : ℕ) → i + 0 ≤ k → p k ≡ false) → (k : ℕ) → p k ≡ false
 below-or-past p i lo hi k = go (decLt k i)
@@ -55,9 +55,9 @@ first-unique (found {i = i} e f) (absent g) = clash e (g i)
 first-unique (found {i = i} e f) (found {i = j} d g) = go (compareℕ i j)
   where
     go : Compare i j → _≡_ {A = Row} (RowIs i) (RowIs j)
-    go (less l) = clash e (g i l)
-    go (same q) = ap RowIs q
-    go (more m) = clash d (f j m)
+    go (is-less l) = clash e (g i l)
+    go (is-same q) = ap RowIs q
+    go (is-more m) = clash d (f j m)
 
 -- the only one that passes is the first
 pub first-only : {p : ℕ → Bool} {i : ℕ} → p i ≡ true → ((k : ℕ) → p k ≡ true → k ≡ i) → First p (RowIs i)
@@ -117,11 +117,11 @@ place-unique (first {r = r} {j = j} e f h) (nowhere g) = clash e (g r j)
 place-unique {P} (first {r = r} {j = j} e f f′) (first {r = s} {j = i} d g g′) = go (compareℕ r s) (compareℕ j i)
   where
     go : Compare r s → Compare j i → _≡_ {A = Found} (At r j) (At s i)
-    go (less l) c = clash e (g′ r j l)
-    go (more l) c = clash d (f′ s i l)
-    go (same q) (less l) = clash e (rw q (g j l))
-    go (same q) (more l) = clash d (rw (← q) (f i l))
-    go (same q) (same t) = ap₂ At q t
+    go (is-less l) c = clash e (g′ r j l)
+    go (is-more l) c = clash d (f′ s i l)
+    go (is-same q) (is-less l) = clash e (rw q (g j l))
+    go (is-same q) (is-more l) = clash d (rw (← q) (f i l))
+    go (is-same q) (is-same t) = ap₂ At q t
 
 pub place-only : {P : ℕ → ℕ → Bool} {r j : ℕ} → P r j ≡ true → ((s k : ℕ) → P s k ≡ true → (s ≡ r) × (k ≡ j)) → FirstPlace P (At r j)
 place-only {P} {r} e only =

@@ -96,17 +96,17 @@ or-false false b e = (refl, e)
 -- ## Numbers
 
 pub data Compare (a b : ℕ) : Type 0 where
-  less : a < b → Compare a b
-  same : a ≡ b → Compare a b
-  more : b < a → Compare a b
+  is-less : a < b → Compare a b
+  is-same : a ≡ b → Compare a b
+  is-more : b < a → Compare a b
 
 pub compareℕ : (a b : ℕ) → Compare a b
 compareℕ a b = go (decLt a b) (decLt b a)
   where
     go : Dec (a < b) → Dec (b < a) → Compare a b
-    go (yes h) d = less h
-    go (no n) (yes h) = more h
-    go (no n) (no m) = same (omega arith)
+    go (yes h) d = is-less h
+    go (no n) (yes h) = is-more h
+    go (no n) (no m) = is-same (omega arith)
 
 -- ## FIDs and owners
 
