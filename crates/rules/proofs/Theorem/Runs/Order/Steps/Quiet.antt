@@ -132,7 +132,7 @@ module _ (T : Tables) (r : ℕ) (w : ParentRow) (same : (i : ℕ) → getD (slot
           (λ g n m q t. rw (row-slots T r w same like k i, q) (slot-taken S f g n m k i (take-less T S f g k i (objects-row T r w g) (els g k i) t)))
 
 -- an object is destroyed
-drop-none : (T : Tables) (o : ℕ) (g : OstFid) → OneObject T → isObject g (objectAt T o) ≡ true → (k : ℕ) → isObject g (objectAt (putObject T o destroyed) k) ≡ false
+pub drop-none : (T : Tables) (o : ℕ) (g : OstFid) → OneObject T → isObject g (objectAt T o) ≡ true → (k : ℕ) → isObject g (objectAt (putObject T o destroyed) k) ≡ false
 unfolding objectAt putObject isObject destroyed
 drop-none T o g one e k = go (ℕ-discrete k o)
   where
@@ -226,9 +226,13 @@ quietAt policy T p =
     (cond (eqb (p .stage) 2) (quietObject policy (objectClass T (p .row))) true)
 
 module _ (policy : ℕ) (T S : Tables) (k : ℕ) where
-  pub quiet-free : (b : List ℕ) → objectAt S k ≡ noObject b → quietObject policy (objectClass S k) ≡ true
-  unfolding objectClass objectClassOf quietObject
-  quiet-free b e = rw e
+  pub quiet-free : isFreeObject (objectAt S k) ≡ true → quietObject policy (objectClass S k) ≡ true
+  unfolding objectClass objectClassOf quietObject isFreeObject
+  quiet-free e = go (objectAt S k) e
+    where
+      go : (w : ObjectRow) → isFreeObject w ≡ true → quietObject policy (objectClassOf S w) ≡ true
+      go (noObject b) t = refl
+      go (object y) t = clash t refl
 
   pub quiet-named : (y : Object) → objectAt S k ≡ object y → named S (y .fid) ≡ true → quietObject policy (objectClass S k) ≡ true
   unfolding objectClass objectClassOf quietObject
@@ -328,9 +332,6 @@ pub record Ready (policy : ℕ) (T U : Tables) (o r i : ℕ) (x : Object) : Type
   pub rows : (k : ℕ) → (k ≡ o → ⊥) → quietObject policy (objectClass T k) ≡ true → quietObject policy (objectClass U k) ≡ true
 
 module _ (policy : ℕ) (T U : Tables) (o r i : ℕ) (x : Object) (ready : Ready policy T U o r i x) (stays : x .fresh ≡ false) where
-  S : Tables
-  S = settled U o x r i
-
   settled-sound : Distinct (settled U o x r i)
   unfolding settled rowAt putObject objectAt putSlot putParent isObject withOwner
   settled-sound = record { parents = one-parent-slot U r i _ (ready .sound .parents); objects = λ a b f p q. ready .sound .objects a b f (back a f p) (back b f q) }
@@ -338,7 +339,7 @@ module _ (policy : ℕ) (T U : Tables) (o r i : ℕ) (x : Object) (ready : Ready
       back : (a : ℕ) (f : OstFid) → isObject f (objectAt (settled U o x r i) a) ≡ true → isObject f (objectAt U a) ≡ true
       back a f = set-pointwise (U .objects) o _ (noObject []) (λ w. isObject f w ≡ true → isObject f (objectAt U a) ≡ true) a (λ q t. rw q t) (λ q t. rw (q, ready .holds) t) (λ n t. t)
 
-  pub settled-names : named (settled U o x r i) (x .fid) ≡ true
+  settled-names : named (settled U o x r i) (x .fid) ≡ true
   unfolding settled rowAt putObject namesAt slotAt slotNames slotFor
   settled-names = named-intro (settled U o x r i) (x .fid) r i (rw (slot-same U r i (slotFor x) (ready .inside) (ready .within), fid-refl (x .fid .0)))
 
@@ -355,12 +356,18 @@ module _ (policy : ℕ) (T U : Tables) (o r i : ℕ) (x : Object) (ready : Ready
           named-intro (settled U o x r i) (y .fid) a b
           (names-other U r i _ (y .fid) a b (λ p q. clash (rw (e, fid-refl (y .fid .0))) (ready .gone (y .fid) (rw (p, q) at u) k)) ∙ u)
 
+  -- every other slot keeps its class
+  pub settled-keeps : (k l : ℕ) → (k ≡ r → l ≡ i → ⊥) → slotClass (settled U o x r i) k l ≡ slotClass T k l
+  settled-keeps k l n =
+      settled-others U o r i x (ready .sound .parents) (ready .sound .objects) (ready .holds) (ready .inside) (ready .within) (ready .claimed) (ready .unnamed) (ready .lonely) k l n
+      ∙ ready .others k l n
+
   settled-parts : (k l : ℕ) → quietSlot policy (slotClass T k l) ≡ true → quietSlot policy (slotClass (settled U o x r i) k l) ≡ true
   unfolding quietSlot
   settled-parts k l e = go (ℕ-discrete k r) (ℕ-discrete l i)
     where
       other : (k ≡ r → l ≡ i → ⊥) → quietSlot policy (slotClass (settled U o x r i) k l) ≡ true
-      other n = rw (settled-others U o r i x (ready .sound .parents) (ready .sound .objects) (ready .holds) (ready .inside) (ready .within) (ready .claimed) (ready .unnamed) (ready .lonely) k l n, ready .others k l n) e
+      other n = rw (settled-keeps k l n) e
       go : Dec (k ≡ r) → Dec (l ≡ i) → quietSlot policy (slotClass (settled U o x r i) k l) ≡ true
       go (no d) z = other (λ p q. d p)
       go (yes p) (no d) = other (λ p q. d q)

@@ -3,8 +3,18 @@ pub mod Keepers
 unfoldable pub use Keepers.*
 
 -- the header has nothing to be repaired
+unfoldable pub quietHeader : HeaderClass → Bool
+quietHeader UNUSED-PARENT = true
+quietHeader SELF = false
+quietHeader CLEAN-HEADER = true
+
 unfoldable pub headerQuiet : ParentRow → Bool
-headerQuiet w = elim (headerClass w) [ UNUSED-PARENT ↦ true | SELF ↦ false | CLEAN-HEADER ↦ true ]
+headerQuiet w = quietHeader (headerClass w)
+
+-- a header with the own id and sequence of its row is quiet
+pub header-right : (p : Parent) → p .layout .header .oid ≡ p .self .0 .oid → p .layout .header .seq ≡ p .self .0 .seq → headerQuiet (parent p) ≡ true
+unfolding headerQuiet headerClass quietHeader ownRight
+header-right p i s = ap (λ b. quietHeader (cond b CLEAN-HEADER SELF)) (and-both (eq-eqb _ _ i) (eq-eqb _ _ s))
 
 -- ## An element of a list after a set, wherever it stands
 module _ {A : Type 0} (l : List A) (i : ℕ) (a d : A) where
