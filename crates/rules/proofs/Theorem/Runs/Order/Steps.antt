@@ -312,6 +312,10 @@ claim-here : (c : Claim) (f : MdtFid) (i : ℕ) → c ≡ Claims f i → claimIs
 unfolding claimIs
 claim-here c f i e = rw e (and-both (fid-refl (f .0)) (eq-eqb i i refl))
 
+pub claim-means : (g : MdtFid) (k : ℕ) (f : MdtFid) (i : ℕ) → claimIs (Claims g k) f i ≡ true → Claims g k ≡ Claims f i
+unfolding claimIs
+claim-means g k f i e = ap₂ Claims (mdt-true g f (and-l _ (eqb k i) e)) (eqb-true k i (and-r (sameFid (g .0) (f .0)) _ e))
+
 free-row : (T : Tables) (r : ℕ) → freeParent T ≡ RowIs r → ((b : List ℕ) × (rowAt T r ≡ noParent b)) × (r < length (T .parents))
 unfolding freeParent isFreeParent
 free-row T r e =
@@ -423,3 +427,194 @@ module _ (policy : ℕ) (T : Tables) (sound : Distinct T) (o m : ℕ) (x : Objec
           adopted true a =
               let (f, i, claim, unnamed, stays, w) = orphan-means q in
               subst (λ k. Makes policy T (place 2 o m) (adopt T o x k)) (sym claim) (adopt-step f i claim unnamed stays (way-means T f i) w)
+
+-- ## Stage one
+
+-- every slot but (r, j) keeps its class, and (r, j) becomes clean
+slot-stepped : (policy : ℕ) (T S : Tables) (r j : ℕ) → Distinct S → NotDestroyed T S → length (S .parents) ≡ length (T .parents) → ((k : ℕ) → width S k ≡ width T k) → length (S .objects) ≡ length (T .objects)
+  → ((k : ℕ) → headerQuiet (rowAt S k) ≡ headerQuiet (rowAt T k)) → ((k i : ℕ) → (k ≡ r → i ≡ j → ⊥) → slotClass S k i ≡ slotClass T k i) → slotClass S r j ≡ CLEAN → Stepped policy T (place 1 r (suc j)) S
+unfolding quietSlot quietAt quietPart place OthersKeepClass OwnSlot
+slot-stepped policy T S r j sound stays tall widths size headers others here =
+    record {
+      calm = record { sound = sound; stays = stays; grows = record { tall = tall; wider = λ k. let z = widths k in omega arith; size = size };
+        headers = λ k e. headers k ∙ e; parts = λ k i e. go k i e (ℕ-discrete k r) (ℕ-discrete i j) };
+      rows = λ e. absurd (omega arith); own = rw here; widths = λ e. widths;
+      others = λ k i n. others k i (λ p q. n (inl (λ z. record { stage = 1; row = sym p z; part = suc (sym q z) }))) }
+  where
+    go : (k i : ℕ) → quietSlot policy (slotClass T k i) ≡ true → Dec (k ≡ r) → Dec (i ≡ j) → quietSlot policy (slotClass S k i) ≡ true
+    go k i e (yes p) (yes q) = rw (p, q, here)
+    go k i e (yes p) (no n) = rw (others k i (λ a b. n b)) e
+    go k i e (no n) d = rw (others k i (λ a b. n a)) e
+
+-- a row comes to hold an object whose FID no other row holds
+one-put : (T : Tables) (o : ℕ) (x : Object) → OneObject T → ((k : ℕ) → isObject (x .fid) (objectAt T k) ≡ true → k ≡ o) → OneObject (putObject T o (object x))
+unfolding objectAt putObject isObject
+one-put T o x one alone a b g p q = go (ℕ-discrete a o) (ℕ-discrete b o)
+  where
+    S : Tables
+    S = putObject T o (object x)
+    old : (c : ℕ) → (c ≡ o → ⊥) → isObject g (objectAt S c) ≡ true → isObject g (objectAt T c) ≡ true
+    old c n u = rw (getD-set-other (T .objects) o c (object x) (noObject []) n) at u
+    new : (c d : ℕ) → c ≡ o → (d ≡ o → ⊥) → isObject g (objectAt S c) ≡ true → isObject g (objectAt T d) ≡ true → ⊥
+    new c d z n u v = n (set-pointwise (T .objects) o (object x) (noObject []) (λ w. isObject g w ≡ true → d ≡ o) c (λ e t. one d o g v t) (λ e t. alone d (rw (ost-true (x .fid) g t) v)) (λ m t. absurd (m z)) u)
+    go : Dec (a ≡ o) → Dec (b ≡ o) → a ≡ b
+    go (yes y) (yes z) = y ∙ sym z
+    go (yes y) (no n) = absurd (new a b y n p (old b n q))
+    go (no n) (yes z) = absurd (new b a z n q (old a n p))
+    go (no n) (no m) = one a b g (old a n p) (old b m q)
+
+-- ## What the reserve and the free rows give
+no-row : (a : Row) → isRow a ≡ false → a ≡ NoRow
+unfolding isRow
+no-row NoRow e = refl
+no-row (RowIs o) e = clash refl e
+
+usable-free : (T : Tables) (reserve : List OstFid) (f : OstFid) → usable T reserve ≡ Takes f → ((k : ℕ) → isObject f (objectAt T k) ≡ false) × (named T f ≡ false)
+unfolding usable
+usable-free T [] f e = let z : _≡_ {A = ℕ} 0 1 = cc in absurd (omega arith)
+usable-free T (g ∷ gs) f e = go (isRow (objectRow T g) || named T g) refl e (usable-free T gs f)
+  where
+    go : (b : Bool) → (isRow (objectRow T g) || named T g) ≡ b → _≡_ {A = Usable} (elim b [ true ↦ usable T gs | false ↦ Takes g ]) (Takes f) → (usable T gs ≡ Takes f → ((k : ℕ) → isObject f (objectAt T k) ≡ false) × (named T f ≡ false)) → ((k : ℕ) → isObject f (objectAt T k) ≡ false) × (named T f ≡ false)
+    go true q e ih = ih e
+    go false q e ih =
+        let h = or-false (isRow (objectRow T g)) (named T g) q in
+        let z : g ≡ f = cc in
+        rw (← z) (object-missing T g (no-row (objectRow T g) (h .0)), h .1)
+
+lost-none : (T : Tables) (f : OstFid) → objectOf T f ≡ Missing → (k : ℕ) → isObject f (objectAt T k) ≡ false
+unfolding objectOf objectInRow objectIn objectAt isObject
+lost-none T f e k = go (objectRow T f) refl e
+  where
+    row : (w : ObjectRow) → isObject f w ≡ true → objectIn w ≡ Missing → isObject f (objectAt T k) ≡ false
+    row (noObject b) t e = clash t refl
+    row (object x) t e = let z : _≡_ {A = ℕ} 0 1 = cc in absurd (omega arith)
+    go : (a : Row) → objectRow T f ≡ a → objectInRow (T .objects) a ≡ Missing → isObject f (objectAt T k) ≡ false
+    go NoRow q e = object-missing T f q k
+    go (RowIs o) q e = row (objectAt T o) (object-found T f q) e
+
+free-object : (T : Tables) (o : ℕ) → freeObject T ≡ RowIs o → ((g : OstFid) → isObject g (objectAt T o) ≡ false) × (o < length (T .objects))
+unfolding freeObject isFreeObject isObject
+free-object T o e =
+    let h = from-row-is (length (T .objects)) 0 (λ k. isFreeObject (objectAt T k)) o e in
+    (go (objectAt T o) (h .0), omega arith)
+  where
+    go : (w : ObjectRow) → isFreeObject w ≡ true → (g : OstFid) → isObject g w ≡ false
+    go (noObject b) t g = refl
+    go (object x) t g = clash t refl
+
+-- ## Slots
+module _ (policy : ℕ) (reserve : List OstFid) (T : Tables) (sound : Distinct T) (r j : ℕ) (f : OstFid) (n ost : ℕ) (at : slotAt T r j ≡ Names f n ost) where
+  names : namesAt T f r j ≡ true
+  unfolding namesAt slotNames
+  names = rw (at, fid-refl (f .0))
+
+  slot-rests : quietSlot policy (slotClass T r j) ≡ true → Stepped policy T (place 1 r (suc j)) T
+  unfolding quietAt quietPart place
+  slot-rests q = stepped-same policy T (place 1 r (suc j)) sound q
+
+  -- row o comes to hold the keeper's object, with the claim and the owner of its slot
+  put-step : (o : ℕ) (x : Object) → keeper T f ≡ At r j → o < length (T .objects) → x .fid ≡ f → x .claim ≡ Claims (selfOf (rowAt T r)) j → x .owner ≡ ownerOf (rowAt T r)
+    → ((g : OstFid) → isObject g (objectAt T o) ≡ true → g ≡ f) → ((k : ℕ) → isObject f (objectAt T k) ≡ true → k ≡ o)
+    → ((z : Object) → objectAt T o ≡ object z → z .fresh ≡ false → (x .fid ≡ z .fid) × (x .fresh ≡ false)) → Stepped policy T (place 1 r (suc j)) (putObject T o (object x))
+  unfolding rowAt putObject width
+  put-step o x keeps inside is claimed owned held alone old =
+      slot-stepped policy T (putObject T o (object x)) r j (record { parents = sound .parents; objects = one-put T o x (sound .objects) (λ k t. alone k (rw (← is) t)) })
+      (stays-put T o (object x) (λ z a b. (x, refl, old z a b .0, old z a b .1))) refl (λ k. refl) (length-set (T .objects) o (object x)) (λ k. refl)
+      (claim-others T f r j o x (sound .parents) names keeps inside is claimed owned held alone)
+      (claim-clean T f r j o x (sound .parents) names keeps inside is claimed owned held alone)
+
+  -- the object in its row gets other content: claim and owner are then right, FID and fresh mark stay
+  rewrite-step : (c : Repair) (h : Object → Object) → keeper T f ≡ At r j → ((x : Object) → (h x .fid ≡ x .fid) × (h x .fresh ≡ x .fresh) × (h x .owner ≡ ownerOf (rowAt T r)))
+    → ((x : Object) → objectOf T f ≡ Present x → h x .claim ≡ Claims (selfOf (rowAt T r)) j) → (y : Object) → objectOf T f ≡ Present y
+    → Makes policy T (place 1 r (suc j)) (rewriteAt T c h (objectRow T f))
+  unfolding rewriteAt rewrite objectOf objectInRow objectIn isObject objectAt applyWrites applyWrite
+  rewrite-step c h keeps same claimed y has = go (objectRow T f) refl has
+    where
+      write : (o : ℕ) → objectRow T f ≡ RowIs o → (w : ObjectRow) → objectAt T o ≡ w → isObject f w ≡ true → Makes policy T (place 1 r (suc j)) (rewrite T c h o w)
+      write o q (noObject b) d t = clash t refl
+      write o q (object x) d t =
+          let here = object-found T f q in
+          let s = same x in
+          put-step o (h x) keeps (object-inside T f o here) (s .0 ∙ ost-true (x .fid) f t) (claimed x (rw (q, d))) (s .2) (λ g u. one-fid T o f g here u) (λ k u. sound .objects k o f u here)
+          (λ z a b. let y : z ≡ x = cc in (s .0 ∙ ap (λ v. v .fid) (sym y), s .1 ∙ ap (λ v. v .fresh) (sym y) ∙ b))
+      go : (a : Row) → objectRow T f ≡ a → objectInRow (T .objects) a ≡ Present y → Makes policy T (place 1 r (suc j)) (rewriteAt T c h a)
+      go NoRow q e = let z : _≡_ {A = ℕ} 0 1 = cc in absurd (omega arith)
+      go (RowIs o) q e = write o q (objectAt T o) refl (object-found T f q)
+
+  claim-step : (c : Repair) (y : Object) → keeper T f ≡ At r j → objectOf T f ≡ Present y → Makes policy T (place 1 r (suc j)) (writeClaim T c r j (objectRow T f))
+  unfolding writeClaim withClaim
+  claim-step c y keeps has = rewrite-step c (λ x. withClaim x (Claims (selfOf (rowAt T r)) j) (ownerOf (rowAt T r))) keeps (λ x. (refl, refl, refl)) (λ x e. refl) y has
+
+  owner-step : (y : Object) → keeper T f ≡ At r j → objectOf T f ≡ Present y → y .claim ≡ Claims (selfOf (rowAt T r)) j → Makes policy T (place 1 r (suc j)) (writeOwner T r (objectRow T f))
+  unfolding writeOwner withOwner
+  owner-step y keeps has claimed = rewrite-step OfOwner (λ x. withOwner x (ownerOf (rowAt T r))) keeps (λ x. (refl, refl, refl)) (λ x e. let q : x ≡ y = cc in ap (λ v. v .claim) q ∙ claimed) y has
+
+  redirect-step : isPlace (keeper T f) r j ≡ false → Makes policy T (place 1 r (suc j)) (redirect T r j ost (usable T reserve))
+  unfolding redirect redirectTo newObject rowAt objectAt putObject putSlot putParent width isObject applyWrites applyWrite
+  redirect-step second = go (usable T reserve) refl
+    where
+      new : OstFid → Object
+      new g = newObject T g r j ost
+      put : (g : OstFid) → usable T reserve ≡ Takes g → (a : Row) → freeObject T ≡ a → Makes policy T (place 1 r (suc j)) (redirectTo T r j ost g a)
+      put g q NoRow d = (omega arith, omega arith)
+      put g q (RowIs o) d =
+          let u = usable-free T reserve g q in
+          let v = free-object T o d in
+          let U = putObject T o (object (new g)) in
+          slot-stepped policy T (putSlot U r j (Names g 0 ost)) r j
+          (record { parents = one-parent-slot U r j (Names g 0 ost) (sound .parents); objects = one-put T o (new g) (sound .objects) (λ k t. clash t (u .0 k)) })
+          (redirect-stays o g (v .0)) (length-set (T .parents) r _) (λ k. width-slot U r j _ k) (length-set (T .objects) o _)
+          (λ k. header-slot U r j _ k)
+          (redirect-others T f r j o 0 ost (new g) (sound .parents) names second (v .1) (v .0) refl refl (named-none T g (u .1)) (u .0))
+          (redirect-clean T f r j o 0 ost (new g) (sound .parents) names second (v .1) (v .0) refl refl (named-none T g (u .1)) (u .0))
+        where
+          redirect-stays : (o : ℕ) (g : OstFid) → ((h : OstFid) → isObject h (objectAt T o) ≡ false) → NotDestroyed T (putSlot (putObject T o (object (new g))) r j (Names g 0 ost))
+          redirect-stays o g free = stays-slot T (putObject T o (object (new g))) r j (Names g 0 ost) (stays-put T o (object (new g)) (λ z a b. clash (rw (a, fid-refl (z .fid .0))) (free (z .fid))))
+      go : (a : Usable) → usable T reserve ≡ a → Makes policy T (place 1 r (suc j)) (redirect T r j ost a)
+      go UsedUp q = (omega arith, omega arith)
+      go (Takes g) q = put g q (freeObject T) refl
+
+  dangling-step : keeper T f ≡ At r j → objectOf T f ≡ Missing → (a : Row) → freeObject T ≡ a → Makes policy T (place 1 r (suc j)) (makeObject (newObject T f r j ost) a)
+  unfolding makeObject newObject isObject applyWrites applyWrite
+  dangling-step keeps lost NoRow d = (omega arith, omega arith)
+  dangling-step keeps lost (RowIs o) d =
+      let v = free-object T o d in
+      put-step o (newObject T f r j ost) keeps (v .1) refl refl refl (λ g t. clash t (v .0 g)) (λ k t. clash t (lost-none T f lost k)) (λ z a b. clash (rw (a, fid-refl (z .fid .0))) (v .0 (z .fid)))
+
+  -- the cases of the class, as it is defined
+  pub slot-step : Makes policy T (place 1 r (suc j)) (slotStep policy reserve T r j (Names f n ost))
+  unfolding slotStep repairSlot slotClass slotClassOf keeperClass claimClass quietSlot
+  slot-step = first-case (isPlace (keeper T f) r j) refl class
+    where
+      self : MdtFid
+      self = selfOf (rowAt T r)
+      owner : Owner
+      owner = ownerOf (rowAt T r)
+      class : slotClass T r j ≡ cond (isPlace (keeper T f) r j) (keeperClass self owner j (objectOf T f)) MULTIPLE
+      class = ap (slotClassOf T r j) at
+      Repaired : SlotClass → Type 0
+      Repaired k = Makes policy T (place 1 r (suc j)) (repairSlot policy reserve T r j f ost k)
+      back : {k : SlotClass} → slotClass T r j ≡ k → Repaired k → Repaired (slotClass T r j)
+      back q h = subst Repaired (sym q) h
+      claim-case : (x : Object) → keeper T f ≡ At r j → objectOf T f ≡ Present x → (k : Claim) → x .claim ≡ k → slotClass T r j ≡ claimClass self j (sameOwner (x .owner) owner) k → Repaired (claimClass self j (sameOwner (x .owner) owner) k)
+      claim-case x keeps has Unclaimed ek q = claim-step OfBlank x keeps has
+      claim-case x keeps has (Claims g i) ek q = right (claimIs (Claims g i) self j) refl (sameOwner (x .owner) owner) q
+        where
+          right : (a : Bool) → claimIs (Claims g i) self j ≡ a → (b : Bool) → slotClass T r j ≡ cond a (cond b CLEAN OWNER) (UNMATCHED g i) → Repaired (cond a (cond b CLEAN OWNER) (UNMATCHED g i))
+          right true ea true q = slot-rests (rw q)
+          right true ea false q = owner-step x keeps has (ek ∙ claim-means g i self j ea)
+          right false ea b q = claim-step OfUnmatched x keeps has
+      kept-case : keeper T f ≡ At r j → (x : Lookup) → objectOf T f ≡ x → slotClass T r j ≡ keeperClass self owner j x → Repaired (keeperClass self owner j x)
+      kept-case keeps Missing has q = dangling (creates policy) refl
+        where
+          dangling : (b : Bool) → creates policy ≡ b → Makes policy T (place 1 r (suc j)) (cond b (makeObject (newObject T f r j ost) (freeObject T)) rests)
+          dangling true p = dangling-step keeps has (freeObject T) refl
+          dangling false p = slot-rests (rw (q, p))
+      kept-case keeps (Present x) has q = claim-case x keeps has (x .claim) refl q
+      first-case : (b : Bool) → isPlace (keeper T f) r j ≡ b → slotClass T r j ≡ cond b (keeperClass self owner j (objectOf T f)) MULTIPLE → Repaired (slotClass T r j)
+      first-case false p q = back q (multiple (creates policy) refl)
+        where
+          multiple : (b : Bool) → creates policy ≡ b → Makes policy T (place 1 r (suc j)) (cond b (redirect T r j ost (usable T reserve)) rests)
+          multiple true d = redirect-step p
+          multiple false d = slot-rests (rw (q, d))
+      first-case true p q = back q (kept-case (is-place (keeper T f) r j p) (objectOf T f) refl q)

@@ -278,6 +278,10 @@ unfolding NotDestroyed objectAt putObject
 stays-put T o w h k x e f = set-pointwise (T .objects) o w (noObject []) (λ v. (y : Object) × (v ≡ object y) × (y .fid ≡ x .fid) × (y .fresh ≡ false)) k
     (λ q. (x, rw (← q) e, refl, f)) (λ q. h x (rw q at e) f) (λ n. (x, e, refl, f))
 
+pub stays-slot : (T U : Tables) (r j : ℕ) (s : Slot) → NotDestroyed T U → NotDestroyed T (putSlot U r j s)
+unfolding NotDestroyed objectAt putSlot putParent
+stays-slot T U r j s h = h
+
 -- no row and no slot goes away
 pub record Grows (T S : Tables) : Type 0 where
   pub tall : length (S .parents) ≡ length (T .parents)
