@@ -93,6 +93,10 @@ pub or-false : (a b : Bool) → (a || b) ≡ false → (a ≡ false) × (b ≡ f
 or-false true b e = clash refl e
 or-false false b e = (refl, e)
 
+pub or-true : (a b : Bool) → (a || b) ≡ true → (a ≡ true) ⊎ (b ≡ true)
+or-true true b e = inl refl
+or-true false b e = inr e
+
 -- ## Numbers
 
 pub data Compare (a b : ℕ) : Type 0 where
