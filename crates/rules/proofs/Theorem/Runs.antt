@@ -68,3 +68,214 @@ module _ (policy : ℕ) (reserve : List OstFid) where
       go ih (ended e) = ran-halt T p 0 s
       go ih (stuck a e d) = ran-halt T p a s
       go ih (moved c S e makes) = let h = makes s in ran-moved T p S c _ _ e h (ih S (h .calm .sound))
+
+-- ## A run of a steps and then one of b
+
+-- counts add up
+counts-same : {a b c d e f g h a′ b′ c′ d′ e′ f′ g′ h′ : ℕ} → a ≡ a′ → b ≡ b′ → c ≡ c′ → d ≡ d′ → e ≡ e′ → f ≡ f′ → g ≡ g′ → h ≡ h′ → counts a b c d e f g h ≡ counts a′ b′ c′ d′ e′ f′ g′ h′
+unfolding counts
+counts-same p q r s t u v w = λ i. record { own = p i; multiple = q i; dangling = r i; blank = s i; unmatched = t i; owner = u i; empty = v i; orphan = w i }
+
+counts-assoc : (x y z : Counts) → addCounts (addCounts x y) z ≡ addCounts x (addCounts y z)
+unfolding addCounts counts
+counts-assoc x y z =
+    counts-same (omega arith) (omega arith) (omega arith) (omega arith) (omega arith) (omega arith) (omega arith) (omega arith)
+
+counts-left : (x : Counts) → addCounts noCounts x ≡ x
+unfolding addCounts noCounts counts
+counts-left x = counts-same (omega arith) (omega arith) (omega arith) (omega arith) (omega arith) (omega arith) (omega arith) (omega arith)
+
+counts-right : (x : Counts) → addCounts x noCounts ≡ x
+unfolding addCounts noCounts counts
+counts-right x = counts-same (omega arith) (omega arith) (omega arith) (omega arith) (omega arith) (omega arith) (omega arith) (omega arith)
+
+then-after : (c : Counts) (x y : Run) → then (after c x) y ≡ after c (then x y)
+unfolding then after
+then-after c x y = λ i. record {
+  report = record { answer = y .report .answer; steps = suc-add (x .report .steps) (y .report .steps) i; counts = counts-assoc c (x .report .counts) (y .report .counts) i; position = y .report .position };
+  tables = y .tables }
+
+then-halt : (T : Tables) (p : Position) (a : ℕ) (y : Run) → then (halt T p a) y ≡ y
+unfolding then halt
+then-halt T p a y = λ i. record {
+  report = record { answer = y .report .answer; steps = zero-add (y .report .steps) i; counts = counts-left (y .report .counts) i; position = y .report .position };
+  tables = y .tables }
+
+-- nothing more is done
+halt-then : (x : Run) → then x (halt (x .tables) (x .report .position) (x .report .answer)) ≡ x
+unfolding then halt
+halt-then x = λ i. record {
+  report = record { answer = x .report .answer; steps = add-zero (x .report .steps) i; counts = counts-right (x .report .counts) i; position = x .report .position };
+  tables = x .tables }
+  where
+    add-zero : (n : ℕ) → n + 0 ≡ n
+    add-zero n = omega arith
+
+module _ (policy : ℕ) (reserve : List OstFid) where
+  go-on : ℕ → Run → Run
+  go-on b x = run policy reserve b (x .tables) (x .report .position)
+
+  pub run-then : (a b : ℕ) (T : Tables) (p : Position) →
+    run policy reserve (a + suc b) T p ≡ then (run policy reserve a T p) (run policy reserve (suc b) (run policy reserve a T p .tables) (run policy reserve a T p .report .position))
+  unfolding run halt onStep after
+  run-then zero b T p = rw zero-add (sym (then-halt T p (cond (isEnd p) 0 1) (run policy reserve (suc b) T p)))
+  run-then (suc a) b T p = rw suc-add (go (isEnd p) refl (stepAt policy reserve T p) refl (λ S. run-then a b S (next S p)))
+    where
+      rest-of : ℕ → Step → Run
+      rest-of n u = onStep T p (λ S. run policy reserve n S (next S p)) u
+      Joins : Run → Run → Type 0
+      Joins whole x = whole ≡ then x (run policy reserve (suc b) (x .tables) (x .report .position))
+      go : (e : Bool) → isEnd p ≡ e → (u : Step) → stepAt policy reserve T p ≡ u → ((S : Tables) → Joins (run policy reserve (a + suc b) S (next S p)) (run policy reserve a S (next S p)))
+        → Joins (cond e (halt T p 0) (rest-of (a + suc b) u)) (cond e (halt T p 0) (rest-of a u))
+      go true q u h ih = sym (then-halt T p 0 (run policy reserve (suc b) T p) ∙ rw q)
+      go false q (stops n) h ih = sym (then-halt T p n (run policy reserve (suc b) T p) ∙ rw (q, h))
+      go false q rests h ih = ap (after noCounts) (ih T) ∙ sym (then-after noCounts _ _)
+      go false q (repairs c ws) h ih = ap (after (countOf c)) (ih (applyWrites ws T)) ∙ sym (then-after (countOf c) _ _)
+
+  -- ## Where a run can go no further
+
+  -- at the end, or at a step that can't be made
+  pub data Final (x : Run) : Type 0 where
+    at-the-end : x .report .position ≡ place 3 0 0 → x .report .answer ≡ 0 → Final x
+    at-a-stop : isEnd (x .report .position) ≡ false → stepAt policy reserve (x .tables) (x .report .position) ≡ stops (x .report .answer) → Final x
+
+  final-run : (x : Run) → Final x → (b : ℕ) → go-on (suc b) x ≡ halt (x .tables) (x .report .position) (x .report .answer)
+  unfolding go-on run isEnd place onStep
+  final-run x (at-the-end e q) b = rw (e, q)
+  final-run x (at-a-stop e q) b = rw (e, q)
+
+  -- more steps come to the same
+  pub final-more : (a b : ℕ) (T : Tables) (p : Position) → Final (run policy reserve a T p) → a ≤ b → run policy reserve b T p ≡ run policy reserve a T p
+  unfolding go-on
+  final-more a b T p f h = go (b - a) refl
+    where
+      go : (d : ℕ) → b - a ≡ d → run policy reserve b T p ≡ run policy reserve a T p
+      go zero e = let q : b ≡ a = omega arith in rw q
+      go (suc d) e =
+          let q : b ≡ a + suc d = omega arith in
+          ap (λ n. run policy reserve n T p) q ∙ run-then a d T p ∙ ap (then (run policy reserve a T p)) (final-run (run policy reserve a T p) f d) ∙ halt-then (run policy reserve a T p)
+
+  -- two runs from one place that are both final are the same
+  pub final-same : (a b : ℕ) (T : Tables) (p : Position) → Final (run policy reserve a T p) → Final (run policy reserve b T p) → run policy reserve a T p ≡ run policy reserve b T p
+  final-same a b T p f g = go (decLt a b)
+    where
+      go : Dec (a < b) → run policy reserve a T p ≡ run policy reserve b T p
+      go (yes h) = sym (final-more a b T p f (omega arith))
+      go (no n) = final-more b a T p g (omega arith)
+
+-- ## The count of steps
+
+-- the steps from a position to the end
+unfoldable pub stepsFrom : Tables → ℕ → ℕ → ℕ
+stepsFrom T r m = (suc (width T r) - m) + rowSteps (drop (suc r) (T .parents)) + length (T .objects)
+
+unfoldable pub stepsLeft : Tables → Position → ℕ
+stepsLeft T p = cond (eqb (p .stage) 1) (stepsFrom T (p .row) (p .part)) (cond (eqb (p .stage) 2) (length (T .objects) - p .row) 0)
+
+rows-from : (l : List ParentRow) (r : ℕ) → r < length l → rowSteps (drop r l) ≡ suc (length (slotsOf (getD l r (noParent [])))) + rowSteps (drop (suc r) l)
+unfolding rowSteps
+rows-from l r h = ap rowSteps (drop-cons l r (noParent []) h)
+
+rows-past : (l : List ParentRow) (r : ℕ) → length l ≤ r → rowSteps (drop r l) ≡ 0
+unfolding rowSteps
+rows-past l r h = ap rowSteps (drop-of-length-le l h)
+
+rows-most : (l : List ParentRow) (r : ℕ) → rowSteps (drop r l) ≤ rowSteps l
+unfolding rowSteps
+rows-most l zero = omega arith
+rows-most [] (suc r) = omega arith
+rows-most (w ∷ l) (suc r) = let h = rows-most l r in omega arith
+
+rows-same : (l m : List ParentRow) → length m ≡ length l → ((k : ℕ) → length (slotsOf (getD m k (noParent []))) ≡ length (slotsOf (getD l k (noParent [])))) → rowSteps m ≡ rowSteps l
+unfolding rowSteps
+rows-same [] [] e w = refl
+rows-same [] (v ∷ m) e w = absurd (omega arith)
+rows-same (u ∷ l) [] e w = absurd (omega arith)
+rows-same (u ∷ l) (v ∷ m) e w = let h = rows-same l m (omega arith) (λ k. w (suc k)) in let z = w 0 in omega arith
+
+module _ (T : Tables) where
+  left-object : (o : ℕ) → stepsLeft T (fromObject T o) ≡ length (T .objects) - o
+  unfolding stepsLeft fromObject place
+  left-object o = go (ltb o (length (T .objects))) refl
+    where
+      go : (b : Bool) → ltb o (length (T .objects)) ≡ b → stepsLeft T (cond b (place 2 o 0) (place 3 0 0)) ≡ length (T .objects) - o
+      go true e = refl
+      go false e = let h = ltb-false o (length (T .objects)) e in omega arith
+
+  left-parent : (r : ℕ) → stepsLeft T (fromParent T r) ≡ rowSteps (drop r (T .parents)) + length (T .objects)
+  unfolding stepsLeft stepsFrom fromParent place width rowAt
+  left-parent r = go (ltb r (length (T .parents))) refl
+    where
+      go : (b : Bool) → ltb r (length (T .parents)) ≡ b → stepsLeft T (cond b (place 1 r 0) (fromObject T 0)) ≡ rowSteps (drop r (T .parents)) + length (T .objects)
+      go true e = let z = rows-from (T .parents) r (ltb-true r (length (T .parents)) e) in omega arith
+      go false e = let z = rows-past (T .parents) r (ltb-false r (length (T .parents)) e) in let o = left-object 0 in omega arith
+
+  left-part : (r m : ℕ) → stepsLeft T (afterPart T r m) ≡ (width T r - m) + rowSteps (drop (suc r) (T .parents)) + length (T .objects)
+  unfolding stepsLeft stepsFrom afterPart place
+  left-part r m = go (ltb m (width T r)) refl
+    where
+      go : (b : Bool) → ltb m (width T r) ≡ b → stepsLeft T (cond b (place 1 r (suc m)) (fromParent T (suc r))) ≡ (width T r - m) + rowSteps (drop (suc r) (T .parents)) + length (T .objects)
+      go true e = omega arith
+      go false e = let h = ltb-false m (width T r) e in let o = left-parent (suc r) in omega arith
+
+  -- each step takes one
+  left-next : {p : Position} → Exists T p → isEnd p ≡ false → stepsLeft T p ≡ suc (stepsLeft T (next T p))
+  unfolding stepsLeft stepsFrom next isEnd
+  left-next (in-parent r m h k) e = let z = left-part r m in omega arith
+  left-next (in-object o h) e = let z = left-object (suc o) in omega arith
+  left-next at-end e = clash refl e
+
+  -- "as many steps as the starting tables give by this count"
+  pub left-start : stepsLeft T (start T) ≡ countSteps T
+  unfolding start countSteps
+  left-start = left-parent 0
+
+  pub left-most : {p : Position} → Exists T p → stepsLeft T p ≤ countSteps T
+  unfolding stepsLeft stepsFrom countSteps width rowAt
+  left-most (in-parent r m h k) = let z = rows-from (T .parents) r h in let y = rows-most (T .parents) r in omega arith
+  left-most (in-object o h) = omega arith
+  left-most at-end = omega arith
+
+left-end : (T : Tables) (p : Position) → isEnd p ≡ true → stepsLeft T p ≡ 0
+unfolding stepsLeft place
+left-end T p e = rw (is-end p e)
+
+-- a step leaves as many steps from its own position
+step-left : (policy : ℕ) (T S : Tables) {p : Position} → Exists T p → Stepped policy T p S → stepsLeft S p ≡ stepsLeft T p
+unfolding stepsLeft stepsFrom width rowAt
+step-left policy T S (in-parent r m h k) s =
+    let rest : rowSteps (drop (suc r) (S .parents)) ≡ rowSteps (drop (suc r) (T .parents)) =
+      rows-same (drop (suc r) (T .parents)) (drop (suc r) (S .parents)) (rw (length-drop, length-drop, s .calm .grows .tall)) (λ l. rw (getD-drop, getD-drop) (s .widths refl (suc r + l))) in
+    let z = s .widths refl r in
+    let y = s .calm .grows .size in
+    omega arith
+step-left policy T S (in-object o h) s = let y = s .calm .grows .size in omega arith
+step-left policy T S at-end s = refl
+
+module _ (policy : ℕ) (reserve : List OstFid) where
+  -- with enough steps a run comes to the end, by exactly as many as were left, or to a step that can't be made
+  pub data Enough (T : Tables) (p : Position) (x : Run) : Type 0 where
+    to-the-end : x .report .position ≡ place 3 0 0 → x .report .answer ≡ 0 → x .report .steps ≡ stepsLeft T p → Enough T p x
+    to-a-stop : isEnd (x .report .position) ≡ false → stepAt policy reserve (x .tables) (x .report .position) ≡ stops (x .report .answer) → (21 ≤ x .report .answer) × (x .report .answer ≤ 23) → Enough T p x
+
+  enough-moved : (T : Tables) (p : Position) (S : Tables) (c : Counts) (x : Run) → stepsLeft T p ≡ suc (stepsLeft S (next S p)) → Enough S (next S p) x → Enough T p (after c x)
+  unfolding after
+  enough-moved T p S c x e (to-the-end a b k) = to-the-end a b (ap suc k ∙ sym e)
+  enough-moved T p S c x e (to-a-stop a b k) = to-a-stop a b k
+
+  pub run-enough : (n : ℕ) (T : Tables) (p : Position) → Distinct T → Exists T p → stepsLeft T p ≤ n → Enough T p (run policy reserve n T p)
+  unfolding run halt
+  run-enough zero T p s v h = go (isEnd p) refl
+    where
+      go : (b : Bool) → isEnd p ≡ b → Enough T p (halt T p (cond b 0 1))
+      go true e = to-the-end (is-end p e) refl (let z = left-end T p e in sym z)
+      go false e = absurd (let z = left-next T v e in omega arith)
+  run-enough (suc n) T p s v h = go (λ S. run-enough n S (next S p)) (one-step policy reserve n T p)
+    where
+      go : {x : Run} {l : List Position} → ((S : Tables) → Distinct S → Exists S (next S p) → stepsLeft S (next S p) ≤ n → Enough S (next S p) (run policy reserve n S (next S p))) → OneStep policy reserve n T p x l → Enough T p x
+      go ih (ended e) = to-the-end (is-end p e) refl (sym (left-end T p e))
+      go ih (stuck a e d) = to-a-stop e d (subst (Makes policy T p) d (step-makes policy reserve T p s))
+      go ih (moved c S e makes) =
+          let m = makes s in
+          let l : stepsLeft T p ≡ suc (stepsLeft S (next S p)) = sym (step-left policy T S v m) ∙ left-next S (grows-exists T S (m .calm .grows) v) e in
+          enough-moved T p S c _ l (ih S (m .calm .sound) (next-exists S p) (omega arith))
