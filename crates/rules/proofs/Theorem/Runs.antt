@@ -279,3 +279,54 @@ module _ (policy : ℕ) (reserve : List OstFid) where
           let m = makes s in
           let l : stepsLeft T p ≡ suc (stepsLeft S (next S p)) = sym (step-left policy T S v m) ∙ left-next S (grows-exists T S (m .calm .grows) v) e in
           enough-moved T p S c _ l (ih S (m .calm .sound) (next-exists S p) (omega arith))
+
+-- ## A run that is taken up again
+
+-- where a run stops, with which tables and which answer
+pub record Stand : Type 0 where
+  pub tables : Tables
+  pub position : Position
+  pub answer : ℕ
+
+abbrev pub stand : Run → Stand
+stand x = record { tables = x .tables; position = x .report .position; answer = x .report .answer }
+
+before-not-end : (T : Tables) (q p : Position) → Exists T p → q ≺ p → isEnd q ≡ false
+unfolding place
+before-not-end T q p v f = never (isEnd q) (λ e. past v (subst (λ (z : Position). z ≺ p) (is-end q e) f))
+  where
+    past : {p : Position} → Exists T p → place 3 0 0 ≺ p → ⊥
+    past (in-parent r m h k) (by-stage g) = omega arith
+    past (in-parent r m h k) (by-row e g) = omega arith
+    past (in-parent r m h k) (by-part e d g) = omega arith
+    past (in-object o h) (by-stage g) = omega arith
+    past (in-object o h) (by-row e g) = omega arith
+    past (in-object o h) (by-part e d g) = omega arith
+    past at-end (by-stage g) = omega arith
+    past at-end (by-row e g) = omega arith
+    past at-end (by-part e d g) = omega arith
+
+module _ (policy : ℕ) (reserve : List OstFid) where
+  -- a run from q, at or before p, all before p being quiet: too short to come to p, or it comes to p with nothing changed and goes on from there
+  pub data Resumed (n : ℕ) (T : Tables) (p q : Position) : Type 0 where
+    short : (z : Position) → Exists T z → z ≺ p → stand (run policy reserve n T q) ≡ record { tables = T; position = z; answer = 1 } → Resumed n T p q
+    through : (m : ℕ) → stand (run policy reserve n T q) ≡ stand (run policy reserve m T p) → Resumed n T p q
+
+  pub resume : (n : ℕ) (T : Tables) (p q : Position) → Done policy T p → Exists T p → Exists T q → q ≼ p → Resumed n T p q
+  unfolding run halt onStep after
+  resume zero T p q d v w f = go (split q p f)
+    where
+      go : Split q p → Resumed zero T p q
+      go (there e) = through 0 (rw e)
+      go (before g) = short q w g (rw (before-not-end T q p v g))
+  resume (suc n) T p q d v w f = go (λ z y g. resume n T p z d v y g) (split q p f)
+    where
+      go : ((z : Position) → Exists T z → z ≼ p → Resumed n T p z) → Split q p → Resumed (suc n) T p q
+      go ih (there e) = through (suc n) (rw e)
+      go ih (before g) = step (ih (next T q) (next-exists T q) (next-least T q w v g))
+        where
+          one : stand (run policy reserve (suc n) T q) ≡ stand (run policy reserve n T (next T q))
+          one = rw (before-not-end T q p v g, quiet-rests policy reserve T q w (d q w g))
+          step : Resumed n T p (next T q) → Resumed (suc n) T p q
+          step (short z y h e) = short z y h (one ∙ e)
+          step (through m e) = through m (one ∙ e)

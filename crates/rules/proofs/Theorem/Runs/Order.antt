@@ -117,6 +117,10 @@ pub data Exists (T : Tables) : Position → Type 0 where
   in-object : (o : ℕ) → o < length (T .objects) → Exists T (record { stage = 2; row = o; part = 0 })
   at-end : Exists T (record { stage = 3; row = 0; part = 0 })
 
+pub end-is-end : isEnd (place 3 0 0) ≡ true
+unfolding isEnd place
+end-is-end = refl
+
 -- by document 01's test
 pub exists-is : (T : Tables) (p : Position) → Exists T p → isPosition T p ≡ true
 unfolding isPosition inStageOne inStageTwo isEnd
