@@ -10,7 +10,7 @@ module _ (policy : ℕ) (reserve : List OstFid) where
     ended : isEnd p ≡ true → OneStep n T p (halt T p 0) (p ∷ [])
     stuck : (a : ℕ) → isEnd p ≡ false → stepAt policy reserve T p ≡ stops a → OneStep n T p (halt T p a) (p ∷ [])
     moved : (c : Counts) (S : Tables) → isEnd p ≡ false → (Distinct T → Stepped policy T p S) →
-      OneStep n T p (after c (run policy reserve n S (next S p))) (p ∷ passed policy reserve n S (next S p))
+        OneStep n T p (after c (run policy reserve n S (next S p))) (p ∷ passed policy reserve n S (next S p))
 
   pub one-step : (n : ℕ) (T : Tables) (p : Position) → OneStep n T p (run policy reserve (suc n) T p) (passed policy reserve (suc n) T p)
   unfolding run passed passedOn onStep
@@ -18,8 +18,9 @@ module _ (policy : ℕ) (reserve : List OstFid) where
     where
       makes : {u : Step} → stepAt policy reserve T p ≡ u → Distinct T → Makes policy T p u
       makes e s = subst (Makes policy T p) e (step-makes policy reserve T p s)
+
       go : (b : Bool) → isEnd p ≡ b → (u : Step) → stepAt policy reserve T p ≡ u →
-        OneStep n T p (cond b (halt T p 0) (onStep T p (λ S. run policy reserve n S (next S p)) u)) (p ∷ cond b [] (passedOn T (λ S. passed policy reserve n S (next S p)) u))
+          OneStep n T p (cond b (halt T p 0) (onStep T p (λ S. run policy reserve n S (next S p)) u)) (p ∷ cond b [] (passedOn T (λ S. passed policy reserve n S (next S p)) u))
       go true q u e = ended q
       go false q rests e = moved noCounts T q (makes e)
       go false q (repairs c ws) e = moved (countOf c) (applyWrites ws T) q (makes e)
@@ -40,21 +41,37 @@ module _ (policy : ℕ) (reserve : List OstFid) where
   ran-halt : (T : Tables) (p : Position) (a : ℕ) → Distinct T → Ran T p (halt T p a) (p ∷ [])
   unfolding halt
   ran-halt T p a s =
-      record { sound = s; stays = stays-refl T; grows = grows-refl T; exists = λ v. v; later = λ v. ≼-refl p;
-        passes = λ v z m. rw (List·Memᴰ·eq-of-singleton m) (v, ≼-refl p); last = List·Memᴰ·head refl; done = λ v d. d }
+      record {
+        sound = s;
+        stays = stays-refl T;
+        grows = grows-refl T;
+        exists = λ v. v;
+        later = λ v. ≼-refl p;
+        passes = λ v z m. rw (List·Memᴰ·eq-of-singleton m) (v, ≼-refl p);
+        last = List·Memᴰ·head refl;
+        done = λ v d. d;
+      }
 
   ran-moved : (T : Tables) (p : Position) (S : Tables) (c : Counts) (x : Run) (l : List Position) → isEnd p ≡ false → Stepped policy T p S → Ran S (next S p) x l → Ran T p (after c x) (p ∷ l)
   unfolding after
   ran-moved T p S c x l e h r =
-      record { sound = r .sound; stays = stays-trans T S (x .tables) (h .calm .stays) (r .stays); grows = grows;
-        exists = λ v. r .exists (next-exists S p); later = later; last = List·Memᴰ·tail (r .last);
+      record {
+        sound = r .sound;
+        stays = stays-trans T S (x .tables) (h .calm .stays) (r .stays);
+        grows = grows;
+        exists = λ v. r .exists (next-exists S p);
+        later = later;
+        last = List·Memᴰ·tail (r .last);
         passes = λ v z m. place-of v z (List·Memᴰ·cases-cons m);
-        done = λ v d. r .done (next-exists S p) (step-done policy T S p v e h d) }
+        done = λ v d. r .done (next-exists S p) (step-done policy T S p v e h d);
+      }
     where
       grows : Grows T (x .tables)
       grows = grows-trans T S (x .tables) (h .calm .grows) (r .grows)
+
       later : Exists T p → p ≼ x .report .position
       later v = ≼-trans (next S p) (x .report .position) (next-later S (grows-exists T S (h .calm .grows) v)) (r .later (next-exists S p))
+
       place-of : Exists T p → (z : Position) → (z ≡ p) ⊎ List·Memᴰ z l → Exists (x .tables) z × z ≼ x .report .position
       place-of v z (inl q) = rw q (grows-exists T (x .tables) grows v, later v)
       place-of v z (inr m) = r .passes (next-exists S p) z m
@@ -93,20 +110,23 @@ then-after : (c : Counts) (x y : Run) → then (after c x) y ≡ after c (then x
 unfolding then after
 then-after c x y = λ i. record {
   report = record { answer = y .report .answer; steps = suc-add (x .report .steps) (y .report .steps) i; counts = counts-assoc c (x .report .counts) (y .report .counts) i; position = y .report .position };
-  tables = y .tables }
+  tables = y .tables;
+}
 
 then-halt : (T : Tables) (p : Position) (a : ℕ) (y : Run) → then (halt T p a) y ≡ y
 unfolding then halt
 then-halt T p a y = λ i. record {
   report = record { answer = y .report .answer; steps = zero-add (y .report .steps) i; counts = counts-left (y .report .counts) i; position = y .report .position };
-  tables = y .tables }
+  tables = y .tables;
+}
 
 -- nothing more is done
 halt-then : (x : Run) → then x (halt (x .tables) (x .report .position) (x .report .answer)) ≡ x
 unfolding then halt
 halt-then x = λ i. record {
   report = record { answer = x .report .answer; steps = add-zero (x .report .steps) i; counts = counts-right (x .report .counts) i; position = x .report .position };
-  tables = x .tables }
+  tables = x .tables;
+}
   where
     add-zero : (n : ℕ) → n + 0 ≡ n
     add-zero n = omega arith
@@ -116,17 +136,19 @@ module _ (policy : ℕ) (reserve : List OstFid) where
   go-on b x = run policy reserve b (x .tables) (x .report .position)
 
   pub run-then : (a b : ℕ) (T : Tables) (p : Position) →
-    run policy reserve (a + suc b) T p ≡ then (run policy reserve a T p) (run policy reserve (suc b) (run policy reserve a T p .tables) (run policy reserve a T p .report .position))
+      run policy reserve (a + suc b) T p ≡ then (run policy reserve a T p) (run policy reserve (suc b) (run policy reserve a T p .tables) (run policy reserve a T p .report .position))
   unfolding run halt onStep after
   run-then zero b T p = rw zero-add (sym (then-halt T p (cond (isEnd p) 0 1) (run policy reserve (suc b) T p)))
   run-then (suc a) b T p = rw suc-add (go (isEnd p) refl (stepAt policy reserve T p) refl (λ S. run-then a b S (next S p)))
     where
       rest-of : ℕ → Step → Run
       rest-of n u = onStep T p (λ S. run policy reserve n S (next S p)) u
+
       Joins : Run → Run → Type 0
       Joins whole x = whole ≡ then x (run policy reserve (suc b) (x .tables) (x .report .position))
+
       go : (e : Bool) → isEnd p ≡ e → (u : Step) → stepAt policy reserve T p ≡ u → ((S : Tables) → Joins (run policy reserve (a + suc b) S (next S p)) (run policy reserve a S (next S p)))
-        → Joins (cond e (halt T p 0) (rest-of (a + suc b) u)) (cond e (halt T p 0) (rest-of a u))
+          → Joins (cond e (halt T p 0) (rest-of (a + suc b) u)) (cond e (halt T p 0) (rest-of a u))
       go true q u h ih = sym (then-halt T p 0 (run policy reserve (suc b) T p) ∙ rw q)
       go false q (stops n) h ih = sym (then-halt T p n (run policy reserve (suc b) T p) ∙ rw (q, h))
       go false q rests h ih = ap (after noCounts) (ih T) ∙ sym (then-after noCounts _ _)
@@ -245,7 +267,7 @@ step-left : (policy : ℕ) (T S : Tables) {p : Position} → Exists T p → Step
 unfolding stepsLeft stepsFrom width rowAt
 step-left policy T S (in-parent r m h k) s =
     let rest : rowSteps (drop (suc r) (S .parents)) ≡ rowSteps (drop (suc r) (T .parents)) =
-      rows-same (drop (suc r) (T .parents)) (drop (suc r) (S .parents)) (rw (length-drop, length-drop, s .calm .grows .tall)) (λ l. rw (getD-drop, getD-drop) (s .widths refl (suc r + l))) in
+    rows-same (drop (suc r) (T .parents)) (drop (suc r) (S .parents)) (rw (length-drop, length-drop, s .calm .grows .tall)) (λ l. rw (getD-drop, getD-drop) (s .widths refl (suc r + l))) in
     let z = s .widths refl r in
     let y = s .calm .grows .size in
     omega arith
@@ -291,7 +313,7 @@ pub record Stand : Type 0 where
 abbrev pub stand : Run → Stand
 stand x = record { tables = x .tables; position = x .report .position; answer = x .report .answer }
 
-before-not-end : (T : Tables) (q p : Position) → Exists T p → q ≺ p → isEnd q ≡ false
+pub before-not-end : (T : Tables) (q p : Position) → Exists T p → q ≺ p → isEnd q ≡ false
 unfolding place
 before-not-end T q p v f = never (isEnd q) (λ e. past v (subst (λ (z : Position). z ≺ p) (is-end q e) f))
   where
@@ -327,6 +349,7 @@ module _ (policy : ℕ) (reserve : List OstFid) where
         where
           one : stand (run policy reserve (suc n) T q) ≡ stand (run policy reserve n T (next T q))
           one = rw (before-not-end T q p v g, quiet-rests policy reserve T q w (d q w g))
+
           step : Resumed n T p (next T q) → Resumed (suc n) T p q
           step (short z y h e) = short z y h (one ∙ e)
           step (through m e) = through m (one ∙ e)

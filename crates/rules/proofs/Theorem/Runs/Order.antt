@@ -103,10 +103,11 @@ split q p f = go (order q p)
 end-numbers : (p : Position) → isEnd p ≡ true → (p .stage ≡ 3) × (p .row ≡ 0) × (p .part ≡ 0)
 unfolding isEnd
 end-numbers p e =
-    let t = and-l (eqb (p .stage) 3 && eqb (p .row) 0) (eqb (p .part) 0) e in
-    ( eqb-true (p .stage) 3 (and-l _ (eqb (p .row) 0) t)
-    , eqb-true (p .row) 0 (and-r (eqb (p .stage) 3) _ t)
-    , eqb-true (p .part) 0 (and-r (eqb (p .stage) 3 && eqb (p .row) 0) _ e))
+    let t = and-l (eqb (p .stage) 3 && eqb (p .row) 0) (eqb (p .part) 0) e in (
+      eqb-true (p .stage) 3 (and-l _ (eqb (p .row) 0) t),
+      eqb-true (p .row) 0 (and-r (eqb (p .stage) 3) _ t),
+      eqb-true (p .part) 0 (and-r (eqb (p .stage) 3 && eqb (p .row) 0) _ e),
+    )
 
 pub is-end : (p : Position) → isEnd p ≡ true → p ≡ place 3 0 0
 unfolding place
@@ -134,19 +135,23 @@ is-exists T p e = go (or-true (eqb (p .stage) 1 && inStageOne T (p .row) (p .par
   where
     at : {a b c : ℕ} → p .stage ≡ a → p .row ≡ b → p .part ≡ c → Exists T (record { stage = a; row = b; part = c }) → Exists T p
     at x y z h = subst (Exists T) (λ i. record { stage = sym x i; row = sym y i; part = sym z i }) h
+
     first-stage : (eqb (p .stage) 1 && inStageOne T (p .row) (p .part)) ≡ true → Exists T p
     first-stage t =
         let u = and-r (eqb (p .stage) 1) _ t in
         at (eqb-true (p .stage) 1 (and-l _ (inStageOne T (p .row) (p .part)) t)) refl refl
         (in-parent (p .row) (p .part) (ltb-true (p .row) (length (T .parents)) (and-l _ (leb (p .part) (width T (p .row))) u)) (leb-true (p .part) (width T (p .row)) (and-r (ltb (p .row) (length (T .parents))) _ u)))
+
     second-stage : (eqb (p .stage) 2 && inStageTwo T (p .row) (p .part)) ≡ true → Exists T p
     second-stage t =
         let u = and-r (eqb (p .stage) 2) _ t in
         at (eqb-true (p .stage) 2 (and-l _ (inStageTwo T (p .row) (p .part)) t)) refl (eqb-true (p .part) 0 (and-r (ltb (p .row) (length (T .objects))) _ u))
         (in-object (p .row) (ltb-true (p .row) (length (T .objects)) (and-l _ (eqb (p .part) 0) u)))
+
     stages : (eqb (p .stage) 1 && inStageOne T (p .row) (p .part) ≡ true) ⊎ (eqb (p .stage) 2 && inStageTwo T (p .row) (p .part) ≡ true) → Exists T p
     stages (inl t) = first-stage t
     stages (inr t) = second-stage t
+
     go : (eqb (p .stage) 1 && inStageOne T (p .row) (p .part) || eqb (p .stage) 2 && inStageTwo T (p .row) (p .part) ≡ true) ⊎ (isEnd p ≡ true) → Exists T p
     go (inl t) = stages (or-true (eqb (p .stage) 1 && inStageOne T (p .row) (p .part)) (eqb (p .stage) 2 && inStageTwo T (p .row) (p .part)) t)
     go (inr t) = let (a, b, c) = end-numbers p t in at a b c at-end
@@ -172,6 +177,7 @@ module _ (T : Tables) where
       far (in-parent r m h k) l f = absurd (let z = from-stage f in omega arith)
       far (in-object u h) l f = absurd (let z = from-row f refl in omega arith)
       far at-end l f = ≼-refl (place 3 0 0)
+
       go : (b : Bool) → ltb o (length (T .objects)) ≡ b → cond b (place 2 o 0) (place 3 0 0) ≼ p
       go true e = f
       go false e = far v (ltb-false o (length (T .objects)) e) f
@@ -184,6 +190,7 @@ module _ (T : Tables) where
       far (in-parent s m h k) l f = absurd (let z = from-row f refl in omega arith)
       far {p} (in-object u h) l f = to-from p (omega arith) (λ e. omega arith) (λ e d. omega arith)
       far at-end l f = by-stage (omega arith)
+
       go : (b : Bool) → ltb r (length (T .parents)) ≡ b → cond b (place 1 r 0) (fromObject T 0) ≼ p
       go true e = f
       go false e = least-object 0 v (far v (ltb-false r (length (T .parents)) e) f)
@@ -198,6 +205,7 @@ module _ (T : Tables) where
       far (in-parent s i h k) l (by-part e d g) = absurd (let z : width T r ≡ width T s = ap (width T) d in omega arith)
       far (in-object u h) l f = by-stage (omega arith)
       far at-end l f = by-stage (omega arith)
+
       go : (b : Bool) → ltb m (width T r) ≡ b → cond b (place 1 r (suc m)) (fromParent T (suc r)) ≼ p
       go true e = f
       go false e = least-parent (suc r) v (far v (ltb-false m (width T r) e) f)
@@ -244,6 +252,7 @@ module _ (T : Tables) where
     where
       far : (p : Position) → From 1 (suc r) 0 p → From 1 r (suc m) p
       far p f = to-from p (from-stage f) (λ e. let z = from-row f e in omega arith) (λ e d. absurd (let z = from-row f e in omega arith))
+
       go : (b : Bool) → ltb m (width T r) ≡ b → Exists T (cond b (place 1 r (suc m)) (fromParent T (suc r))) × From 1 r (suc m) (cond b (place 1 r (suc m)) (fromParent T (suc r)))
       go true e = let h = ltb-true m (width T r) e in (in-parent r (suc m) (row-there T r m h) (omega arith), ≼-refl (place 1 r (suc m)))
       go false e = (at-parent (suc r) .0, far _ (at-parent (suc r) .1))
@@ -298,6 +307,7 @@ step-done policy T S p v e s d q w f = go (order q p)
   where
     g : Grows T S
     g = s .calm .grows
+
     second : (o : ℕ) → From 2 o 1 p → p .stage ≡ 2
     second o f = at v e (from-stage f)
       where
@@ -305,6 +315,7 @@ step-done policy T S p v e s d q w f = go (order q p)
         at (in-parent r m h k) e l = absurd (omega arith)
         at (in-object u h) e l = refl
         at at-end e l = clash refl e
+
     old : {q : Position} → Exists S q → q ≺ p → quietAt policy S q ≡ true
     old (in-parent r zero h k) f = s .calm .headers r (d _ (in-parent r zero (rw (← g .tall) h) (omega arith)) f)
     old (in-parent r (suc j) h k) f = s .calm .parts r j (slots (decLt j (width T r)))
@@ -314,6 +325,7 @@ step-done policy T S p v e s d q w f = go (order q p)
         slots (no n) = slot-absent policy T r j (omega arith)
     old (in-object o h) f = s .rows (second o f) o (d _ (in-object o (rw (← g .size) h)) f)
     old at-end f = refl
+
     go : Order q p → quietAt policy S q ≡ true
     go (sooner h) = old w h
     go (here h) = subst (λ (z : Position). quietAt policy S z ≡ true) (sym h) (s .own)
@@ -339,6 +351,7 @@ quiet-rests policy reserve T p (in-parent r (suc j) h k) q = go (slotAt T r j)
     class f ost OWNER q = clash q refl
     class f ost CLEAN q = refl
     class f ost (UNMATCHED g i) q = clash q refl
+
     go : (s : Slot) → slotStep policy reserve T r j s ≡ rests
     go Hole = refl
     go (Names f n ost) = class f ost (slotClass T r j) q
@@ -351,6 +364,7 @@ quiet-rests policy reserve T p (in-object o h) q = go (objectAt T o)
     class x EMPTY q = rw (not-true (adopts policy) q)
     class x ORPHAN q = rw (not-true (adopts policy) q)
     class x CONFLICT q = refl
+
     go : (w : ObjectRow) → objectStep policy T o w ≡ rests
     go (noObject b) = refl
     go (object x) = class x (objectClass T o) q

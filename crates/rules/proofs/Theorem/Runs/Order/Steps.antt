@@ -31,18 +31,23 @@ way-means T f i = low (ltb i maxSlots)
     taking : (r : ℕ) (g : OstFid) (n m : ℕ) → isParent f (rowAt T r) ≡ true → i < width T r → slotAt T r i ≡ Names g n m → (b : Bool) → takeable T f g r i (objectOf T g) ≡ b → Means T f i (cond b (Take r) NoWay)
     taking r g n m e h q true t = to-take g n m e h q t
     taking r g n m e h q false t = none-at-all
+
     slots : (r : ℕ) → isParent f (rowAt T r) ≡ true → i < width T r → (s : Slot) → slotAt T r i ≡ s → Means T f i (slotWay T f r i s)
     slots r e h Hole q = to-fill e h q
     slots r e h (Names g n m) q = taking r g n m e h q (takeable T f g r i (objectOf T g)) refl
+
     growing : (r : ℕ) → isParent f (rowAt T r) ≡ true → width T r ≤ i → (b : Bool) → holesIn (rowAt T r) ≡ b → Means T f i (cond b (Grow r) NoWay)
     growing r e h true q = to-grow e h q
     growing r e h false q = none-at-all
+
     wide : (r : ℕ) → isParent f (rowAt T r) ≡ true → (b : Bool) → ltb i (width T r) ≡ b → Means T f i (cond b (slotWay T f r i (slotAt T r i)) (cond (holesIn (rowAt T r)) (Grow r) NoWay))
     wide r e true q = slots r e (ltb-true i (width T r) q) (slotAt T r i) refl
     wide r e false q = growing r e (ltb-false i (width T r) q) (holesIn (rowAt T r)) refl
+
     found-row : {a : Row} → First (λ r. isParent f (rowAt T r)) a → Means T f i (rowWay T f i a)
     found-row (absent n) = to-make n
     found-row (found {i = r} t n) = wide r t (ltb i (width T r)) refl
+
     low : (b : Bool) → Means T f i (cond b (rowWay T f i (parentRow T f)) NoWay)
     low true = found-row (parent-first T f)
     low false = none-at-all
@@ -93,31 +98,51 @@ module _ (policy : ℕ) (T : Tables) (o i : ℕ) (x : Object) (f : MdtFid) (soun
   pub ready-fill : (r : ℕ) → isParent f (rowAt T r) ≡ true → i < width T r → slotAt T r i ≡ Hole → Ready policy T T o r i x
   unfolding namesAt slotNames
   ready-fill r e h q =
-      record { sound = sound; stays = stays-refl T; grows = grows-refl T; holds = holds; inside = parent-inside T f r e; within = h;
+      record {
+        sound = sound;
+        stays = stays-refl T;
+        grows = grows-refl T;
+        holds = holds;
+        inside = parent-inside T f r e;
+        within = h;
         claimed = claim ∙ ap (λ v. Claims v i) (sym (parent-self f (rowAt T r) e));
         unnamed = named-none T (x .fid) unnamed;
-        lonely = λ g k l t u. clash t (rw q); gone = λ g t k. clash t (rw q);
-        headers = λ k d. d; others = λ k l n. refl; rows = λ k n d. d }
+        lonely = λ g k l t u. clash t (rw q);
+        gone = λ g t k. clash t (rw q);
+        headers = λ k d. d;
+        others = λ k l n. refl;
+        rows = λ k n d. d;
+      }
 
   -- row r becomes w, which has the same slots up to holes, and a Hole at i
   module _ (r : ℕ) (w : ParentRow) (h : r < length (T .parents)) (same : (j : ℕ) → getD (slotsOf w) j Hole ≡ slotAt T r j) (like : (g : OstFid) (j : ℕ) → namesAt T g r j ≡ true → RowLike w (rowAt T r))
-    (one : OneParent (putParent T r w)) (more : (g : MdtFid) → isParent g (rowAt T r) ≡ true → (isParent g w ≡ true) × (holesIn (rowAt T r) ≡ true) × (length (slotsOf (rowAt T r)) ≤ length (slotsOf w)))
-    (wide : length (slotsOf (rowAt T r)) ≤ length (slotsOf w)) (isF : isParent f w ≡ true) (within : i < length (slotsOf w)) (q : slotAt T r i ≡ Hole) (right : headerQuiet (rowAt T r) ≡ true → headerQuiet w ≡ true) where
+      (one : OneParent (putParent T r w)) (more : (g : MdtFid) → isParent g (rowAt T r) ≡ true → (isParent g w ≡ true) × (holesIn (rowAt T r) ≡ true) × (length (slotsOf (rowAt T r)) ≤ length (slotsOf w)))
+      (wide : length (slotsOf (rowAt T r)) ≤ length (slotsOf w)) (isF : isParent f w ≡ true) (within : i < length (slotsOf w)) (q : slotAt T r i ≡ Hole) (right : headerQuiet (rowAt T r) ≡ true → headerQuiet w ≡ true) where
     ready-row : Ready policy T (putParent T r w) o r i x
     unfolding namesAt slotNames objectAt putParent rowAt width NotDestroyed
     ready-row =
-        record { sound = record { parents = one; objects = sound .objects }; stays = stays-refl T; grows = record { tall = length-set (T .parents) r w; wider = λ k. set-pointwise (T .parents) r w (noParent []) (λ v. length (slotsOf (rowAt T k)) ≤ length (slotsOf v)) k (λ e. rw e (omega arith)) (λ e. rw e wide) (λ n. omega arith); size = refl }; holds = holds; inside = rw length-set h; within = rw (row-same T r w h) within;
+        record {
+          sound = record { parents = one; objects = sound .objects };
+          stays = stays-refl T;
+          grows = record { tall = length-set (T .parents) r w; wider = λ k. set-pointwise (T .parents) r w (noParent []) (λ v. length (slotsOf (rowAt T k)) ≤ length (slotsOf v)) k (λ e. rw e (omega arith)) (λ e. rw e wide) (λ n. omega arith); size = refl };
+          holds = holds;
+          inside = rw length-set h;
+          within = rw (row-same T r w h) within;
           claimed = claim ∙ ap (λ v. Claims v i) (sym (ap selfOf (row-same T r w h) ∙ parent-self f w isF));
           unnamed = λ k l. row-names T r w same like (x .fid) k l ∙ named-none T (x .fid) unnamed k l;
-          lonely = λ g k l t u. clash t (no-name g); gone = λ g t k. clash t (no-name g);
+          lonely = λ g k l t u. clash t (no-name g);
+          gone = λ g t k. clash t (no-name g);
           headers = λ k d. set-pointwise (T .parents) r w (noParent []) (λ v. headerQuiet v ≡ true) k (λ e. rw (← e) d) (λ e. right (rw (← e) d)) (λ n. d);
           others = λ k l n. row-others T r w same like k l;
-          rows = λ k n d. quiet-same policy T S k (less-row T r w same like one more) refl (λ y e t. names y (named-elim T (y .fid) t)) d }
+          rows = λ k n d. quiet-same policy T S k (less-row T r w same like one more) refl (λ y e t. names y (named-elim T (y .fid) t)) d;
+        }
       where
         S : Tables
         S = putParent T r w
+
         no-name : (g : OstFid) → namesAt S g r i ≡ false
         no-name g = row-names T r w same like g r i ∙ ap (slotNames g) q
+
         names : (y : Object) → (k : ℕ) × (l : ℕ) × (namesAt T (y .fid) k l ≡ true) → named S (y .fid) ≡ true
         names y (k, l, t) = named-intro S (y .fid) k l (row-names T r w same like (y .fid) k l ∙ t)
 
@@ -134,12 +159,16 @@ module _ (policy : ℕ) (T : Tables) (o i : ℕ) (x : Object) (f : MdtFid) (soun
     where
       n : ℕ
       n = suc i - length (slotsOf (rowAt T r))
+
       t : List ℕ
       t = drop (24 * n) (tailOf (rowAt T r))
+
       w : ParentRow
       w = withSlots (rowAt T r) (slotsOf (rowAt T r) ++ replicate n Hole) t
+
       wide : length (slotsOf w) ≡ length (slotsOf (rowAt T r)) + n
       wide = pad-width f (rowAt T r) t n e
+
       back : (g : MdtFid) (a : ℕ) → isParent g (rowAt (putParent T r w) a) ≡ true → isParent g (rowAt T a) ≡ true
       back g a t = sym (row-frame (isParent g) T r w (with-like (rowAt T r) _ _ .parent g) a) ∙ t
 
@@ -154,15 +183,18 @@ module _ (policy : ℕ) (T : Tables) (o i : ℕ) (x : Object) (f : MdtFid) (soun
     where
       w : ParentRow
       w = made f i (x .owner) (tailOf (rowAt T r))
+
       one : OneParent (putParent T r w)
       one a b g p t = go (ℕ-discrete a r) (ℕ-discrete b r)
         where
           old : (c : ℕ) → (c ≡ r → ⊥) → isParent g (rowAt (putParent T r w) c) ≡ true → isParent g (rowAt T c) ≡ true
           old c n u = sym (ap (isParent g) (row-other T r w c n)) ∙ u
+
           new : (c d : ℕ) → c ≡ r → isParent g (rowAt (putParent T r w) c) ≡ true → isParent g (rowAt T d) ≡ true → ⊥
           new c d z u v =
               let y : f ≡ g = mdt-true f g (rw (z, row-same T r w h) at u) in
               clash v (rw (← y) (q d))
+
           go : Dec (a ≡ r) → Dec (b ≡ r) → a ≡ b
           go (yes y) (yes z) = y ∙ sym z
           go (yes y) (no n) = absurd (new a b y p (old b n t))
@@ -172,29 +204,40 @@ module _ (policy : ℕ) (T : Tables) (o i : ℕ) (x : Object) (f : MdtFid) (soun
   pub ready-take : (r q : ℕ) (g : OstFid) (n m : ℕ) → isParent f (rowAt T r) ≡ true → i < width T r → slotAt T r i ≡ Names g n m → takeable T f g r i (objectOf T g) ≡ true → x .fresh ≡ false → objectRow T g ≡ RowIs q → Ready policy T (putObject T q destroyed) o r i x
   unfolding objectAt putObject rowAt slotAt width namesAt isObject slotNames objectOf objectInRow objectIn takeable named scan isFreeObject destroyed
   ready-take r q g n m e h d t stays w =
-      record { sound = record { parents = sound .parents; objects = λ a b c u v. sound .objects a b c (back a c u) (back b c v) };
-        stays = stays-put T q destroyed (λ z a b. clash (fresh-q z a) b); grows = grows-put T q destroyed;
-        holds = getD-set-other (T .objects) q o destroyed (noObject []) apart ∙ holds; inside = parent-inside T f r e; within = h;
+      record {
+        sound = record { parents = sound .parents; objects = λ a b c u v. sound .objects a b c (back a c u) (back b c v) };
+        stays = stays-put T q destroyed (λ z a b. clash (fresh-q z a) b);
+        grows = grows-put T q destroyed;
+        holds = getD-set-other (T .objects) q o destroyed (noObject []) apart ∙ holds;
+        inside = parent-inside T f r e;
+        within = h;
         claimed = claim ∙ ap (λ v. Claims v i) (sym (parent-self f (rowAt T r) e));
         unnamed = named-none T (x .fid) unnamed;
         lonely = λ c k l u v. only k l (rw (is-g c u) at v);
         gone = λ c u k. rw (is-g c u) (drop-none T q g (sound .objects) at-q k);
         headers = λ k z. z;
         others = λ k l z. object-others T q destroyed k l (λ c u. (never (isObject c (objectAt T q)) (λ v. let y = only k l (rw (one-fid T q g c at-q v) at u) in z (y .0) (y .1)), refl));
-        rows = λ k z y. row-quiet k y (ℕ-discrete k q) }
+        rows = λ k z y. row-quiet k y (ℕ-discrete k q);
+      }
     where
       at-q : isObject g (objectAt T q) ≡ true
       at-q = object-found T g w
+
       g-here : namesAt T g r i ≡ true
       g-here = ap (slotNames g) d ∙ fid-refl (g .0)
+
       is-g : (c : OstFid) → namesAt T c r i ≡ true → c ≡ g
       is-g c u = one-name T g c r i g-here u
+
       back : (a : ℕ) (c : OstFid) → isObject c (objectAt (putObject T q destroyed) a) ≡ true → isObject c (objectAt T a) ≡ true
       back a c = set-pointwise (T .objects) q destroyed (noObject []) (λ v. isObject c v ≡ true → isObject c (objectAt T a) ≡ true) a (λ y u. rw y u) (λ y u. clash u refl) (λ y u. u)
+
       fresh-q : (z : Object) → objectAt T q ≡ object z → z .fresh ≡ true
       fresh-q z a = take-fresh T f g r i q z t w a
+
       apart : o ≡ q → ⊥
       apart y = clash (fresh-q x (rw (← y) holds)) stays
+
       only : (k l : ℕ) → namesAt T g k l ≡ true → (k ≡ r) × (l ≡ i)
       only k l u = go (ℕ-discrete k r) (ℕ-discrete l i)
         where
@@ -202,6 +245,7 @@ module _ (policy : ℕ) (T : Tables) (o i : ℕ) (x : Object) (f : MdtFid) (soun
           go (yes y) (yes z) = (y, z)
           go (yes y) (no z) = clash (else-intro T g r i k l u (λ a b. z b)) (take-else T f g r i (objectOf T g) t)
           go (no y) z = clash (else-intro T g r i k l u (λ a b. y a)) (take-else T f g r i (objectOf T g) t)
+
       row-quiet : (k : ℕ) → quietObject policy (objectClass T k) ≡ true → Dec (k ≡ q) → quietObject policy (objectClass (putObject T q destroyed) k) ≡ true
       row-quiet k y (yes z) = quiet-free policy T (putObject T q destroyed) k (rw z (ap isFreeObject (getD-set-same (T .objects) q destroyed (noObject []) (object-inside T g q at-q))))
       row-quiet k y (no z) = quiet-same policy T (putObject T q destroyed) k (less-drop T q (sound .parents) (sound .objects)) (getD-set-other (T .objects) q k destroyed (noObject []) z) (λ v a b. b) y
@@ -224,14 +268,20 @@ module _ (policy : ℕ) (T : Tables) (o : ℕ) (x : Object) (sound : Distinct T)
   drop-calm : Calm policy T (putObject T o destroyed)
   unfolding objectAt putObject rowAt isObject named scan namesAt slotAt width destroyed
   drop-calm =
-      record { first = record { sound = record { parents = sound .parents; objects = λ a b c u v. sound .objects a b c (back a c u) (back b c v) };
-          stays = stays-put T o destroyed (λ z a b. let q : z ≡ x = cc in clash fresh (rw q at b)); grows = grows-put T o destroyed;
+      record {
+        first = record {
+          sound = record { parents = sound .parents; objects = λ a b c u v. sound .objects a b c (back a c u) (back b c v) };
+          stays = stays-put T o destroyed (λ z a b. let q : z ≡ x = cc in clash fresh (rw q at b));
+          grows = grows-put T o destroyed;
           headers = λ k e. e;
-          parts = λ k i e. rw (drop-others k i) e };
-        rows = λ k e. go k e (ℕ-discrete k o) }
+          parts = λ k i e. rw (drop-others k i) e;
+        };
+        rows = λ k e. go k e (ℕ-discrete k o);
+      }
     where
       back : (a : ℕ) (c : OstFid) → isObject c (objectAt (putObject T o destroyed) a) ≡ true → isObject c (objectAt T a) ≡ true
       back a c = set-pointwise (T .objects) o destroyed (noObject []) (λ v. isObject c v ≡ true → isObject c (objectAt T a) ≡ true) a (λ y u. rw y u) (λ y u. clash u refl) (λ y u. u)
+
       go : (k : ℕ) → quietObject policy (objectClass T k) ≡ true → Dec (k ≡ o) → quietObject policy (objectClass (putObject T o destroyed) k) ≡ true
       go k e (yes z) = rw z drop-own
       go k e (no z) = quiet-same policy T (putObject T o destroyed) k (less-drop T o (sound .parents) (sound .objects)) (getD-set-other (T .objects) o k destroyed (noObject []) z) (λ v a b. b) e
@@ -295,6 +345,7 @@ settle-row T o r i x w inside holds =
   where
     same : rowAt (putParent T r w) r ≡ w
     same = row-same T r w inside
+
     twice : putParent T r (withSlot w i (slotFor x)) ≡ putParent (putParent T r w) r (withSlot w i (slotFor x))
     twice = λ k. record { parents = sym (set-set (T .parents) r w (withSlot w i (slotFor x))) k; objects = T .objects }
 
@@ -336,8 +387,13 @@ module _ (policy : ℕ) (T : Tables) (sound : Distinct T) (o m : ℕ) (x : Objec
   unfolding quietAt place OthersKeepClass OwnSlot claimIn objectIn settled putObject rowAt
   settled-step U r i ready stays =
       let c = settled-calm policy T U o r i x ready stays in
-      record { calm = c .first; rows = λ e. c .rows; own = settled-row policy T U o r i x ready stays; widths = λ e k. absurd (omega arith);
-        others = λ k l n. settled-keeps policy T U o r i x ready stays k l (λ e d. n (inr (refl, mine k l e d))) }
+      record {
+        calm = c .first;
+        rows = λ e. c .rows;
+        own = settled-row policy T U o r i x ready stays;
+        widths = λ e k. absurd (omega arith);
+        others = λ k l n. settled-keeps policy T U o r i x ready stays k l (λ e d. n (inr (refl, mine k l e d)));
+      }
     where
       mine : (k l : ℕ) → k ≡ r → l ≡ i → claimIs (claimIn (objectIn (objectAt T o))) (selfOf (rowAt (settled U o x r i) k)) l ≡ true
       mine k l e d = rw (e, d, holds) (claim-here (x .claim) (selfOf (rowAt (settled U o x r i) r)) i (ready .claimed ∙ ap (λ v. Claims v i) (sym (self-slot U r i (slotFor x) r))))
@@ -346,8 +402,13 @@ module _ (policy : ℕ) (T : Tables) (sound : Distinct T) (o m : ℕ) (x : Objec
   unfolding quietAt place OthersKeepClass
   destroy-step unnamed fresh =
       let c = drop-calm policy T o x sound holds unnamed fresh in
-      record { calm = c .first; rows = λ e. c .rows; own = drop-own policy T o x sound holds unnamed fresh; widths = λ e k. absurd (omega arith);
-        others = λ k i n. drop-others policy T o x sound holds unnamed fresh k i }
+      record {
+        calm = c .first;
+        rows = λ e. c .rows;
+        own = drop-own policy T o x sound holds unnamed fresh;
+        widths = λ e k. absurd (omega arith);
+        others = λ k i n. drop-others policy T o x sound holds unnamed fresh k i;
+      }
 
   -- what the classes say of an object
   orphan-means : objectClass T o ≡ ORPHAN → (f : MdtFid) × (i : ℕ) × (x .claim ≡ Claims f i) × (named T (x .fid) ≡ false) × (x .fresh ≡ false) × (isWay (way T f i) ≡ true)
@@ -388,7 +449,7 @@ module _ (policy : ℕ) (T : Tables) (sound : Distinct T) (o m : ℕ) (x : Objec
         (settled-step (putParent T r (made f i (x .owner) (tailOf (rowAt T r)))) r i (ready-make policy T o i x f sound holds claim unnamed r (free .0 .0) (free .0 .1) (free .1) n) stays)
 
     take-step : (r : ℕ) (g : OstFid) (n l : ℕ) → isParent f (rowAt T r) ≡ true → i < width T r → slotAt T r i ≡ Names g n l → takeable T f g r i (objectOf T g) ≡ true → (a : Row) → objectRow T g ≡ a
-      → Stepped policy T (place 2 o m) (applyWrites (settle o x r i (rowAt T r) ++ destroyAt a) T)
+        → Stepped policy T (place 2 o m) (applyWrites (settle o x r i (rowAt T r) ++ destroyAt a) T)
     unfolding takeable objectOf objectInRow
     take-step r g n l p h q t NoRow z = clash t (rw z)
     take-step r g n l p h q t (RowIs k) z =
@@ -432,14 +493,22 @@ module _ (policy : ℕ) (T : Tables) (sound : Distinct T) (o m : ℕ) (x : Objec
 
 -- every slot but (r, j) keeps its class, and (r, j) becomes clean
 slot-stepped : (policy : ℕ) (T S : Tables) (r j : ℕ) → Distinct S → NotDestroyed T S → length (S .parents) ≡ length (T .parents) → ((k : ℕ) → width S k ≡ width T k) → length (S .objects) ≡ length (T .objects)
-  → ((k : ℕ) → headerQuiet (rowAt S k) ≡ headerQuiet (rowAt T k)) → ((k i : ℕ) → (k ≡ r → i ≡ j → ⊥) → slotClass S k i ≡ slotClass T k i) → slotClass S r j ≡ CLEAN → Stepped policy T (place 1 r (suc j)) S
+    → ((k : ℕ) → headerQuiet (rowAt S k) ≡ headerQuiet (rowAt T k)) → ((k i : ℕ) → (k ≡ r → i ≡ j → ⊥) → slotClass S k i ≡ slotClass T k i) → slotClass S r j ≡ CLEAN → Stepped policy T (place 1 r (suc j)) S
 unfolding quietSlot quietAt quietPart place OthersKeepClass OwnSlot
 slot-stepped policy T S r j sound stays tall widths size headers others here =
     record {
-      calm = record { sound = sound; stays = stays; grows = record { tall = tall; wider = λ k. let z = widths k in omega arith; size = size };
-        headers = λ k e. headers k ∙ e; parts = λ k i e. go k i e (ℕ-discrete k r) (ℕ-discrete i j) };
-      rows = λ e. absurd (omega arith); own = rw here; widths = λ e. widths;
-      others = λ k i n. others k i (λ p q. n (inl (λ z. record { stage = 1; row = sym p z; part = suc (sym q z) }))) }
+      calm = record {
+        sound = sound;
+        stays = stays;
+        grows = record { tall = tall; wider = λ k. let z = widths k in omega arith; size = size };
+        headers = λ k e. headers k ∙ e;
+        parts = λ k i e. go k i e (ℕ-discrete k r) (ℕ-discrete i j);
+      };
+      rows = λ e. absurd (omega arith);
+      own = rw here;
+      widths = λ e. widths;
+      others = λ k i n. others k i (λ p q. n (inl (λ z. record { stage = 1; row = sym p z; part = suc (sym q z) })));
+    }
   where
     go : (k i : ℕ) → quietSlot policy (slotClass T k i) ≡ true → Dec (k ≡ r) → Dec (i ≡ j) → quietSlot policy (slotClass S k i) ≡ true
     go k i e (yes p) (yes q) = rw (p, q, here)
@@ -453,10 +522,13 @@ one-put T o x one alone a b g p q = go (ℕ-discrete a o) (ℕ-discrete b o)
   where
     S : Tables
     S = putObject T o (object x)
+
     old : (c : ℕ) → (c ≡ o → ⊥) → isObject g (objectAt S c) ≡ true → isObject g (objectAt T c) ≡ true
     old c n u = rw (getD-set-other (T .objects) o c (object x) (noObject []) n) at u
+
     new : (c d : ℕ) → c ≡ o → (d ≡ o → ⊥) → isObject g (objectAt S c) ≡ true → isObject g (objectAt T d) ≡ true → ⊥
     new c d z n u v = n (set-pointwise (T .objects) o (object x) (noObject []) (λ w. isObject g w ≡ true → d ≡ o) c (λ e t. one d o g v t) (λ e t. alone d (rw (ost-true (x .fid) g t) v)) (λ m t. absurd (m z)) u)
+
     go : Dec (a ≡ o) → Dec (b ≡ o) → a ≡ b
     go (yes y) (yes z) = y ∙ sym z
     go (yes y) (no n) = absurd (new a b y n p (old b n q))
@@ -488,6 +560,7 @@ lost-none T f e k = go (objectRow T f) refl e
     row : (w : ObjectRow) → isObject f w ≡ true → objectIn w ≡ Missing → isObject f (objectAt T k) ≡ false
     row (noObject b) t e = clash t refl
     row (object x) t e = let z : _≡_ {A = ℕ} 0 1 = cc in absurd (omega arith)
+
     go : (a : Row) → objectRow T f ≡ a → objectInRow (T .objects) a ≡ Missing → isObject f (objectAt T k) ≡ false
     go NoRow q e = object-missing T f q k
     go (RowIs o) q e = row (objectAt T o) (object-found T f q) e
@@ -514,8 +587,8 @@ module _ (policy : ℕ) (reserve : List OstFid) (T : Tables) (sound : Distinct T
 
   -- row o comes to hold the keeper's object, with the claim and the owner of its slot
   put-step : (o : ℕ) (x : Object) → keeper T f ≡ At r j → o < length (T .objects) → x .fid ≡ f → x .claim ≡ Claims (selfOf (rowAt T r)) j → x .owner ≡ ownerOf (rowAt T r)
-    → ((g : OstFid) → isObject g (objectAt T o) ≡ true → g ≡ f) → ((k : ℕ) → isObject f (objectAt T k) ≡ true → k ≡ o)
-    → ((z : Object) → objectAt T o ≡ object z → z .fresh ≡ false → (x .fid ≡ z .fid) × (x .fresh ≡ false)) → Stepped policy T (place 1 r (suc j)) (putObject T o (object x))
+      → ((g : OstFid) → isObject g (objectAt T o) ≡ true → g ≡ f) → ((k : ℕ) → isObject f (objectAt T k) ≡ true → k ≡ o)
+      → ((z : Object) → objectAt T o ≡ object z → z .fresh ≡ false → (x .fid ≡ z .fid) × (x .fresh ≡ false)) → Stepped policy T (place 1 r (suc j)) (putObject T o (object x))
   unfolding rowAt putObject width
   put-step o x keeps inside is claimed owned held alone old =
       slot-stepped policy T (putObject T o (object x)) r j (record { parents = sound .parents; objects = one-put T o x (sound .objects) (λ k t. alone k (rw (← is) t)) })
@@ -525,8 +598,8 @@ module _ (policy : ℕ) (reserve : List OstFid) (T : Tables) (sound : Distinct T
 
   -- the object in its row gets other content: claim and owner are then right, FID and fresh mark stay
   rewrite-step : (c : Repair) (h : Object → Object) → keeper T f ≡ At r j → ((x : Object) → (h x .fid ≡ x .fid) × (h x .fresh ≡ x .fresh) × (h x .owner ≡ ownerOf (rowAt T r)))
-    → ((x : Object) → objectOf T f ≡ Present x → h x .claim ≡ Claims (selfOf (rowAt T r)) j) → (y : Object) → objectOf T f ≡ Present y
-    → Makes policy T (place 1 r (suc j)) (rewriteAt T c h (objectRow T f))
+      → ((x : Object) → objectOf T f ≡ Present x → h x .claim ≡ Claims (selfOf (rowAt T r)) j) → (y : Object) → objectOf T f ≡ Present y
+      → Makes policy T (place 1 r (suc j)) (rewriteAt T c h (objectRow T f))
   unfolding rewriteAt rewrite objectOf objectInRow objectIn isObject objectAt applyWrites applyWrite
   rewrite-step c h keeps same claimed y has = go (objectRow T f) refl has
     where
@@ -537,6 +610,7 @@ module _ (policy : ℕ) (reserve : List OstFid) (T : Tables) (sound : Distinct T
           let s = same x in
           put-step o (h x) keeps (object-inside T f o here) (s .0 ∙ ost-true (x .fid) f t) (claimed x (rw (q, d))) (s .2) (λ g u. one-fid T o f g here u) (λ k u. sound .objects k o f u here)
           (λ z a b. let y : z ≡ x = cc in (s .0 ∙ ap (λ v. v .fid) (sym y), s .1 ∙ ap (λ v. v .fresh) (sym y) ∙ b))
+
       go : (a : Row) → objectRow T f ≡ a → objectInRow (T .objects) a ≡ Present y → Makes policy T (place 1 r (suc j)) (rewriteAt T c h a)
       go NoRow q e = let z : _≡_ {A = ℕ} 0 1 = cc in absurd (omega arith)
       go (RowIs o) q e = write o q (objectAt T o) refl (object-found T f q)
@@ -555,6 +629,7 @@ module _ (policy : ℕ) (reserve : List OstFid) (T : Tables) (sound : Distinct T
     where
       new : OstFid → Object
       new g = newObject T g r j ost
+
       put : (g : OstFid) → usable T reserve ≡ Takes g → (a : Row) → freeObject T ≡ a → Makes policy T (place 1 r (suc j)) (redirectTo T r j ost g a)
       put g q NoRow d = (omega arith, omega arith)
       put g q (RowIs o) d =
@@ -570,6 +645,7 @@ module _ (policy : ℕ) (reserve : List OstFid) (T : Tables) (sound : Distinct T
         where
           redirect-stays : (o : ℕ) (g : OstFid) → ((h : OstFid) → isObject h (objectAt T o) ≡ false) → NotDestroyed T (putSlot (putObject T o (object (new g))) r j (Names g 0 ost))
           redirect-stays o g free = stays-slot T (putObject T o (object (new g))) r j (Names g 0 ost) (stays-put T o (object (new g)) (λ z a b. clash (rw (a, fid-refl (z .fid .0))) (free (z .fid))))
+
       go : (a : Usable) → usable T reserve ≡ a → Makes policy T (place 1 r (suc j)) (redirect T r j ost a)
       go UsedUp q = (omega arith, omega arith)
       go (Takes g) q = put g q (freeObject T) refl
@@ -588,14 +664,19 @@ module _ (policy : ℕ) (reserve : List OstFid) (T : Tables) (sound : Distinct T
     where
       self : MdtFid
       self = selfOf (rowAt T r)
+
       owner : Owner
       owner = ownerOf (rowAt T r)
+
       class : slotClass T r j ≡ cond (isPlace (keeper T f) r j) (keeperClass self owner j (objectOf T f)) MULTIPLE
       class = ap (slotClassOf T r j) at
+
       Repaired : SlotClass → Type 0
       Repaired k = Makes policy T (place 1 r (suc j)) (repairSlot policy reserve T r j f ost k)
+
       back : {k : SlotClass} → slotClass T r j ≡ k → Repaired k → Repaired (slotClass T r j)
       back q h = subst Repaired (sym q) h
+
       claim-case : (x : Object) → keeper T f ≡ At r j → objectOf T f ≡ Present x → (k : Claim) → x .claim ≡ k → slotClass T r j ≡ claimClass self j (sameOwner (x .owner) owner) k → Repaired (claimClass self j (sameOwner (x .owner) owner) k)
       claim-case x keeps has Unclaimed ek q = claim-step OfBlank x keeps has
       claim-case x keeps has (Claims g i) ek q = right (claimIs (Claims g i) self j) refl (sameOwner (x .owner) owner) q
@@ -604,6 +685,7 @@ module _ (policy : ℕ) (reserve : List OstFid) (T : Tables) (sound : Distinct T
           right true ea true q = slot-rests (rw q)
           right true ea false q = owner-step x keeps has (ek ∙ claim-means g i self j ea)
           right false ea b q = claim-step OfUnmatched x keeps has
+
       kept-case : keeper T f ≡ At r j → (x : Lookup) → objectOf T f ≡ x → slotClass T r j ≡ keeperClass self owner j x → Repaired (keeperClass self owner j x)
       kept-case keeps Missing has q = dangling (creates policy) refl
         where
@@ -611,6 +693,7 @@ module _ (policy : ℕ) (reserve : List OstFid) (T : Tables) (sound : Distinct T
           dangling true p = dangling-step keeps has (freeObject T) refl
           dangling false p = slot-rests (rw (q, p))
       kept-case keeps (Present x) has q = claim-case x keeps has (x .claim) refl q
+
       first-case : (b : Bool) → isPlace (keeper T f) r j ≡ b → slotClass T r j ≡ cond b (keeperClass self owner j (objectOf T f)) MULTIPLE → Repaired (slotClass T r j)
       first-case false p q = back q (multiple (creates policy) refl)
         where
@@ -646,21 +729,32 @@ header-written policy T r sound =
     record {
       calm = record {
         sound = record { parents = λ a b f p q. sound .parents a b f (back f a p) (back f b q); objects = sound .objects };
-        stays = stays-row T r w; grows = record { tall = length-set (T .parents) r w; wider = λ k. let z = widths k in omega arith; size = refl };
+        stays = stays-row T r w;
+        grows = record { tall = length-set (T .parents) r w; wider = λ k. let z = widths k in omega arith; size = refl };
         headers = λ k d. set-pointwise (T .parents) r w (noParent []) (λ v. headerQuiet v ≡ true) k (λ z. rw (← z) d) (λ z. own-right (rowAt T r)) (λ m. d);
-        parts = λ k i d. rw (others k i) d };
-      rows = λ e. absurd (omega arith); own = here (decLt r (length (T .parents))); others = λ k i n. others k i; widths = λ e. widths }
+        parts = λ k i d. rw (others k i) d;
+      };
+      rows = λ e. absurd (omega arith);
+      own = here (decLt r (length (T .parents)));
+      others = λ k i n. others k i;
+      widths = λ e. widths;
+    }
   where
     w : ParentRow
     w = withOwn (rowAt T r)
+
     U : Tables
     U = putParent T r w
+
     back : (f : MdtFid) (a : ℕ) → isParent f (rowAt U a) ≡ true → isParent f (rowAt T a) ≡ true
     back f a p = sym (row-frame (isParent f) T r w (own-like (rowAt T r) .parent f) a) ∙ p
+
     widths : (k : ℕ) → width U k ≡ width T k
     widths k = row-frame (λ v. length (slotsOf v)) T r w (ap length (own-slots (rowAt T r))) k
+
     others : (k i : ℕ) → slotClass U k i ≡ slotClass T k i
     others k i = row-others T r w (own-slot T r) (λ g j t. own-like (rowAt T r)) k i
+
     here : Dec (r < length (T .parents)) → headerQuiet (rowAt U r) ≡ true
     here (yes h) = rw (getD-set-same (T .parents) r w (noParent []) h) (own-right (rowAt T r))
     here (no m) = rw (set-out (T .parents) r w (omega arith)) (header-absent T r (omega arith))
@@ -690,12 +784,15 @@ step-makes policy reserve T p sound = first-stage (eqb (p .stage) 1) refl
   where
     is : (n : ℕ) → p .stage ≡ n → place n (p .row) (p .part) ≡ p
     is n e = λ i. record { stage = sym e i; row = p .row; part = p .part }
+
     parts : (m : ℕ) → Makes policy T (place 1 (p .row) m) (partStep policy reserve T (p .row) m)
     parts zero = header-step policy T (p .row) sound (headerClass (rowAt T (p .row))) refl
     parts (suc j) = slot-any policy reserve T (p .row) j sound (slotAt T (p .row) j) refl
+
     second-stage : (b : Bool) → eqb (p .stage) 1 ≡ false → eqb (p .stage) 2 ≡ b → Makes policy T p (cond b (objectStep policy T (p .row) (objectAt T (p .row))) rests)
     second-stage true a e = subst (λ (q : Position). Makes policy T q (objectStep policy T (p .row) (objectAt T (p .row)))) (is 2 (eqb-true (p .stage) 2 e)) (object-any policy T (p .row) (p .part) sound (objectAt T (p .row)) refl)
     second-stage false a e = stepped-same policy T p sound (rw (a, e))
+
     first-stage : (b : Bool) → eqb (p .stage) 1 ≡ b → Makes policy T p (cond b (partStep policy reserve T (p .row) (p .part)) (cond (eqb (p .stage) 2) (objectStep policy T (p .row) (objectAt T (p .row))) rests))
     first-stage true e = subst (λ (q : Position). Makes policy T q (partStep policy reserve T (p .row) (p .part))) (is 1 (eqb-true (p .stage) 1 e)) (parts (p .part))
     first-stage false e = second-stage (eqb (p .stage) 2) e refl

@@ -58,21 +58,22 @@ parent-first T f = first-of (length (T .parents)) (λ r. isParent f (rowAt T r))
 
 -- it is enough to look at the rows of present parents, which stay in their rows
 pub way-less : (T S : Tables) → OneParent S → ((f : MdtFid) (k : ℕ) → isParent f (rowAt T k) ≡ true → isParent f (rowAt S k) ≡ true)
-  → ((f : MdtFid) (i k : ℕ) → isParent f (rowAt T k) ≡ true → isWay (rowWay T f i (RowIs k)) ≡ false → isWay (rowWay S f i (RowIs k)) ≡ false) → WayLess T S
+    → ((f : MdtFid) (i k : ℕ) → isParent f (rowAt T k) ≡ true → isWay (rowWay T f i (RowIs k)) ≡ false → isWay (rowWay S f i (RowIs k)) ≡ false) → WayLess T S
 unfolding way isWay rowWay
 way-less T S one stay row f i e = pick (ltb i maxSlots) e
   where
     go : {a : Row} → First (λ r. isParent f (rowAt T r)) a → isWay (rowWay T f i a) ≡ false → isWay (rowWay S f i (parentRow S f)) ≡ false
     go (absent n) t = clash refl t
     go (found {i = k} u n) t = rw (first-unique (parent-first S f) (first-only (stay f k u) (λ l v. one l k f v (stay f k u)))) (row f i k u t)
+
     pick : (b : Bool) → isWay (cond b (rowWay T f i (parentRow T f)) NoWay) ≡ false → isWay (cond b (rowWay S f i (parentRow S f)) NoWay) ≡ false
     pick true t = go (parent-first T f) t
     pick false t = refl
 
 -- the row's width may grow, by holes and where the layout allows them; a slot that cannot be had stays so
 pub row-less : (T S : Tables) (f : MdtFid) (i k : ℕ) → width T k ≤ width S k → (holesIn (rowAt T k) ≡ false → (width S k ≡ width T k) × (holesIn (rowAt S k) ≡ false))
-  → ((g : OstFid) (n m : ℕ) → slotAt T k i ≡ Names g n m → takeable T f g k i (objectOf T g) ≡ false → isWay (slotWay S f k i (slotAt S k i)) ≡ false)
-  → isWay (rowWay T f i (RowIs k)) ≡ false → isWay (rowWay S f i (RowIs k)) ≡ false
+    → ((g : OstFid) (n m : ℕ) → slotAt T k i ≡ Names g n m → takeable T f g k i (objectOf T g) ≡ false → isWay (slotWay S f k i (slotAt S k i)) ≡ false)
+    → isWay (rowWay T f i (RowIs k)) ≡ false → isWay (rowWay S f i (RowIs k)) ≡ false
 unfolding rowWay slotWay isWay
 row-less T S f i k wide fixed slots e = go (ltb i (width T k)) refl e
   where
@@ -83,9 +84,11 @@ row-less T S f i k wide fixed slots e = go (ltb i (width T k)) refl e
         pick : (b : Bool) → isWay (cond b (Take k) NoWay) ≡ false → b ≡ false
         pick true t = clash refl t
         pick false t = refl
+
     past : (b : Bool) → holesIn (rowAt T k) ≡ b → isWay (cond b (Grow k) NoWay) ≡ false → width T k ≤ i → isWay (rowWay S f i (RowIs k)) ≡ false
     past true q t h = clash refl t
     past false q t h = rw (le-ltb i (width S k) (let w = fixed q .0 in omega arith), fixed q .1)
+
     go : (b : Bool) → ltb i (width T k) ≡ b → isWay (cond b (slotWay T f k i (slotAt T k i)) (cond (holesIn (rowAt T k)) (Grow k) NoWay)) ≡ false → isWay (rowWay S f i (RowIs k)) ≡ false
     go true q t = rw (lt-ltb i (width S k) (let h = ltb-true i (width T k) q in omega arith)) (at-slot (slotAt T k i) refl t)
     go false q t = past (holesIn (rowAt T k)) refl t (ltb-false i (width T k) q)
@@ -99,6 +102,7 @@ take-less T S f g k i eo more e = rw eo (go (objectOf T g) e)
     both true true c h e = rw (h refl)
     both true false c h e = clash refl e
     both false b c h e = refl
+
     go : (x : Lookup) → takeable T f g k i x ≡ false → takeable S f g k i x ≡ false
     go Missing t = refl
     go (Present x) t = both (x .fresh && claimIs (x .claim) f i) (namedElse T g k i) (namedElse S g k i) more t
@@ -111,19 +115,22 @@ slot-taken S f g n m k i e = rw e
 -- ## The writes of stage two
 -- a row is made or grown by holes
 module _ (T : Tables) (r : ℕ) (w : ParentRow) (same : (i : ℕ) → getD (slotsOf w) i Hole ≡ slotAt T r i) (like : (g : OstFid) (i : ℕ) → namesAt T g r i ≡ true → RowLike w (rowAt T r))
-  (one : OneParent (putParent T r w)) (more : (f : MdtFid) → isParent f (rowAt T r) ≡ true → (isParent f w ≡ true) × (holesIn (rowAt T r) ≡ true) × (length (slotsOf (rowAt T r)) ≤ length (slotsOf w))) where
+    (one : OneParent (putParent T r w)) (more : (f : MdtFid) → isParent f (rowAt T r) ≡ true → (isParent f w ≡ true) × (holesIn (rowAt T r) ≡ true) × (length (slotsOf (rowAt T r)) ≤ length (slotsOf w))) where
   pub less-row : WayLess T (putParent T r w)
   unfolding rowAt putParent width slotAt
   less-row = way-less T S one (λ f k e. pointwise (λ v. isParent f v ≡ true) k (λ q. rw (← q) e) (λ q. more f (rw q at e) .0) e) row
     where
       S : Tables
       S = putParent T r w
+
       pointwise : (P : ParentRow → Type 0) (k : ℕ) → (k ≡ r → P (rowAt T r)) → (k ≡ r → P w) → P (rowAt T k) → P (rowAt S k)
       pointwise P k old new other = set-pointwise (T .parents) r w (noParent []) P k old new (λ n. other)
+
       els : (g : OstFid) (k i : ℕ) → namedElse T g k i ≡ true → namedElse S g k i ≡ true
       els g k i e =
           let (a, b, t, n) = else-elim T g k i e in
           else-intro S g k i a b (row-names T r w same like g a b ∙ t) n
+
       row : (f : MdtFid) (i k : ℕ) → isParent f (rowAt T k) ≡ true → isWay (rowWay T f i (RowIs k)) ≡ false → isWay (rowWay S f i (RowIs k)) ≡ false
       row f i k e =
           row-less T S f i k
@@ -150,18 +157,20 @@ less-drop T o one alone = way-less T S one (λ f k e. e) (λ f i k e. row-less T
   where
     S : Tables
     S = putObject T o destroyed
+
     els : (g : OstFid) (k i : ℕ) → namedElse T g k i ≡ true → namedElse S g k i ≡ true
     els g k i e =
         let (a, b, t, n) = else-elim T g k i e in
         else-intro S g k i a b t n
+
     go : (f : MdtFid) (g : OstFid) (k i : ℕ) → takeable T f g k i (objectOf T g) ≡ false → (b : Bool) → isObject g (objectAt T o) ≡ b → takeable S f g k i (objectOf S g) ≡ false
     go f g k i t true e = rw (drop-gone T o g alone e)
     go f g k i t false e = take-less T S f g k i (object-frame T o destroyed g e refl) (els g k i) t
 
 -- an object that holds data is put into a slot
 module _ (T : Tables) (o r i : ℕ) (x : Object) (one : OneParent T) (alone : OneObject T) (holds : objectAt T o ≡ object x) (row : r < length (T .parents)) (part : i < width T r)
-  (stays : x .fresh ≡ false) (unnamed : (k l : ℕ) → namesAt T (x .fid) k l ≡ false)
-  (lonely : (g : OstFid) (k l : ℕ) → namesAt T g r i ≡ true → namesAt T g k l ≡ true → (k ≡ r) × (l ≡ i)) where
+    (stays : x .fresh ≡ false) (unnamed : (k l : ℕ) → namesAt T (x .fid) k l ≡ false)
+    (lonely : (g : OstFid) (k l : ℕ) → namesAt T g r i ≡ true → namesAt T g k l ≡ true → (k ≡ r) × (l ≡ i)) where
   pub less-settled : WayLess T (settled T o x r i)
   unfolding rowAt putObject putSlot putParent objectAt width slotAt namesAt slotNames takeable isObject settled slotFor withOwner
   less-settled = way-less T S (one-parent-slot T r i s one) (λ f k e. parent-slot T r i s f k ∙ e) (λ f l k e.
@@ -169,28 +178,36 @@ module _ (T : Tables) (o r i : ℕ) (x : Object) (one : OneParent T) (alone : On
     where
       s : Slot
       s = slotFor x
+
       U : Tables
       U = putSlot T r i s
+
       S : Tables
       S = settled T o x r i
+
       new : (g : OstFid) (k l : ℕ) → namesAt T g k l ≡ true → sameFid (x .fid .0) (g .0) ≡ false
       new g k l e = never (sameFid (x .fid .0) (g .0)) (λ t. clash e (rw (← ost-true (x .fid) g t) (unnamed k l)))
+
       taken : (f : MdtFid) → takeable S f (x .fid) r i (objectOf S (x .fid)) ≡ false
       taken f = rw (settled-found T o r i x alone holds, stays)
+
       els : (g : OstFid) (k l : ℕ) → (k ≡ r → l ≡ i → ⊥) → namesAt T g k l ≡ true → namedElse T g k l ≡ true → namedElse S g k l ≡ true
       els g k l n u e =
           let (a, b, t, m) = else-elim T g k l e in
           else-intro S g k l a b (names-other T r i s g a b (λ p q. let z = lonely g k l (rw (p, q) at t) u in n (z .0) (z .1)) ∙ t) m
+
       slots : (f : MdtFid) (l k : ℕ) (g : OstFid) (n m : ℕ) → slotAt T k l ≡ Names g n m → takeable T f g k l (objectOf T g) ≡ false → isWay (slotWay S f k l (slotAt S k l)) ≡ false
       slots f l k g n m q t = go (ℕ-discrete k r) (ℕ-discrete l i)
         where
           names : namesAt T g k l ≡ true
           names = rw (q, fid-refl (g .0))
+
           other : (k ≡ r → l ≡ i → ⊥) → isWay (slotWay S f k l (slotAt S k l)) ≡ false
           other d = rw (slot-other T r i s k l d, q) (slot-taken S f g n m k l (take-less T S f g k l same (els g k l d names) t))
             where
               same : objectOf S g ≡ objectOf T g
               same = object-frame U o _ g (rw (holds, new g k l names)) (new g k l names) ∙ objects-slot T r i s g
+
           go : Dec (k ≡ r) → Dec (l ≡ i) → isWay (slotWay S f k l (slotAt S k l)) ≡ false
           go (no d) z = other (λ p q. d p)
           go (yes p) (no d) = other (λ p q. d q)
@@ -240,7 +257,7 @@ module _ (policy : ℕ) (T S : Tables) (k : ℕ) where
 
   -- an object's row is as it was: it is quiet if it was, where no place comes to be had, and its FID goes on being named
   pub quiet-same : WayLess T S → objectAt S k ≡ objectAt T k → ((y : Object) → objectAt T k ≡ object y → named T (y .fid) ≡ true → named S (y .fid) ≡ true)
-    → quietObject policy (objectClass T k) ≡ true → quietObject policy (objectClass S k) ≡ true
+      → quietObject policy (objectClass T k) ≡ true → quietObject policy (objectClass S k) ≡ true
   unfolding objectClass objectClassOf quietObject unnamedClass
   quiet-same less e more q = rw e (go (objectAt T k) refl q)
     where
@@ -253,6 +270,7 @@ module _ (policy : ℕ) (T S : Tables) (k : ℕ) where
           ways a false h t = refl
           ways true true h t = t
           ways false true h t = clash refl (h refl)
+
       go : (w : ObjectRow) → objectAt T k ≡ w → quietObject policy (objectClassOf T w) ≡ true → quietObject policy (objectClassOf S w) ≡ true
       go (noObject b) d t = refl
       go (object y) d t = names (named T (y .fid)) (named S (y .fid)) (more y d) t
@@ -390,6 +408,7 @@ module _ (policy : ℕ) (T U : Tables) (o r i : ℕ) (x : Object) (ready : Ready
     where
       other : (k ≡ r → l ≡ i → ⊥) → quietSlot policy (slotClass (settled U o x r i) k l) ≡ true
       other n = rw (settled-keeps k l n) e
+
       go : Dec (k ≡ r) → Dec (l ≡ i) → quietSlot policy (slotClass (settled U o x r i) k l) ≡ true
       go (no d) z = other (λ p q. d p)
       go (yes p) (no d) = other (λ p q. d q)
@@ -409,7 +428,8 @@ module _ (policy : ℕ) (T U : Tables) (o r i : ℕ) (x : Object) (ready : Ready
   settled-calm =
       record {
         first = record { sound = settled-sound; stays = stays-trans T U (settled U o x r i) (ready .stays) settled-stays; grows = grows-trans T U (settled U o x r i) (ready .grows) (grows-trans U (putSlot U r i _) _ (grows-slot U r i _) (grows-put (putSlot U r i _) o _)); headers = λ k e. header-slot U r i _ k ∙ ready .headers k e; parts = settled-parts };
-        rows = λ k e. go k e (ℕ-discrete k o) }
+        rows = λ k e. go k e (ℕ-discrete k o);
+      }
     where
       go : (k : ℕ) → quietObject policy (objectClass T k) ≡ true → Dec (k ≡ o) → quietObject policy (objectClass (settled U o x r i) k) ≡ true
       go k e (yes q) = rw q settled-row

@@ -8,7 +8,6 @@ pub kept-objects : (T : Tables) (o : ℕ) (y : ObjectRow) (f : OstFid) (c : Clai
 unfolding namesAt slotAt rowAt putObject
 kept-objects T o y f c = record { fewer = λ r j e. e; still = λ r j e. keeper-names T f c r j e; selves = λ r j e. refl }
 
-
 -- the slot that names a FID and is claimed by its object is the keeper
 pub keeper-own : (T : Tables) (f : OstFid) (r j : ℕ) (x : Object) → OneParent T → namesAt T f r j ≡ true → objectOf T f ≡ Present x → x .claim ≡ Claims (selfOf (rowAt T r)) j → keeper T f ≡ At r j
 unfolding keeper claimIn
@@ -21,6 +20,7 @@ clean T f r j x one e eo ec ew = go (slotAt T r j) e
   where
     kept : keeperClass (selfOf (rowAt T r)) (ownerOf (rowAt T r)) j (Present x) ≡ CLEAN
     kept = rw (ec, ew, fid-refl (selfOf (rowAt T r) .0), eq-eqb j j refl, owner-refl (ownerOf (rowAt T r)))
+
     go : (s : Slot) → slotNames f s ≡ true → slotClassOf T r j s ≡ CLEAN
     go Hole t = clash t refl
     go (Names g n i) t = rw (ost-true g f t, keeper-own T f r j x one e eo ec, is-here r j, eo) kept
@@ -32,18 +32,20 @@ put-found T f o x inside is alone = rw (here, getD-set-same (T .objects) o (obje
   where
     S : Tables
     S = putObject T o (object x)
+
     at : isObject f (objectAt S o) ≡ true
     at = rw (getD-set-same (T .objects) o (object x) (noObject []) inside, is, fid-refl (f .0))
+
     only : (k : ℕ) → isObject f (objectAt S k) ≡ true → k ≡ o
     only k = set-pointwise (T .objects) o (object x) (noObject []) (λ w. isObject f w ≡ true → k ≡ o) k (λ e t. e) (λ e t. e) (λ n t. alone k t)
+
     here : objectRow S f ≡ RowIs o
     here = first-unique (object-first S f) (first-only at only)
 
 -- row o comes to hold object x of FID f, which Claims slot (r, j), the keeper of f, and has its parent's owner; it held f or nothing, and no other row holds f
 module _ (T : Tables) (f : OstFid) (r j o : ℕ) (x : Object) (one : OneParent T) (names : namesAt T f r j ≡ true) (keeps : keeper T f ≡ At r j)
-  (inside : o < length (T .objects)) (is : x .fid ≡ f) (claimed : x .claim ≡ Claims (selfOf (rowAt T r)) j) (owned : x .owner ≡ ownerOf (rowAt T r))
-  (held : (g : OstFid) → isObject g (objectAt T o) ≡ true → g ≡ f) (alone : (k : ℕ) → isObject f (objectAt T k) ≡ true → k ≡ o) where
-
+    (inside : o < length (T .objects)) (is : x .fid ≡ f) (claimed : x .claim ≡ Claims (selfOf (rowAt T r)) j) (owned : x .owner ≡ ownerOf (rowAt T r))
+    (held : (g : OstFid) → isObject g (objectAt T o) ≡ true → g ≡ f) (alone : (k : ℕ) → isObject f (objectAt T k) ≡ true → k ≡ o) where
   pub claim-clean : slotClass (putObject T o (object x)) r j ≡ CLEAN
   unfolding namesAt slotAt rowAt putObject
   claim-clean = clean (putObject T o (object x)) f r j x one names (put-found T f o x inside is alone) claimed owned
@@ -54,8 +56,10 @@ module _ (T : Tables) (f : OstFid) (r j o : ℕ) (x : Object) (one : OneParent T
     where
       S : Tables
       S = putObject T o (object x)
+
       keeps′ : keeper S f ≡ At r j
       keeps′ = keeper-own S f r j x one names (put-found T f o x inside is alone) claimed
+
       go : (g : OstFid) (b : Bool) → sameFid (x .fid .0) (g .0) ≡ b → Like T S k i g
       go g true t =
           let eg : g ≡ f = sym (ost-true (x .fid) g t) ∙ is in
@@ -90,10 +94,13 @@ kept-slot T r j s g c new keep = record { fewer = fewer; still = still; selves =
   where
     S : Tables
     S = putSlot T r j s
+
     fewer : (k i : ℕ) → namesAt S g k i ≡ true → namesAt T g k i ≡ true
     fewer k i = slot-pointwise T r j s (λ w. slotNames g w ≡ true → namesAt T g k i ≡ true) k i (λ p q t. t) (λ p q t. clash t new) (λ n t. t)
+
     still : (k i : ℕ) → keeperBy T g c ≡ At k i → namesAt S g k i ≡ true
     still k i e = names-other T r j s g k i (λ p q. clash (rw (e, p, q) (is-here r j)) keep) ∙ keeper-names T g c k i e
+
     selves : (c : Claim) (k : ℕ) → claimsParent c (rowAt S k) ≡ claimsParent c (rowAt T k)
     selves Unclaimed k = refl
     selves (Claims f i) k = parent-slot T r j s f k
@@ -101,8 +108,12 @@ kept-slot T r j s g c new keep = record { fewer = fewer; still = still; selves =
 pub slot-others : (T : Tables) (r j : ℕ) (s : Slot) (k i : ℕ) → (k ≡ r → i ≡ j → ⊥) → ((g : OstFid) → namesAt T g k i ≡ true → (slotNames g s ≡ false) × (isPlace (keeper T g) r j ≡ false)) → slotClass (putSlot T r j s) k i ≡ slotClass T k i
 unfolding keeper
 slot-others T r j s k i n h = class-same T (putSlot T r j s) k i (slot-other T r j s k i n) (λ g e.
-    record { self = self-slot T r j s k; owner = owner-slot T r j s k; object = λ u. objects-slot T r j s g;
-      keeps = ap (λ a. isPlace a k i) (keeper-frame T (putSlot T r j s) g (objects-slot T r j s g) (kept-slot T r j s g _ (h g e .0) (h g e .1))) })
+    record {
+      self = self-slot T r j s k;
+      owner = owner-slot T r j s k;
+      object = λ u. objects-slot T r j s g;
+      keeps = ap (λ a. isPlace a k i) (keeper-frame T (putSlot T r j s) g (objects-slot T r j s g) (kept-slot T r j s g _ (h g e .0) (h g e .1)));
+    })
 
 pub one-parent-slot : (T : Tables) (r j : ℕ) (s : Slot) → OneParent T → OneParent (putSlot T r j s)
 one-parent-slot T r j s one a b f p q = one a b f (sym (parent-slot T r j s f a) ∙ p) (sym (parent-slot T r j s f b) ∙ q)
@@ -117,23 +128,26 @@ one-name T f g r j a b = go (slotAt T r j) a b
 
 -- slot (r, j), which is not the keeper of what it names, takes the FID of a new object in the free row o; the FID was named by no slot and in no row
 module _ (T : Tables) (f : OstFid) (r j o m ost : ℕ) (x : Object) (one : OneParent T) (names : namesAt T f r j ≡ true) (second : isPlace (keeper T f) r j ≡ false)
-  (inside : o < length (T .objects)) (free : (g : OstFid) → isObject g (objectAt T o) ≡ false) (claimed : x .claim ≡ Claims (selfOf (rowAt T r)) j) (owned : x .owner ≡ ownerOf (rowAt T r))
-  (unnamed : (k i : ℕ) → namesAt T (x .fid) k i ≡ false) (missing : (k : ℕ) → isObject (x .fid) (objectAt T k) ≡ false) where
-
+    (inside : o < length (T .objects)) (free : (g : OstFid) → isObject g (objectAt T o) ≡ false) (claimed : x .claim ≡ Claims (selfOf (rowAt T r)) j) (owned : x .owner ≡ ownerOf (rowAt T r))
+    (unnamed : (k i : ℕ) → namesAt T (x .fid) k i ≡ false) (missing : (k : ℕ) → isObject (x .fid) (objectAt T k) ≡ false) where
   pub redirect-others : (k i : ℕ) → (k ≡ r → i ≡ j → ⊥) → slotClass (putSlot (putObject T o (object x)) r j (Names (x .fid) m ost)) k i ≡ slotClass T k i
   unfolding namesAt slotAt rowAt putObject isObject slotNames keeper
   redirect-others k i n = slot-others U r j _ k i n keep ∙ object-others T o (object x) k i (λ g e. (free g, new g k i e))
     where
       U : Tables
       U = putObject T o (object x)
+
       new : (g : OstFid) (k i : ℕ) → namesAt T g k i ≡ true → sameFid (x .fid .0) (g .0) ≡ false
       new g k i e = never (sameFid (x .fid .0) (g .0)) (λ t. clash e (rw (← ost-true (x .fid) g t) (unnamed k i)))
+
       same-f : keeper U f ≡ keeper T f
       same-f = keeper-frame T U f (object-frame T o (object x) f (free f) (new f r j names)) (kept-objects T o (object x) f _)
+
       second-no : (g : OstFid) → keeper U g ≡ At r j → ⊥
       second-no g t =
           let e = one-name T f g r j names (keeper-names U g (claimIn (objectOf U g)) r j t) in
           clash (rw (← same-f, ← e, t) (is-here r j)) second
+
       keep : (g : OstFid) → namesAt U g k i ≡ true → (slotNames g (Names (x .fid) m ost) ≡ false) × (isPlace (keeper U g) r j ≡ false)
       keep g e = (new g k i e, never (isPlace (keeper U g) r j) (λ t. second-no g (is-place (keeper U g) r j t)))
 
@@ -149,6 +163,7 @@ module _ (T : Tables) (f : OstFid) (r j o m ost : ℕ) (x : Object) (one : OnePa
       (objects-slot U r j s (x .fid) ∙ put-found T (x .fid) o x inside refl (λ k t. clash t (missing k)))
       (claimed ∙ ap (λ v. Claims v j) (sym (self-slot U r j s r)))
       (owned ∙ sym (owner-slot U r j s r))
+
 -- ## A row that changes by holes
 pub objects-row : (T : Tables) (r : ℕ) (w : ParentRow) (g : OstFid) → objectOf (putParent T r w) g ≡ objectOf T g
 unfolding objectOf objectInRow objectRow objectAt putParent
@@ -198,9 +213,8 @@ settled-found T o r i x alone holds = put-found (putSlot T r i _) (x .fid) o _ (
     held = rw (holds, fid-refl (x .fid .0))
 
 module _ (T : Tables) (o r i : ℕ) (x : Object) (one : OneParent T) (alone : OneObject T) (holds : objectAt T o ≡ object x) (row : r < length (T .parents)) (part : i < width T r)
-  (claimed : x .claim ≡ Claims (selfOf (rowAt T r)) i) (unnamed : (k l : ℕ) → namesAt T (x .fid) k l ≡ false)
-  (lonely : (g : OstFid) (k l : ℕ) → namesAt T g r i ≡ true → namesAt T g k l ≡ true → (k ≡ r) × (l ≡ i)) where
-
+    (claimed : x .claim ≡ Claims (selfOf (rowAt T r)) i) (unnamed : (k l : ℕ) → namesAt T (x .fid) k l ≡ false)
+    (lonely : (g : OstFid) (k l : ℕ) → namesAt T g r i ≡ true → namesAt T g k l ≡ true → (k ≡ r) × (l ≡ i)) where
   s : Slot
   s = slotFor x
 
@@ -215,6 +229,7 @@ module _ (T : Tables) (o r i : ℕ) (x : Object) (one : OneParent T) (alone : On
     where
       U : Tables
       U = putSlot T r i s
+
       elsewhere : (g : OstFid) → namesAt T g k l ≡ true → keeper T g ≡ At r i → ⊥
       elsewhere g e t =
           let q = lonely g k l (keeper-names T g (claimIn (objectOf T g)) r i t) e in

@@ -46,8 +46,6 @@ pub object-first : (T : Tables) (f : OstFid) → First (λ o. isObject f (object
 unfolding objectRow
 object-first T f = first-of (length (T .objects)) (λ o. isObject f (objectAt T o)) (object-inside T f)
 
-
-
 pub object-found : (T : Tables) (f : OstFid) {o : ℕ} → objectRow T f ≡ RowIs o → isObject f (objectAt T o) ≡ true
 object-found T f e = first-is (object-first T f) e
 
@@ -66,10 +64,12 @@ object-frame T o y g old new = ap (objectInRow (S .objects)) rows ∙ go (object
   where
     S : Tables
     S = putObject T o y
+
     rows : objectRow S g ≡ objectRow T g
     rows = first-unique (object-first S g)
         (first-ext (λ k. set-pointwise (T .objects) o y (noObject []) (λ w. isObject g w ≡ isObject g (getD (T .objects) k (noObject []))) k
-          (λ e. rw e) (λ e. new ∙ sym (rw e old)) (λ n. refl)) (object-first T g))
+        (λ e. rw e) (λ e. new ∙ sym (rw e old)) (λ n. refl)) (object-first T g))
+
     go : (a : Row) → objectRow T g ≡ a → objectInRow (S .objects) a ≡ objectInRow (T .objects) a
     go NoRow e = refl
     go (RowIs k) e = ap objectIn (set-pointwise (T .objects) o y (noObject []) (λ w. w ≡ getD (T .objects) k (noObject [])) k
@@ -215,10 +215,11 @@ unfolding slotClass slotClassOf namesAt slotNames
 class-same T S r j es h = ap (slotClassOf S r j) es ∙ go (slotAt T r j) h
   where
     pick : (f : OstFid) (b : Bool) → (b ≡ true → objectOf S f ≡ objectOf T f)
-      → cond b (keeperClass (selfOf (rowAt T r)) (ownerOf (rowAt T r)) j (objectOf S f)) MULTIPLE
+        → cond b (keeperClass (selfOf (rowAt T r)) (ownerOf (rowAt T r)) j (objectOf S f)) MULTIPLE
         ≡ cond b (keeperClass (selfOf (rowAt T r)) (ownerOf (rowAt T r)) j (objectOf T f)) MULTIPLE
     pick f true e = rw (e refl)
     pick f false e = refl
+
     go : (s : Slot) → ((f : OstFid) → slotNames f s ≡ true → Like T S r j f) → slotClassOf S r j s ≡ slotClassOf T r j s
     go Hole k = refl
     go (Names f n i) k =

@@ -149,6 +149,7 @@ named-inside T f r j e = (rows (decLt r (length (T .parents))), parts (decLt j (
     parts : Dec (j < length (slotsOf (rowAt T r))) → j < length (slotsOf (rowAt T r))
     parts (yes h) = h
     parts (no n) = clash e (ap (slotNames f) (List·getD-eq-default (slotsOf (rowAt T r)) Hole (omega arith)))
+
     rows : Dec (r < length (T .parents)) → r < length (T .parents)
     rows (yes h) = h
     rows (no n) = clash e (ap (λ w. slotNames f (getD (slotsOf w) j Hole)) (List·getD-eq-default (T .parents) (noParent []) (omega arith)))
@@ -198,25 +199,34 @@ keeper-kept T S f c k = or-kept a1 third (λ e1. or-kept a2 (second e1) (λ e2. 
   where
     a1 : Found
     a1 = scan T (atClaimed T f c)
+
     a2 : Found
     a2 = scan T (inClaimed T f c)
+
     -- a place that named the FID, and still does, is in the claimed parent if it was
     in-lift : (r j : ℕ) → namesAt S f r j ≡ true → inClaimed T f c r j ≡ true → inClaimed S f c r j ≡ true
     in-lift r j n e = and-both n (k .selves r j (and-l _ (claimsParent c (rowAt T r)) e) ∙ and-r (namesAt T f r j) _ e)
+
     in-sub : (r j : ℕ) → inClaimed S f c r j ≡ true → inClaimed T f c r j ≡ true
     in-sub r j e =
         let n = k .fewer r j (and-l _ (claimsParent c (rowAt S r)) e) in
         and-both n (sym (k .selves r j n) ∙ and-r (namesAt S f r j) _ e)
+
     at-sub : (r j : ℕ) → atClaimed S f c r j ≡ true → atClaimed T f c r j ≡ true
     at-sub r j e = and-both (in-sub r j (and-l (inClaimed S f c r j) (claimsIndex c j) e)) (and-r (inClaimed S f c r j) _ e)
+
     at-lift : (r j : ℕ) → namesAt S f r j ≡ true → atClaimed T f c r j ≡ true → atClaimed S f c r j ≡ true
     at-lift r j n e = and-both (in-lift r j n (and-l (inClaimed T f c r j) (claimsIndex c j) e)) (and-r (inClaimed T f c r j) _ e)
+
     still : (r j : ℕ) → keeperBy T f c ≡ At r j → namesAt S f r j ≡ true
     still r j e = k .still r j e
+
     third : scan S (atClaimed S f c) ≡ a1
     third = same-found (first-at T f c) (first-at S f c) at-sub (λ r j e. at-lift r j (still r j (rw e)) (found-passes (first-at T f c) r j e))
+
     second : a1 ≡ Nowhere → scan S (inClaimed S f c) ≡ a2
     second e1 = same-found (first-in T f c) (first-in S f c) in-sub (λ r j e. in-lift r j (still r j (rw (e1, e))) (found-passes (first-in T f c) r j e))
+
     last : a1 ≡ Nowhere → a2 ≡ Nowhere → scan S (namesAt S f) ≡ scan T (namesAt T f)
     last e1 e2 = same-found (first-any T f c) (first-any S f c) (k .fewer) (λ r j e. still r j (rw (e1, e2, e)))
 
@@ -259,12 +269,16 @@ keeper-claimed T f r j one e = rw here
   where
     c : Claim
     c = Claims (selfOf (rowAt T r)) j
+
     at-here : atClaimed T f c r j ≡ true
     at-here = and-both (and-both e (named-parent T f r j e)) (eq-eqb j j refl)
+
     only : (s k : ℕ) → atClaimed T f c s k ≡ true → (s ≡ r) × (k ≡ j)
     only s k t =
-        let t1 : inClaimed T f c s k ≡ true = and-l (inClaimed T f c s k) (claimsIndex c k) t in
-        ( one s r (selfOf (rowAt T r)) (and-r (namesAt T f s k) _ t1) (named-parent T f r j e)
-        , sym (eqb-true j k (and-r (inClaimed T f c s k) _ t)))
+        let t1 : inClaimed T f c s k ≡ true = and-l (inClaimed T f c s k) (claimsIndex c k) t in (
+          one s r (selfOf (rowAt T r)) (and-r (namesAt T f s k) _ t1) (named-parent T f r j e),
+          sym (eqb-true j k (and-r (inClaimed T f c s k) _ t)),
+        )
+
     here : scan T (atClaimed T f (Claims (selfOf (rowAt T r)) j)) ≡ At r j
     here = place-unique (first-at T f c) (place-only at-here only)

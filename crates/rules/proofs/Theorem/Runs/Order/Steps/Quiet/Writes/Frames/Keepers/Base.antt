@@ -5,7 +5,7 @@ pub use native.Mathlib.Decide.{decLt, ℕ-discrete}
 pub use native.Mathlib.Nat.{suc-add, zero-add, add-assoc}
 pub use mathlib.Core.Path.{_≡_, refl, sym, ap, ap₂, subst, _∙_}
 pub use mathlib.Core.Bool.{Bool, true, false, not, cond, _&&_, _||_, true≢false}
-pub use mathlib.Core.List.{List, [], _∷_, _++_, append-nil, append-assoc, List·Memᴰ, List·Memᴰ·head, List·Memᴰ·tail, List·Memᴰ·append-cases, List·Memᴰ·cases-cons, List·Memᴰ·not-nil, List·Memᴰ·eq-of-singleton}
+pub use mathlib.Core.List.{List, [], _∷_, _++_, append-nil, append-assoc, List·Memᴰ, List·Memᴰ·head, List·Memᴰ·tail, List·Memᴰ·append-cases, Memᴰ·append-left, Memᴰ·append-right, List·Memᴰ·cases-cons, List·Memᴰ·not-nil, List·Memᴰ·eq-of-singleton}
 pub use mathlib.Core.Logic.{_⊎_, inl, inr}
 pub use lib.ListN.{length, getD, set, drop, replicate, length-set, length-append, length-replicate, length-drop, drop-of-length-le, List·getD-eq-default}
 pub use lib.Seq.{getD-set-same, getD-set-other, set-out, set-set, set-comm, set-getD, getD-drop, drop-cons}
