@@ -1,6 +1,6 @@
 -- The order of positions, the next one, and what is quiet before a position.
-pub mod Steps
-unfoldable pub use Steps.*
+pub mod Fitting
+unfoldable pub use Fitting.*
 
 -- ## The order
 

@@ -73,12 +73,12 @@ take-fresh T f g r i q z t w a =
     and-l (z .fresh) (claimIs (z .claim) f i) (and-l (z .fresh && claimIs (z .claim) f i) (not (namedElse T g r i)) (rw oz at t))
 
 -- ## Holes
-holes-getD : (n j : ℕ) → getD (replicate n Hole) j Hole ≡ Hole
+pub holes-getD : (n j : ℕ) → getD (replicate n Hole) j Hole ≡ Hole
 holes-getD zero j = refl
 holes-getD (suc n) zero = refl
 holes-getD (suc n) (suc j) = holes-getD n j
 
-pad-getD : (l : List Slot) (n j : ℕ) → getD (l ++ replicate n Hole) j Hole ≡ getD l j Hole
+pub pad-getD : (l : List Slot) (n j : ℕ) → getD (l ++ replicate n Hole) j Hole ≡ getD l j Hole
 pad-getD [] n j = holes-getD n j
 pad-getD (s ∷ l) n zero = refl
 pad-getD (s ∷ l) n (suc j) = pad-getD l n j
@@ -367,7 +367,7 @@ pub claim-means : (g : MdtFid) (k : ℕ) (f : MdtFid) (i : ℕ) → claimIs (Cla
 unfolding claimIs
 claim-means g k f i e = ap₂ Claims (mdt-true g f (and-l _ (eqb k i) e)) (eqb-true k i (and-r (sameFid (g .0) (f .0)) _ e))
 
-free-row : (T : Tables) (r : ℕ) → freeParent T ≡ RowIs r → ((b : List ℕ) × (rowAt T r ≡ noParent b)) × (r < length (T .parents))
+pub free-row : (T : Tables) (r : ℕ) → freeParent T ≡ RowIs r → ((b : List ℕ) × (rowAt T r ≡ noParent b)) × (r < length (T .parents))
 unfolding freeParent isFreeParent
 free-row T r e =
     let h = from-row-is (length (T .parents)) 0 (λ k. isFreeParent (rowAt T k)) r e in
@@ -376,6 +376,36 @@ free-row T r e =
     go : (w : ParentRow) → isFreeParent w ≡ true → (b : List ℕ) × (w ≡ noParent b)
     go (noParent b) t = (b, refl)
     go (parent p) t = clash t refl
+
+-- what the classes say of an object
+module _ (T : Tables) (o : ℕ) (x : Object) (holds : objectAt T o ≡ object x) where
+  pub orphan-means : objectClass T o ≡ ORPHAN → (f : MdtFid) × (i : ℕ) × (x .claim ≡ Claims f i) × (named T (x .fid) ≡ false) × (x .fresh ≡ false) × (isWay (way T f i) ≡ true)
+  unfolding objectClass objectClassOf unnamedClass
+  orphan-means e = go (named T (x .fid)) refl (x .claim) refl (x .fresh) refl (rw holds at e)
+    where
+      go : (b : Bool) → named T (x .fid) ≡ b → (k : Claim) → x .claim ≡ k → (a : Bool) → x .fresh ≡ a → cond b KEPT (unnamedClass T a k) ≡ ORPHAN → (f : MdtFid) × (i : ℕ) × (x .claim ≡ Claims f i) × (named T (x .fid) ≡ false) × (x .fresh ≡ false) × (isWay (way T f i) ≡ true)
+      go true n k ek a ea z = let y : _≡_ {A = ℕ} 0 1 = cc in absurd (omega arith)
+      go false n Unclaimed ek a ea z = let y : _≡_ {A = ℕ} 0 1 = cc in absurd (omega arith)
+      go false n (Claims f i) ek true ea z = let y : _≡_ {A = ℕ} 0 1 = cc in absurd (omega arith)
+      go false n (Claims f i) ek false ea z = (f, i, ek, n, ea, pick (isWay (way T f i)) z)
+        where
+          pick : (b : Bool) → cond b ORPHAN CONFLICT ≡ ORPHAN → b ≡ true
+          pick true z = refl
+          pick false z = cc
+
+  empty-means : objectClass T o ≡ EMPTY → (named T (x .fid) ≡ false) × (x .fresh ≡ true)
+  unfolding objectClass objectClassOf unnamedClass
+  empty-means e = go (named T (x .fid)) refl (x .claim) (x .fresh) refl (rw holds at e)
+    where
+      go : (b : Bool) → named T (x .fid) ≡ b → (k : Claim) (a : Bool) → x .fresh ≡ a → cond b KEPT (unnamedClass T a k) ≡ EMPTY → (named T (x .fid) ≡ false) × (x .fresh ≡ true)
+      go true n k a ea z = let y : _≡_ {A = ℕ} 0 1 = cc in absurd (omega arith)
+      go false n Unclaimed a ea z = let y : _≡_ {A = ℕ} 0 1 = cc in absurd (omega arith)
+      go false n (Claims f i) true ea z = (n, ea)
+      go false n (Claims f i) false ea z = pick (isWay (way T f i)) z
+        where
+          pick : (b : Bool) → cond b ORPHAN CONFLICT ≡ EMPTY → (named T (x .fid) ≡ false) × (x .fresh ≡ true)
+          pick true z = let y : _≡_ {A = ℕ} 0 1 = cc in absurd (omega arith)
+          pick false z = let y : _≡_ {A = ℕ} 0 1 = cc in absurd (omega arith)
 
 -- the part m of the position does not matter
 module _ (policy : ℕ) (T : Tables) (sound : Distinct T) (o m : ℕ) (x : Object) (holds : objectAt T o ≡ object x) where
@@ -409,35 +439,6 @@ module _ (policy : ℕ) (T : Tables) (sound : Distinct T) (o m : ℕ) (x : Objec
         widths = λ e k. absurd (omega arith);
         others = λ k i n. drop-others policy T o x sound holds unnamed fresh k i;
       }
-
-  -- what the classes say of an object
-  orphan-means : objectClass T o ≡ ORPHAN → (f : MdtFid) × (i : ℕ) × (x .claim ≡ Claims f i) × (named T (x .fid) ≡ false) × (x .fresh ≡ false) × (isWay (way T f i) ≡ true)
-  unfolding objectClass objectClassOf unnamedClass
-  orphan-means e = go (named T (x .fid)) refl (x .claim) refl (x .fresh) refl (rw holds at e)
-    where
-      go : (b : Bool) → named T (x .fid) ≡ b → (k : Claim) → x .claim ≡ k → (a : Bool) → x .fresh ≡ a → cond b KEPT (unnamedClass T a k) ≡ ORPHAN → (f : MdtFid) × (i : ℕ) × (x .claim ≡ Claims f i) × (named T (x .fid) ≡ false) × (x .fresh ≡ false) × (isWay (way T f i) ≡ true)
-      go true n k ek a ea z = let y : _≡_ {A = ℕ} 0 1 = cc in absurd (omega arith)
-      go false n Unclaimed ek a ea z = let y : _≡_ {A = ℕ} 0 1 = cc in absurd (omega arith)
-      go false n (Claims f i) ek true ea z = let y : _≡_ {A = ℕ} 0 1 = cc in absurd (omega arith)
-      go false n (Claims f i) ek false ea z = (f, i, ek, n, ea, pick (isWay (way T f i)) z)
-        where
-          pick : (b : Bool) → cond b ORPHAN CONFLICT ≡ ORPHAN → b ≡ true
-          pick true z = refl
-          pick false z = cc
-
-  empty-means : objectClass T o ≡ EMPTY → (named T (x .fid) ≡ false) × (x .fresh ≡ true)
-  unfolding objectClass objectClassOf unnamedClass
-  empty-means e = go (named T (x .fid)) refl (x .claim) (x .fresh) refl (rw holds at e)
-    where
-      go : (b : Bool) → named T (x .fid) ≡ b → (k : Claim) (a : Bool) → x .fresh ≡ a → cond b KEPT (unnamedClass T a k) ≡ EMPTY → (named T (x .fid) ≡ false) × (x .fresh ≡ true)
-      go true n k a ea z = let y : _≡_ {A = ℕ} 0 1 = cc in absurd (omega arith)
-      go false n Unclaimed a ea z = let y : _≡_ {A = ℕ} 0 1 = cc in absurd (omega arith)
-      go false n (Claims f i) true ea z = (n, ea)
-      go false n (Claims f i) false ea z = pick (isWay (way T f i)) z
-        where
-          pick : (b : Bool) → cond b ORPHAN CONFLICT ≡ EMPTY → (named T (x .fid) ≡ false) × (x .fresh ≡ true)
-          pick true z = let y : _≡_ {A = ℕ} 0 1 = cc in absurd (omega arith)
-          pick false z = let y : _≡_ {A = ℕ} 0 1 = cc in absurd (omega arith)
 
   module _ (f : MdtFid) (i : ℕ) (claim : x .claim ≡ Claims f i) (unnamed : named T (x .fid) ≡ false) (stays : x .fresh ≡ false) where
     make-step : ((k : ℕ) → isParent f (rowAt T k) ≡ false) → (a : Row) → freeParent T ≡ a → Makes policy T (place 2 o m) (makeParent T o x f i a)
@@ -480,13 +481,13 @@ module _ (policy : ℕ) (T : Tables) (sound : Distinct T) (o m : ℕ) (x : Objec
         where
           emptied : (b : Bool) → adopts policy ≡ b → Makes policy T (place 2 o m) (cond b (repairs OfEmpty (destroy o ∷ [])) rests)
           emptied false a = row-rests (rw (q, a))
-          emptied true a = let h = empty-means q in destroy-step (h .0) (h .1)
+          emptied true a = let h = empty-means T o x holds q in destroy-step (h .0) (h .1)
       go ORPHAN q = adopted (adopts policy) refl
         where
           adopted : (b : Bool) → adopts policy ≡ b → Makes policy T (place 2 o m) (cond b (adopt T o x (x .claim)) rests)
           adopted false a = row-rests (rw (q, a))
           adopted true a =
-              let (f, i, claim, unnamed, stays, w) = orphan-means q in
+              let (f, i, claim, unnamed, stays, w) = orphan-means T o x holds q in
               subst (λ k. Makes policy T (place 2 o m) (adopt T o x k)) (sym claim) (adopt-step f i claim unnamed stays (way-means T f i) w)
 
 -- ## Stage one

@@ -11,16 +11,18 @@ pub use lib.ListN.{length, getD, set, drop, replicate, length-set, length-append
 pub use lib.Seq.{getD-set-same, getD-set-other, set-out, set-set, set-comm, set-getD, getD-drop, drop-cons}
 pub use lib.Dec.{eqb, ltb, leb}
 pub use borrow.Author.Tests.{eqb-true, eq-eqb, ne-eqb, not-true, ltb-true, ltb-false, lt-ltb, le-ltb, leb-true, le-leb, lt-leb}
-unfoldable pub use Rattle.fid.specs.Fid.{sameFid, zeroFid}
+unfoldable pub use Rattle.fid.specs.Fid.{sameFid, zeroFid, goodFid, goodNumber, goodSequence}
 pub use Rattle.fid.specs.declared.Fid.{Fid}
 pub use Rattle.fid.specs.declared.MdtFid.{MdtFid}
 pub use Rattle.fid.specs.declared.OstFid.{OstFid}
-unfoldable pub use Rattle.layout.specs.Slot.{slotNames}
+pub use Rattle.layout.specs.Slot.{maxIndex}
+unfoldable pub use Rattle.layout.specs.Slot.{slotNames, allowedSlot, allowedSlots}
 pub use Rattle.layout.specs.Layout.{Layout, magicOne, holePattern, maxSlots}
-unfoldable pub use Rattle.layout.specs.Layout.{layoutSize, withHoles}
+unfoldable pub use Rattle.layout.specs.Layout.{headerSize, layoutSize, withHoles, knownVersion, knownPattern, fewSlots, layoutRules}
 pub use Rattle.layout.specs.declared.Header.{Header}
 pub use Rattle.layout.specs.declared.Slot.{Slot}
 pub use Rattle.layout.specs.declared.Slot.the-variants.{Hole, Names}
+pub use Rattle.tables.specs.Bytes.{parentSize, objectSize}
 pub use Rattle.tables.specs.Records.{Parent, ParentRow, noParent, parent, ObjectRow, noObject, object, Tables}
 unfoldable pub use Rattle.tables.specs.Positions.{slotsOf, rowAt, width, inStageOne, inStageTwo, isEnd, isPosition, place, fromObject, fromParent, start, afterPart, next, rowSteps, countSteps}
 pub use Rattle.tables.specs.declared.Owner.{Owner}
@@ -60,6 +62,7 @@ pub use Rattle.rules.specs.Runs.{Run}
 unfoldable pub use Rattle.rules.specs.Runs.{stepTables, counts, noCounts, countOf, addCounts, halt, after, onStep, run}
 pub use Rattle.rules.specs.Calls.{Request, Fits}
 unfoldable pub use Rattle.rules.specs.Calls.{runOf, passedOn, passed, passedOf, leaves, adds, tablesAfter, passedAfter, Reached, Fair}
+pub use Rattle.rules.specs.Fit.{twoBytes, fourBytes, eightBytes, FitFid, FitOwner, FitHeader, FitSlot, FitClaim, FitParent, FitParentRow, FitObject, FitObjectRow, FitRows, FitReserve}
 pub use Rattle.rules.specs.Promises.{Distinct, HeldAlone, UncutRun, Promise}
 unfoldable pub use Rattle.rules.specs.Promises.{OwnSlot, OthersKeepClass, NotDestroyed, Settled, then, uncut, Ended}
 
