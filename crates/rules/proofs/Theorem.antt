@@ -18,6 +18,14 @@ step-others policy reserve T p sound = go (stepAt policy reserve T p) (step-make
 pub run-destroys-nothing : (policy : ℕ) (reserve : List OstFid) (n : ℕ) (T : Tables) (p : Position) → Distinct T → NotDestroyed T (run policy reserve n T p .tables)
 run-destroys-nothing policy reserve n T p sound = run-makes policy reserve n T p sound .stays
 
+-- a run leaves tables that fit their rows, if they did and the reserve is good: they can be written as bytes and read back
+pub run-fits : (policy : ℕ) (reserve : List OstFid) (n : ℕ) (T : Tables) (p : Position) → Distinct T → FitReserve reserve → FitRows T → FitRows (run policy reserve n T p .tables)
+run-fits policy reserve n T p sound = run-makes policy reserve n T p sound .fits
+
+-- no FID comes to stand twice
+pub run-distinct : (policy : ℕ) (reserve : List OstFid) (n : ℕ) (T : Tables) (p : Position) → Distinct T → Distinct (run policy reserve n T p .tables)
+run-distinct policy reserve n T p sound = run-makes policy reserve n T p sound .sound
+
 -- "A run of a steps and then one of b, b at least 1, equals one of a+b, counts added and the second answer taken"
 pub a-then-b : (policy : ℕ) (reserve : List OstFid) (a b : ℕ) (T : Tables) (p : Position) → 1 ≤ b →
     let x = run policy reserve a T p in
@@ -171,7 +179,7 @@ end-answer policy reserve (suc n) T p e = go (λ S. end-answer policy reserve n 
         → OneStep policy reserve n T p x l → x .report .position ≡ place 3 0 0 → x .report .answer ≡ 0
     go ih (ended q) e = refl
     go ih (stuck a q d) e = clash (rw e end-is-end) q
-    go ih (moved c S q m) e = after-answer c (run policy reserve n S (next S p)) (ih S) e
+    go ih (moved c S q m f) e = after-answer c (run policy reserve n S (next S p)) (ih S) e
 
 end-last : (T : Tables) (p : Position) → Exists T p → place 3 0 0 ≼ p → p ≡ place 3 0 0
 end-last T p v f = go (split (place 3 0 0) p f)

@@ -9,7 +9,7 @@ module _ (policy : ℕ) (reserve : List OstFid) where
   pub data OneStep (n : ℕ) (T : Tables) (p : Position) : Run → List Position → Type 0 where
     ended : isEnd p ≡ true → OneStep n T p (halt T p 0) (p ∷ [])
     stuck : (a : ℕ) → isEnd p ≡ false → stepAt policy reserve T p ≡ stops a → OneStep n T p (halt T p a) (p ∷ [])
-    moved : (c : Counts) (S : Tables) → isEnd p ≡ false → (Distinct T → Stepped policy T p S) →
+    moved : (c : Counts) (S : Tables) → isEnd p ≡ false → (Distinct T → Stepped policy T p S) → (FitReserve reserve → FitRows T → FitRows S) →
         OneStep n T p (after c (run policy reserve n S (next S p))) (p ∷ passed policy reserve n S (next S p))
 
   pub one-step : (n : ℕ) (T : Tables) (p : Position) → OneStep n T p (run policy reserve (suc n) T p) (passed policy reserve (suc n) T p)
@@ -22,8 +22,8 @@ module _ (policy : ℕ) (reserve : List OstFid) where
       go : (b : Bool) → isEnd p ≡ b → (u : Step) → stepAt policy reserve T p ≡ u →
           OneStep n T p (cond b (halt T p 0) (onStep T p (λ S. run policy reserve n S (next S p)) u)) (p ∷ cond b [] (passedOn T (λ S. passed policy reserve n S (next S p)) u))
       go true q u e = ended q
-      go false q rests e = moved noCounts T q (makes e)
-      go false q (repairs c ws) e = moved (countOf c) (applyWrites ws T) q (makes e)
+      go false q rests e = moved noCounts T q (makes e) (λ g f. f)
+      go false q (repairs c ws) e = moved (countOf c) (applyWrites ws T) q (makes e) (λ g f. fit-writes T ws f (subst FitStep e (step-fits policy T f reserve g p)))
       go false q (stops a) e = stuck a q e
 
   -- ## What every run keeps
@@ -35,6 +35,7 @@ module _ (policy : ℕ) (reserve : List OstFid) where
     pub exists : Exists T p → Exists (x .tables) (x .report .position)
     pub later : Exists T p → p ≼ x .report .position
     pub passes : Exists T p → (z : Position) → List·Memᴰ z l → Exists (x .tables) z × z ≼ x .report .position
+    pub fits : FitReserve reserve → FitRows T → FitRows (x .tables)
     pub last : List·Memᴰ (x .report .position) l
     pub done : Exists T p → Done policy T p → Done policy (x .tables) (x .report .position)
 
@@ -45,6 +46,7 @@ module _ (policy : ℕ) (reserve : List OstFid) where
         sound = s;
         stays = stays-refl T;
         grows = grows-refl T;
+        fits = λ g f. f;
         exists = λ v. v;
         later = λ v. ≼-refl p;
         passes = λ v z m. rw (List·Memᴰ·eq-of-singleton m) (v, ≼-refl p);
@@ -52,13 +54,14 @@ module _ (policy : ℕ) (reserve : List OstFid) where
         done = λ v d. d;
       }
 
-  ran-moved : (T : Tables) (p : Position) (S : Tables) (c : Counts) (x : Run) (l : List Position) → isEnd p ≡ false → Stepped policy T p S → Ran S (next S p) x l → Ran T p (after c x) (p ∷ l)
+  ran-moved : (T : Tables) (p : Position) (S : Tables) (c : Counts) (x : Run) (l : List Position) → isEnd p ≡ false → Stepped policy T p S → (FitReserve reserve → FitRows T → FitRows S) → Ran S (next S p) x l → Ran T p (after c x) (p ∷ l)
   unfolding after
-  ran-moved T p S c x l e h r =
+  ran-moved T p S c x l e h fits r =
       record {
         sound = r .sound;
         stays = stays-trans T S (x .tables) (h .calm .stays) (r .stays);
         grows = grows;
+        fits = λ g f. r .fits g (fits g f);
         exists = λ v. r .exists (next-exists S p);
         later = later;
         last = List·Memᴰ·tail (r .last);
@@ -84,7 +87,7 @@ module _ (policy : ℕ) (reserve : List OstFid) where
       go : {x : Run} {l : List Position} → ((S : Tables) → Distinct S → Ran S (next S p) (run policy reserve n S (next S p)) (passed policy reserve n S (next S p))) → OneStep n T p x l → Ran T p x l
       go ih (ended e) = ran-halt T p 0 s
       go ih (stuck a e d) = ran-halt T p a s
-      go ih (moved c S e makes) = let h = makes s in ran-moved T p S c _ _ e h (ih S (h .calm .sound))
+      go ih (moved c S e makes fits) = let h = makes s in ran-moved T p S c _ _ e h fits (ih S (h .calm .sound))
 
 -- ## A run of a steps and then one of b
 
@@ -297,7 +300,7 @@ module _ (policy : ℕ) (reserve : List OstFid) where
       go : {x : Run} {l : List Position} → ((S : Tables) → Distinct S → Exists S (next S p) → stepsLeft S (next S p) ≤ n → Enough S (next S p) (run policy reserve n S (next S p))) → OneStep policy reserve n T p x l → Enough T p x
       go ih (ended e) = to-the-end (is-end p e) refl (sym (left-end T p e))
       go ih (stuck a e d) = to-a-stop e d (subst (Makes policy T p) d (step-makes policy reserve T p s))
-      go ih (moved c S e makes) =
+      go ih (moved c S e makes fits) =
           let m = makes s in
           let l : stepsLeft T p ≡ suc (stepsLeft S (next S p)) = sym (step-left policy T S v m) ∙ left-next S (grows-exists T S (m .calm .grows) v) e in
           enough-moved T p S c _ l (ih S (m .calm .sound) (next-exists S p) (omega arith))

@@ -20,13 +20,17 @@ FitStep (stops a) = Unit {0}
 fit-write : (T : Tables) (w : Write) → FitRows T → FitWrite w → FitRows (applyWrite T w)
 unfolding applyWrite putParent putObject rowAt objectAt
 fit-write T (writeParent r w) f h =
-    record { objects = f .objects;
+    record {
+      objects = f .objects;
       parents = λ k l. let m : k < length (T .parents) = rw (← length-set (T .parents) r w) l in
-        set-pointwise (T .parents) r w (noParent []) FitParentRow k (λ e. rw (← e) (f .parents k m)) (λ e. h) (λ n. f .parents k m) }
+          set-pointwise (T .parents) r w (noParent []) FitParentRow k (λ e. rw (← e) (f .parents k m)) (λ e. h) (λ n. f .parents k m);
+    }
 fit-write T (writeObject o w) f h =
-    record { parents = f .parents;
+    record {
+      parents = f .parents;
       objects = λ k l. let m : k < length (T .objects) = rw (← length-set (T .objects) o w) l in
-        set-pointwise (T .objects) o w (noObject []) FitObjectRow k (λ e. rw (← e) (f .objects k m)) (λ e. h) (λ n. f .objects k m) }
+          set-pointwise (T .objects) o w (noObject []) FitObjectRow k (λ e. rw (← e) (f .objects k m)) (λ e. h) (λ n. f .objects k m);
+    }
 
 pub fit-writes : (T : Tables) (ws : List Write) → FitRows T → FitWrites ws → FitRows (applyWrites ws T)
 unfolding applyWrites
@@ -67,9 +71,11 @@ rules-of : (h : Header) (ss : List Slot) → layoutRules h ss ≡ true → Rules
 unfolding layoutRules fewSlots
 rules-of h ss e =
     let t = and-l (knownVersion h && knownPattern h && fewSlots (length ss)) (allowedSlots (withHoles h) ss) e in
-    record { known = and-l (knownVersion h && knownPattern h) (fewSlots (length ss)) t;
+    record {
+      known = and-l (knownVersion h && knownPattern h) (fewSlots (length ss)) t;
       few = leb-true (length ss) maxSlots (and-r (knownVersion h && knownPattern h) _ t);
-      allowed = and-r (knownVersion h && knownPattern h && fewSlots (length ss)) _ e }
+      allowed = and-r (knownVersion h && knownPattern h && fewSlots (length ss)) _ e;
+    }
 
 to-rules : (h : Header) (ss : List Slot) → Rules h ss → layoutRules h ss ≡ true
 unfolding layoutRules fewSlots
@@ -79,7 +85,7 @@ to-rules h ss r = and-both (and-both (r .known) (le-leb (length ss) maxSlots (r 
 
 -- a used row whose slots and tail change
 fit-slots : (p : Parent) (ss : List Slot) (t : List ℕ) → FitParent p → Rules (p .layout .header) ss → ((j : ℕ) → FitSlot (getD ss j Hole))
-  → 24 * length ss + length t ≡ 24 * length (p .layout .slots) + length (p .tail) → FitParentRow (withSlots (parent p) ss t)
+    → 24 * length ss + length t ≡ 24 * length (p .layout .slots) + length (p .tail) → FitParentRow (withSlots (parent p) ss t)
 unfolding withSlots layoutSize
 fit-slots p ss t f r s e =
     record { self = f .self; owner = f .owner; header = f .header; pool = f .pool; rules = to-rules (p .layout .header) ss r; slots = s; room = let z = f .room in omega arith }
@@ -106,8 +112,15 @@ fit-own : (w : ParentRow) → FitParentRow w → FitParentRow (withOwn w)
 unfolding withOwn ownHeader layoutRules knownVersion knownPattern withHoles
 fit-own (noParent b) f = f
 fit-own (parent p) f =
-    record { self = f .self; owner = f .owner; pool = f .pool; rules = f .rules; slots = f .slots; room = f .room;
-      header = record { oid = let z = f .self .oid in omega arith; seq = f .self .seq; stripe = f .header .stripe; generation = f .header .generation } }
+    record {
+      self = f .self;
+      owner = f .owner;
+      pool = f .pool;
+      rules = f .rules;
+      slots = f .slots;
+      room = f .room;
+      header = record { oid = let z = f .self .oid in omega arith; seq = f .self .seq; stripe = f .header .stripe; generation = f .header .generation };
+    }
 
 header-most : (magic : ℕ) → headerSize magic ≤ 48
 unfolding headerSize
@@ -120,11 +133,15 @@ header-most magic = go (eqb magic 0x0bd30bd0)
 fit-made : (f : MdtFid) (i : ℕ) (w : Owner) (b : List ℕ) → FitFid (f .0) → i < maxSlots → FitOwner w → 1 + length b ≡ parentSize → FitParentRow (made f i w b)
 unfolding made layoutSize headerSize layoutRules knownVersion knownPattern fewSlots withHoles allowedSlots
 fit-made f i w b g k o e =
-    record { self = g; owner = o; pool = refl;
+    record {
+      self = g;
+      owner = o;
+      pool = refl;
       header = record { oid = let z = g .oid in omega arith; seq = g .seq; stripe = omega arith; generation = omega arith };
       rules = and-both (le-leb (length (replicate (suc i) Hole)) maxSlots (rw n (omega arith))) (allowed-holes [] (suc i) refl);
       slots = λ j. subst FitSlot (sym (holes-getD (suc i) j)) tt;
-      room = rw (length-drop, n) (omega arith) }
+      room = rw (length-drop, n) (omega arith);
+    }
   where
     n : length (replicate (suc i) Hole) ≡ suc i
     n = length-replicate (suc i) Hole
@@ -143,10 +160,13 @@ fit-grown (parent p) i f h k l = fit-slots p (p .layout .slots ++ replicate more
   where
     more : ℕ
     more = suc i - length (p .layout .slots)
+
     r : Rules (p .layout .header) (p .layout .slots)
     r = rules-of (p .layout .header) (p .layout .slots) (f .rules)
+
     n : length (p .layout .slots ++ replicate more Hole) ≡ length (p .layout .slots) + more
     n = length-append (p .layout .slots) (replicate more Hole) ∙ ap (λ k. length (p .layout .slots) + k) (length-replicate more Hole)
+
     room : 24 * maxSlots ≤ 24 * length (p .layout .slots) + length (p .tail)
     room = fit-room p f
 
@@ -200,6 +220,7 @@ module _ (policy : ℕ) (T : Tables) (fit : FitRows T) where
         row-destroyed : (a : Row) → FitWrites (destroyAt a)
         row-destroyed NoRow = tt
         row-destroyed (RowIs z) = fit-destroy z
+
         named-destroyed : (s : Slot) → FitWrites (destroyNamed T s)
         named-destroyed Hole = tt
         named-destroyed (Names c d e) = row-destroyed (objectRow T c)
@@ -219,8 +240,10 @@ module _ (policy : ℕ) (T : Tables) (fit : FitRows T) where
     where
       fits : FitObject x
       fits = fit-found T fit o x e
+
       claimed : (f : MdtFid) (i : ℕ) → x .claim ≡ Claims f i → FitFid (f .0)
       claimed f i q = (subst FitClaim q (fits .claim)) .0
+
       go : (k : ObjectClass) → objectClass T o ≡ k → FitStep (repairObject policy T o x k)
       go UNUSED q = tt
       go KEPT q = tt
@@ -288,6 +311,7 @@ module _ (policy : ℕ) (T : Tables) (fit : FitRows T) where
       where
         few : length (slotsOf (rowAt T r)) ≤ maxSlots
         few = rw row-is (rules-of _ _ (row-fits .rules) .few)
+
         low : j < fourBytes
         low = let z = few in let y = inside .1 in omega arith
 
@@ -324,15 +348,19 @@ module _ (policy : ℕ) (T : Tables) (fit : FitRows T) where
         make : (a : Row) → FitStep (makeObject (newObject T f r j ost) a)
         make NoRow = tt
         make (RowIs o) = (fit-new f (slot-fits .0), tt)
+
         to : (g : OstFid) → FitFid (g .0) → (a : Row) → FitStep (redirectTo T r j ost g a)
         to g h NoRow = tt
         to g h (RowIs o) = (fit-new g h, (fit-slot (rowAt T r) j g 0 ost (fit .parents r (inside .0)) h (omega arith) index-fits, tt))
+
         take : (a : Usable) → usable T reserve ≡ a → FitStep (redirect T r j ost a)
         take UsedUp e = tt
         take (Takes g) e = to g (usable-fits reserve good g e) (freeObject T)
+
         when : (b : Bool) (u : Step) → FitStep u → FitStep (cond b u rests)
         when true u h = h
         when false u h = tt
+
         go : (k : SlotClass) → FitStep (repairSlot policy reserve T r j f ost k)
         go HOLE = tt
         go MULTIPLE = when (creates policy) (redirect T r j ost (usable T reserve)) (take (usable T reserve) refl)
