@@ -9,7 +9,8 @@ module _ (policy : ℕ) (reserve : List OstFid) where
   pub data OneStep (n : ℕ) (T : Tables) (p : Position) : Run → List Position → Type 0 where
     ended : isEnd p ≡ true → OneStep n T p (halt T p 0) (p ∷ [])
     stuck : (a : ℕ) → isEnd p ≡ false → stepAt policy reserve T p ≡ stops a → OneStep n T p (halt T p a) (p ∷ [])
-    moved : (c : Counts) (S : Tables) → isEnd p ≡ false → (Distinct T → Stepped policy T p S) → (FitReserve reserve → FitRows T → FitRows S) →
+    moved : (c : Counts) (S : Tables) → isEnd p ≡ false → (Distinct T → Stepped policy T p S) →
+        (FitReserve reserve → FitRows T → FitRows S) →
         OneStep n T p (after c (run policy reserve n S (next S p))) (p ∷ passed policy reserve n S (next S p))
 
   pub one-step : (n : ℕ) (T : Tables) (p : Position) → OneStep n T p (run policy reserve (suc n) T p) (passed policy reserve (suc n) T p)
@@ -20,10 +21,12 @@ module _ (policy : ℕ) (reserve : List OstFid) where
       makes e s = subst (Makes policy T p) e (step-makes policy reserve T p s)
 
       go : (b : Bool) → isEnd p ≡ b → (u : Step) → stepAt policy reserve T p ≡ u →
-          OneStep n T p (cond b (halt T p 0) (onStep T p (λ S. run policy reserve n S (next S p)) u)) (p ∷ cond b [] (passedOn T (λ S. passed policy reserve n S (next S p)) u))
+          OneStep n T p (cond b (halt T p 0) (onStep T p (λ S. run policy reserve n S (next S p)) u))
+          (p ∷ cond b [] (passedOn T (λ S. passed policy reserve n S (next S p)) u))
       go true q u e = ended q
       go false q rests e = moved noCounts T q (makes e) (λ g f. f)
-      go false q (repairs c ws) e = moved (countOf c) (applyWrites ws T) q (makes e) (λ g f. fit-writes T ws f (subst FitStep e (step-fits policy T f reserve g p)))
+      go false q (repairs c ws) e =
+          moved (countOf c) (applyWrites ws T) q (makes e) (λ g f. fit-writes T ws f (subst FitStep e (step-fits policy T f reserve g p)))
       go false q (stops a) e = stuck a q e
 
   -- ## What every run keeps
@@ -54,7 +57,8 @@ module _ (policy : ℕ) (reserve : List OstFid) where
         done = λ v d. d;
       }
 
-  ran-moved : (T : Tables) (p : Position) (S : Tables) (c : Counts) (x : Run) (l : List Position) → isEnd p ≡ false → Stepped policy T p S → (FitReserve reserve → FitRows T → FitRows S) → Ran S (next S p) x l → Ran T p (after c x) (p ∷ l)
+  ran-moved : (T : Tables) (p : Position) (S : Tables) (c : Counts) (x : Run) (l : List Position) → isEnd p ≡ false → Stepped policy T p S →
+      (FitReserve reserve → FitRows T → FitRows S) → Ran S (next S p) x l → Ran T p (after c x) (p ∷ l)
   unfolding after
   ran-moved T p S c x l e h fits r =
       record {
@@ -84,7 +88,9 @@ module _ (policy : ℕ) (reserve : List OstFid) where
   run-makes zero T p s = ran-halt T p (cond (isEnd p) 0 1) s
   run-makes (suc n) T p s = go (λ S. run-makes n S (next S p)) (one-step n T p)
     where
-      go : {x : Run} {l : List Position} → ((S : Tables) → Distinct S → Ran S (next S p) (run policy reserve n S (next S p)) (passed policy reserve n S (next S p))) → OneStep n T p x l → Ran T p x l
+      go : {x : Run} {l : List Position} →
+          ((S : Tables) → Distinct S → Ran S (next S p) (run policy reserve n S (next S p)) (passed policy reserve n S (next S p))) →
+          OneStep n T p x l → Ran T p x l
       go ih (ended e) = ran-halt T p 0 s
       go ih (stuck a e d) = ran-halt T p a s
       go ih (moved c S e makes fits) = let h = makes s in ran-moved T p S c _ _ e h fits (ih S (h .calm .sound))
@@ -92,9 +98,11 @@ module _ (policy : ℕ) (reserve : List OstFid) where
 -- ## A run of a steps and then one of b
 
 -- counts add up
-counts-same : {a b c d e f g h a′ b′ c′ d′ e′ f′ g′ h′ : ℕ} → a ≡ a′ → b ≡ b′ → c ≡ c′ → d ≡ d′ → e ≡ e′ → f ≡ f′ → g ≡ g′ → h ≡ h′ → counts a b c d e f g h ≡ counts a′ b′ c′ d′ e′ f′ g′ h′
+counts-same : {a b c d e f g h a′ b′ c′ d′ e′ f′ g′ h′ : ℕ} → a ≡ a′ → b ≡ b′ → c ≡ c′ → d ≡ d′ → e ≡ e′ → f ≡ f′ → g ≡ g′ → h ≡ h′ →
+    counts a b c d e f g h ≡ counts a′ b′ c′ d′ e′ f′ g′ h′
 unfolding counts
-counts-same p q r s t u v w = λ i. record { own = p i; multiple = q i; dangling = r i; blank = s i; unmatched = t i; owner = u i; empty = v i; orphan = w i }
+counts-same p q r s t u v w =
+    λ i. record { own = p i; multiple = q i; dangling = r i; blank = s i; unmatched = t i; owner = u i; empty = v i; orphan = w i }
 
 counts-assoc : (x y z : Counts) → addCounts (addCounts x y) z ≡ addCounts x (addCounts y z)
 unfolding addCounts counts
@@ -139,7 +147,8 @@ module _ (policy : ℕ) (reserve : List OstFid) where
   go-on b x = run policy reserve b (x .tables) (x .report .position)
 
   pub run-then : (a b : ℕ) (T : Tables) (p : Position) →
-      run policy reserve (a + suc b) T p ≡ then (run policy reserve a T p) (run policy reserve (suc b) (run policy reserve a T p .tables) (run policy reserve a T p .report .position))
+      run policy reserve (a + suc b) T p ≡ then (run policy reserve a T p)
+      (run policy reserve (suc b) (run policy reserve a T p .tables) (run policy reserve a T p .report .position))
   unfolding run halt onStep after
   run-then zero b T p = rw zero-add (sym (then-halt T p (cond (isEnd p) 0 1) (run policy reserve (suc b) T p)))
   run-then (suc a) b T p = rw suc-add (go (isEnd p) refl (stepAt policy reserve T p) refl (λ S. run-then a b S (next S p)))
@@ -150,7 +159,8 @@ module _ (policy : ℕ) (reserve : List OstFid) where
       Joins : Run → Run → Type 0
       Joins whole x = whole ≡ then x (run policy reserve (suc b) (x .tables) (x .report .position))
 
-      go : (e : Bool) → isEnd p ≡ e → (u : Step) → stepAt policy reserve T p ≡ u → ((S : Tables) → Joins (run policy reserve (a + suc b) S (next S p)) (run policy reserve a S (next S p)))
+      go : (e : Bool) → isEnd p ≡ e → (u : Step) → stepAt policy reserve T p ≡ u →
+          ((S : Tables) → Joins (run policy reserve (a + suc b) S (next S p)) (run policy reserve a S (next S p)))
           → Joins (cond e (halt T p 0) (rest-of (a + suc b) u)) (cond e (halt T p 0) (rest-of a u))
       go true q u h ih = sym (then-halt T p 0 (run policy reserve (suc b) T p) ∙ rw q)
       go false q (stops n) h ih = sym (then-halt T p n (run policy reserve (suc b) T p) ∙ rw (q, h))
@@ -162,7 +172,8 @@ module _ (policy : ℕ) (reserve : List OstFid) where
   -- at the end, or at a step that can't be made
   pub data Final (x : Run) : Type 0 where
     at-the-end : x .report .position ≡ place 3 0 0 → x .report .answer ≡ 0 → Final x
-    at-a-stop : isEnd (x .report .position) ≡ false → stepAt policy reserve (x .tables) (x .report .position) ≡ stops (x .report .answer) → Final x
+    at-a-stop : isEnd (x .report .position) ≡ false → stepAt policy reserve (x .tables) (x .report .position) ≡ stops (x .report .answer) →
+        Final x
 
   final-run : (x : Run) → Final x → (b : ℕ) → go-on (suc b) x ≡ halt (x .tables) (x .report .position) (x .report .answer)
   unfolding go-on run isEnd place onStep
@@ -170,7 +181,8 @@ module _ (policy : ℕ) (reserve : List OstFid) where
   final-run x (at-a-stop e q) b = rw (e, q)
 
   -- more steps come to the same
-  pub final-more : (a b : ℕ) (T : Tables) (p : Position) → Final (run policy reserve a T p) → a ≤ b → run policy reserve b T p ≡ run policy reserve a T p
+  pub final-more : (a b : ℕ) (T : Tables) (p : Position) → Final (run policy reserve a T p) → a ≤ b →
+      run policy reserve b T p ≡ run policy reserve a T p
   unfolding go-on
   final-more a b T p f h = go (b - a) refl
     where
@@ -178,10 +190,12 @@ module _ (policy : ℕ) (reserve : List OstFid) where
       go zero e = let q : b ≡ a = omega arith in rw q
       go (suc d) e =
           let q : b ≡ a + suc d = omega arith in
-          ap (λ n. run policy reserve n T p) q ∙ run-then a d T p ∙ ap (then (run policy reserve a T p)) (final-run (run policy reserve a T p) f d) ∙ halt-then (run policy reserve a T p)
+          ap (λ n. run policy reserve n T p) q ∙ run-then a d T p ∙ ap (then (run policy reserve a T p))
+          (final-run (run policy reserve a T p) f d) ∙ halt-then (run policy reserve a T p)
 
   -- two runs from one place that are both final are the same
-  pub final-same : (a b : ℕ) (T : Tables) (p : Position) → Final (run policy reserve a T p) → Final (run policy reserve b T p) → run policy reserve a T p ≡ run policy reserve b T p
+  pub final-same : (a b : ℕ) (T : Tables) (p : Position) → Final (run policy reserve a T p) → Final (run policy reserve b T p) →
+      run policy reserve a T p ≡ run policy reserve b T p
   final-same a b T p f g = go (decLt a b)
     where
       go : Dec (a < b) → run policy reserve a T p ≡ run policy reserve b T p
@@ -197,7 +211,8 @@ stepsFrom T r m = (suc (width T r) - m) + rowSteps (drop (suc r) (T .parents)) +
 unfoldable pub stepsLeft : Tables → Position → ℕ
 stepsLeft T p = cond (eqb (p .stage) 1) (stepsFrom T (p .row) (p .part)) (cond (eqb (p .stage) 2) (length (T .objects) - p .row) 0)
 
-rows-from : (l : List ParentRow) (r : ℕ) → r < length l → rowSteps (drop r l) ≡ suc (length (slotsOf (getD l r (noParent [])))) + rowSteps (drop (suc r) l)
+rows-from : (l : List ParentRow) (r : ℕ) → r < length l →
+    rowSteps (drop r l) ≡ suc (length (slotsOf (getD l r (noParent [])))) + rowSteps (drop (suc r) l)
 unfolding rowSteps
 rows-from l r h = ap rowSteps (drop-cons l r (noParent []) h)
 
@@ -211,7 +226,8 @@ rows-most l zero = omega arith
 rows-most [] (suc r) = omega arith
 rows-most (w ∷ l) (suc r) = let h = rows-most l r in omega arith
 
-rows-same : (l m : List ParentRow) → length m ≡ length l → ((k : ℕ) → length (slotsOf (getD m k (noParent []))) ≡ length (slotsOf (getD l k (noParent [])))) → rowSteps m ≡ rowSteps l
+rows-same : (l m : List ParentRow) → length m ≡ length l →
+    ((k : ℕ) → length (slotsOf (getD m k (noParent []))) ≡ length (slotsOf (getD l k (noParent [])))) → rowSteps m ≡ rowSteps l
 unfolding rowSteps
 rows-same [] [] e w = refl
 rows-same [] (v ∷ m) e w = absurd (omega arith)
@@ -231,7 +247,8 @@ module _ (T : Tables) where
   unfolding stepsLeft stepsFrom fromParent place width rowAt
   left-parent r = go (ltb r (length (T .parents))) refl
     where
-      go : (b : Bool) → ltb r (length (T .parents)) ≡ b → stepsLeft T (cond b (place 1 r 0) (fromObject T 0)) ≡ rowSteps (drop r (T .parents)) + length (T .objects)
+      go : (b : Bool) → ltb r (length (T .parents)) ≡ b →
+          stepsLeft T (cond b (place 1 r 0) (fromObject T 0)) ≡ rowSteps (drop r (T .parents)) + length (T .objects)
       go true e = let z = rows-from (T .parents) r (ltb-true r (length (T .parents)) e) in omega arith
       go false e = let z = rows-past (T .parents) r (ltb-false r (length (T .parents)) e) in let o = left-object 0 in omega arith
 
@@ -239,7 +256,8 @@ module _ (T : Tables) where
   unfolding stepsLeft stepsFrom afterPart place
   left-part r m = go (ltb m (width T r)) refl
     where
-      go : (b : Bool) → ltb m (width T r) ≡ b → stepsLeft T (cond b (place 1 r (suc m)) (fromParent T (suc r))) ≡ (width T r - m) + rowSteps (drop (suc r) (T .parents)) + length (T .objects)
+      go : (b : Bool) → ltb m (width T r) ≡ b →
+          stepsLeft T (cond b (place 1 r (suc m)) (fromParent T (suc r))) ≡ (width T r - m) + rowSteps (drop (suc r) (T .parents)) + length (T .objects)
       go true e = omega arith
       go false e = let h = ltb-false m (width T r) e in let o = left-parent (suc r) in omega arith
 
@@ -270,7 +288,8 @@ step-left : (policy : ℕ) (T S : Tables) {p : Position} → Exists T p → Step
 unfolding stepsLeft stepsFrom width rowAt
 step-left policy T S (in-parent r m h k) s =
     let rest : rowSteps (drop (suc r) (S .parents)) ≡ rowSteps (drop (suc r) (T .parents)) =
-    rows-same (drop (suc r) (T .parents)) (drop (suc r) (S .parents)) (rw (length-drop, length-drop, s .calm .grows .tall)) (λ l. rw (getD-drop, getD-drop) (s .widths refl (suc r + l))) in
+    rows-same (drop (suc r) (T .parents)) (drop (suc r) (S .parents)) (rw (length-drop, length-drop, s .calm .grows .tall))
+    (λ l. rw (getD-drop, getD-drop) (s .widths refl (suc r + l))) in
     let z = s .widths refl r in
     let y = s .calm .grows .size in
     omega arith
@@ -281,9 +300,11 @@ module _ (policy : ℕ) (reserve : List OstFid) where
   -- with enough steps a run comes to the end, by exactly as many as were left, or to a step that can't be made
   pub data Enough (T : Tables) (p : Position) (x : Run) : Type 0 where
     to-the-end : x .report .position ≡ place 3 0 0 → x .report .answer ≡ 0 → x .report .steps ≡ stepsLeft T p → Enough T p x
-    to-a-stop : isEnd (x .report .position) ≡ false → stepAt policy reserve (x .tables) (x .report .position) ≡ stops (x .report .answer) → (21 ≤ x .report .answer) × (x .report .answer ≤ 23) → Enough T p x
+    to-a-stop : isEnd (x .report .position) ≡ false → stepAt policy reserve (x .tables) (x .report .position) ≡ stops (x .report .answer) →
+        (21 ≤ x .report .answer) × (x .report .answer ≤ 23) → Enough T p x
 
-  enough-moved : (T : Tables) (p : Position) (S : Tables) (c : Counts) (x : Run) → stepsLeft T p ≡ suc (stepsLeft S (next S p)) → Enough S (next S p) x → Enough T p (after c x)
+  enough-moved : (T : Tables) (p : Position) (S : Tables) (c : Counts) (x : Run) → stepsLeft T p ≡ suc (stepsLeft S (next S p)) →
+      Enough S (next S p) x → Enough T p (after c x)
   unfolding after
   enough-moved T p S c x e (to-the-end a b k) = to-the-end a b (ap suc k ∙ sym e)
   enough-moved T p S c x e (to-a-stop a b k) = to-a-stop a b k
@@ -297,7 +318,9 @@ module _ (policy : ℕ) (reserve : List OstFid) where
       go false e = absurd (let z = left-next T v e in omega arith)
   run-enough (suc n) T p s v h = go (λ S. run-enough n S (next S p)) (one-step policy reserve n T p)
     where
-      go : {x : Run} {l : List Position} → ((S : Tables) → Distinct S → Exists S (next S p) → stepsLeft S (next S p) ≤ n → Enough S (next S p) (run policy reserve n S (next S p))) → OneStep policy reserve n T p x l → Enough T p x
+      go : {x : Run} {l : List Position} →
+          ((S : Tables) → Distinct S → Exists S (next S p) → stepsLeft S (next S p) ≤ n → Enough S (next S p) (run policy reserve n S (next S p))) →
+          OneStep policy reserve n T p x l → Enough T p x
       go ih (ended e) = to-the-end (is-end p e) refl (sym (left-end T p e))
       go ih (stuck a e d) = to-a-stop e d (subst (Makes policy T p) d (step-makes policy reserve T p s))
       go ih (moved c S e makes fits) =

@@ -43,22 +43,27 @@ fit-append (w ∷ a) b f g = (f .0, fit-append a b (f .1) g)
 
 -- ## Slots
 
-allowed-set : (b : Bool) (l : List Slot) (j : ℕ) (s : Slot) → allowedSlots b l ≡ true → allowedSlot b s ≡ true → allowedSlots b (set l j s) ≡ true
+allowed-set : (b : Bool) (l : List Slot) (j : ℕ) (s : Slot) → allowedSlots b l ≡ true → allowedSlot b s ≡ true →
+    allowedSlots b (set l j s) ≡ true
 unfolding allowedSlots
 allowed-set b [] j s f h = refl
 allowed-set b (v ∷ l) zero s f h = and-both h (and-r (allowedSlot b v) _ f)
-allowed-set b (v ∷ l) (suc j) s f h = and-both (and-l (allowedSlot b v) (allowedSlots b l) f) (allowed-set b l j s (and-r (allowedSlot b v) _ f) h)
+allowed-set b (v ∷ l) (suc j) s f h =
+    and-both (and-l (allowedSlot b v) (allowedSlots b l) f) (allowed-set b l j s (and-r (allowedSlot b v) _ f) h)
 
 allowed-holes : (l : List Slot) (n : ℕ) → allowedSlots true l ≡ true → allowedSlots true (l ++ replicate n Hole) ≡ true
 unfolding allowedSlots allowedSlot
 allowed-holes [] zero f = refl
 allowed-holes [] (suc n) f = allowed-holes [] n f
-allowed-holes (v ∷ l) n f = and-both (and-l (allowedSlot true v) (allowedSlots true l) f) (allowed-holes l n (and-r (allowedSlot true v) _ f))
+allowed-holes (v ∷ l) n f =
+    and-both (and-l (allowedSlot true v) (allowedSlots true l) f) (allowed-holes l n (and-r (allowedSlot true v) _ f))
 
-allowed-index : (b : Bool) (l : List Slot) (j : ℕ) (f : OstFid) (n i : ℕ) → allowedSlots b l ≡ true → getD l j Hole ≡ Names f n i → i ≤ maxIndex
+allowed-index : (b : Bool) (l : List Slot) (j : ℕ) (f : OstFid) (n i : ℕ) → allowedSlots b l ≡ true → getD l j Hole ≡ Names f n i →
+    i ≤ maxIndex
 unfolding allowedSlots allowedSlot
 allowed-index b [] j f n i a e = let z : _≡_ {A = ℕ} 0 1 = cc in absurd (omega arith)
-allowed-index b (v ∷ l) zero f n i a e = leb-true i maxIndex (and-r (goodFid (f .0)) _ (rw e at (and-l (allowedSlot b v) (allowedSlots b l) a)))
+allowed-index b (v ∷ l) zero f n i a e =
+    leb-true i maxIndex (and-r (goodFid (f .0)) _ (rw e at (and-l (allowedSlot b v) (allowedSlots b l) a)))
 allowed-index b (v ∷ l) (suc j) f n i a e = allowed-index b l j f n i (and-r (allowedSlot b v) _ a) e
 
 -- the rules of a layout, one by one
@@ -91,7 +96,8 @@ fit-slots p ss t f r s e =
     record { self = f .self; owner = f .owner; header = f .header; pool = f .pool; rules = to-rules (p .layout .header) ss r; slots = s; room = let z = f .room in omega arith }
 
 -- one slot of a row, which names an object
-fit-slot : (w : ParentRow) (j : ℕ) (f : OstFid) (n i : ℕ) → FitParentRow w → FitFid (f .0) → n < fourBytes → i ≤ maxIndex → FitParentRow (withSlot w j (Names f n i))
+fit-slot : (w : ParentRow) (j : ℕ) (f : OstFid) (n i : ℕ) → FitParentRow w → FitFid (f .0) → n < fourBytes → i ≤ maxIndex →
+    FitParentRow (withSlot w j (Names f n i))
 unfolding withSlot slotsOf tailOf withSlots allowedSlot
 fit-slot (noParent b) j f n i h g m k = h
 fit-slot (parent p) j f n i h g m k =
@@ -130,7 +136,8 @@ header-most magic = go (eqb magic 0x0bd30bd0)
     go true = omega arith
     go false = omega arith
 
-fit-made : (f : MdtFid) (i : ℕ) (w : Owner) (b : List ℕ) → FitFid (f .0) → i < maxSlots → FitOwner w → 1 + length b ≡ parentSize → FitParentRow (made f i w b)
+fit-made : (f : MdtFid) (i : ℕ) (w : Owner) (b : List ℕ) → FitFid (f .0) → i < maxSlots → FitOwner w → 1 + length b ≡ parentSize →
+    FitParentRow (made f i w b)
 unfolding made layoutSize headerSize layoutRules knownVersion knownPattern fewSlots withHoles allowedSlots
 fit-made f i w b g k o e =
     record {
@@ -188,7 +195,8 @@ module _ (policy : ℕ) (T : Tables) (fit : FitRows T) where
   module _ (o : ℕ) (x : Object) (fits : FitObject x) where
     fit-settle : (r i : ℕ) (w : ParentRow) → FitParentRow w → FitWrites (settle o x r i w)
     unfolding settle slotFor ownerWrites withOwner
-    fit-settle r i w h = (fit-slot w i (x .fid) 0 (x .ost) h (fits .fid) (omega arith) (fits .ost), owned (sameOwner (x .owner) (ownerOf w)))
+    fit-settle r i w h =
+        (fit-slot w i (x .fid) 0 (x .ost) h (fits .fid) (omega arith) (fits .ost), owned (sameOwner (x .owner) (ownerOf w)))
       where
         owned : (b : Bool) → FitWrites (cond b [] (writeObject o (object (withOwner x (ownerOf w))) ∷ []))
         owned true = tt
@@ -215,7 +223,8 @@ module _ (policy : ℕ) (T : Tables) (fit : FitRows T) where
     fit-adopt f i g k (to-fill {r = r} p h q) = fit-settle r i (rowAt T r) (fit-at T fit f r p)
     fit-adopt f i g k (to-grow {r = r} p h q) = fit-settle r i (grown (rowAt T r) i) (fit-grown (rowAt T r) i (fit-at T fit f r p) q h k)
     fit-adopt f i g k (to-take {r = r} h n m p l q t) =
-        fit-append (settle o x r i (rowAt T r)) (destroyNamed T (slotAt T r i)) (fit-settle r i (rowAt T r) (fit-at T fit f r p)) (named-destroyed (slotAt T r i))
+        fit-append (settle o x r i (rowAt T r)) (destroyNamed T (slotAt T r i)) (fit-settle r i (rowAt T r) (fit-at T fit f r p))
+        (named-destroyed (slotAt T r i))
       where
         row-destroyed : (a : Row) → FitWrites (destroyAt a)
         row-destroyed NoRow = tt
@@ -260,7 +269,8 @@ module _ (policy : ℕ) (T : Tables) (fit : FitRows T) where
           adopted false = tt
           adopted true =
               let (f, i, claim, unnamed, stays, w) = orphan-means T o x e q in
-              subst (λ k. FitStep (adopt T o x k)) (sym claim) (fit-adopt o x fits f i (claimed f i claim) (way-low o x fits f i w) (way-means T f i))
+              subst (λ k. FitStep (adopt T o x k)) (sym claim)
+              (fit-adopt o x fits f i (claimed f i claim) (way-low o x fits f i w) (way-means T f i))
 
   -- ## Slots
 
@@ -296,7 +306,9 @@ module _ (policy : ℕ) (T : Tables) (fit : FitRows T) where
     slot-fits = subst FitSlot at-row (row-fits .slots j)
 
     index-fits : ost ≤ maxIndex
-    index-fits = allowed-index (withHoles (its-row .layout .header)) (its-row .layout .slots) j f n ost (rules-of _ _ (row-fits .rules) .allowed) at-row
+    index-fits =
+        allowed-index (withHoles (its-row .layout .header)) (its-row .layout .slots) j f n ost
+        (rules-of _ _ (row-fits .rules) .allowed) at-row
 
     self-fits : FitFid (selfOf (rowAt T r) .0)
     unfolding selfOf
@@ -317,7 +329,8 @@ module _ (policy : ℕ) (T : Tables) (fit : FitRows T) where
 
     fit-new : (g : OstFid) → FitFid (g .0) → FitObject (newObject T g r j ost)
     unfolding newObject
-    fit-new g h = record { fid = h; ost = index-fits; owner = owner-fits; claim = claim-fits; fresh = λ e q. let z : _≡_ {A = ℕ} 0 1 = cc in omega arith }
+    fit-new g h =
+        record { fid = h; ost = index-fits; owner = owner-fits; claim = claim-fits; fresh = λ e q. let z : _≡_ {A = ℕ} 0 1 = cc in omega arith }
 
     usable-fits : (gs : List OstFid) → FitReserve gs → (g : OstFid) → usable T gs ≡ Takes g → FitFid (g .0)
     unfolding usable
@@ -328,7 +341,8 @@ module _ (policy : ℕ) (T : Tables) (fit : FitRows T) where
         go true e ih = ih e
         go false e ih = let z : b ≡ g = cc in h g (List·Memᴰ·head (sym z))
 
-    fit-rewrite : (c : Repair) (h : Object → Object) → ((x : Object) → FitObject x → FitObject (h x)) → (a : Row) → FitStep (rewriteAt T c h a)
+    fit-rewrite : (c : Repair) (h : Object → Object) → ((x : Object) → FitObject x → FitObject (h x)) → (a : Row) →
+        FitStep (rewriteAt T c h a)
     unfolding rewriteAt rewrite
     fit-rewrite c h same NoRow = tt
     fit-rewrite c h same (RowIs o) = go (objectAt T o) refl
@@ -339,7 +353,9 @@ module _ (policy : ℕ) (T : Tables) (fit : FitRows T) where
 
     fit-claim : (c : Repair) (a : Row) → FitStep (writeClaim T c r j a)
     unfolding writeClaim withClaim
-    fit-claim c a = fit-rewrite c _ (λ x h. record { fid = h .fid; ost = h .ost; owner = owner-fits; claim = claim-fits; fresh = λ e q. let z : _≡_ {A = ℕ} 0 1 = cc in omega arith }) a
+    fit-claim c a =
+        fit-rewrite c _
+        (λ x h. record { fid = h .fid; ost = h .ost; owner = owner-fits; claim = claim-fits; fresh = λ e q. let z : _≡_ {A = ℕ} 0 1 = cc in omega arith }) a
 
     fit-slot-step : FitStep (slotStep policy reserve T r j (Names f n ost))
     unfolding slotStep repairSlot writeOwner withOwner makeObject redirect redirectTo
@@ -367,7 +383,9 @@ module _ (policy : ℕ) (T : Tables) (fit : FitRows T) where
         go DANGLING = when (creates policy) (makeObject (newObject T f r j ost) (freeObject T)) (make (freeObject T))
         go BLANK = fit-claim OfBlank (objectRow T f)
         go (UNMATCHED g i) = fit-claim OfUnmatched (objectRow T f)
-        go OWNER = fit-rewrite OfOwner _ (λ x h. record { fid = h .fid; ost = h .ost; owner = owner-fits; claim = h .claim; fresh = h .fresh }) (objectRow T f)
+        go OWNER =
+            fit-rewrite OfOwner _ (λ x h. record { fid = h .fid; ost = h .ost; owner = owner-fits; claim = h .claim; fresh = h .fresh })
+            (objectRow T f)
         go CLEAN = tt
 
   fit-header : (r : ℕ) (k : HeaderClass) → headerClass (rowAt T r) ≡ k → FitStep (repairHeader T r k)
@@ -396,7 +414,8 @@ module _ (policy : ℕ) (T : Tables) (fit : FitRows T) where
   unfolding stepAt
   step-fits reserve good p = go (eqb (p .stage) 1) (eqb (p .stage) 2)
     where
-      go : (a b : Bool) → FitStep (cond a (partStep policy reserve T (p .row) (p .part)) (cond b (objectStep policy T (p .row) (objectAt T (p .row))) rests))
+      go : (a b : Bool) →
+          FitStep (cond a (partStep policy reserve T (p .row) (p .part)) (cond b (objectStep policy T (p .row) (objectAt T (p .row))) rests))
       go true b = fit-part reserve good (p .row) (p .part)
       go false true = fit-object (p .row) (objectAt T (p .row)) refl
       go false false = tt

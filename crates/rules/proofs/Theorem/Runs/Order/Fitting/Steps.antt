@@ -22,13 +22,15 @@ pub data Means (T : Tables) (f : MdtFid) (i : ℕ) : Way → Type 0 where
   to-make : ((k : ℕ) → isParent f (rowAt T k) ≡ false) → Means T f i NewParent
   to-fill : {r : ℕ} → isParent f (rowAt T r) ≡ true → i < width T r → slotAt T r i ≡ Hole → Means T f i (Fill r)
   to-grow : {r : ℕ} → isParent f (rowAt T r) ≡ true → width T r ≤ i → holesIn (rowAt T r) ≡ true → Means T f i (Grow r)
-  to-take : {r : ℕ} (g : OstFid) (n m : ℕ) → isParent f (rowAt T r) ≡ true → i < width T r → slotAt T r i ≡ Names g n m → takeable T f g r i (objectOf T g) ≡ true → Means T f i (Take r)
+  to-take : {r : ℕ} (g : OstFid) (n m : ℕ) → isParent f (rowAt T r) ≡ true → i < width T r → slotAt T r i ≡ Names g n m →
+      takeable T f g r i (objectOf T g) ≡ true → Means T f i (Take r)
 
 pub way-means : (T : Tables) (f : MdtFid) (i : ℕ) → Means T f i (way T f i)
 unfolding way rowWay slotWay
 way-means T f i = low (ltb i maxSlots)
   where
-    taking : (r : ℕ) (g : OstFid) (n m : ℕ) → isParent f (rowAt T r) ≡ true → i < width T r → slotAt T r i ≡ Names g n m → (b : Bool) → takeable T f g r i (objectOf T g) ≡ b → Means T f i (cond b (Take r) NoWay)
+    taking : (r : ℕ) (g : OstFid) (n m : ℕ) → isParent f (rowAt T r) ≡ true → i < width T r → slotAt T r i ≡ Names g n m → (b : Bool) →
+        takeable T f g r i (objectOf T g) ≡ b → Means T f i (cond b (Take r) NoWay)
     taking r g n m e h q true t = to-take g n m e h q t
     taking r g n m e h q false t = none-at-all
 
@@ -36,11 +38,13 @@ way-means T f i = low (ltb i maxSlots)
     slots r e h Hole q = to-fill e h q
     slots r e h (Names g n m) q = taking r g n m e h q (takeable T f g r i (objectOf T g)) refl
 
-    growing : (r : ℕ) → isParent f (rowAt T r) ≡ true → width T r ≤ i → (b : Bool) → holesIn (rowAt T r) ≡ b → Means T f i (cond b (Grow r) NoWay)
+    growing : (r : ℕ) → isParent f (rowAt T r) ≡ true → width T r ≤ i → (b : Bool) → holesIn (rowAt T r) ≡ b →
+        Means T f i (cond b (Grow r) NoWay)
     growing r e h true q = to-grow e h q
     growing r e h false q = none-at-all
 
-    wide : (r : ℕ) → isParent f (rowAt T r) ≡ true → (b : Bool) → ltb i (width T r) ≡ b → Means T f i (cond b (slotWay T f r i (slotAt T r i)) (cond (holesIn (rowAt T r)) (Grow r) NoWay))
+    wide : (r : ℕ) → isParent f (rowAt T r) ≡ true → (b : Bool) → ltb i (width T r) ≡ b →
+        Means T f i (cond b (slotWay T f r i (slotAt T r i)) (cond (holesIn (rowAt T r)) (Grow r) NoWay))
     wide r e true q = slots r e (ltb-true i (width T r) q) (slotAt T r i) refl
     wide r e false q = growing r e (ltb-false i (width T r) q) (holesIn (rowAt T r)) refl
 
@@ -66,7 +70,8 @@ take-else T f g r i Missing t = clash t refl
 take-else T f g r i (Present x) t = not-true (namedElse T g r i) (and-r (x .fresh && claimIs (x .claim) f i) _ t)
 
 -- the object that gives up its slot is fresh
-take-fresh : (T : Tables) (f : MdtFid) (g : OstFid) (r i q : ℕ) (z : Object) → takeable T f g r i (objectOf T g) ≡ true → objectRow T g ≡ RowIs q → objectAt T q ≡ object z → z .fresh ≡ true
+take-fresh : (T : Tables) (f : MdtFid) (g : OstFid) (r i q : ℕ) (z : Object) → takeable T f g r i (objectOf T g) ≡ true →
+    objectRow T g ≡ RowIs q → objectAt T q ≡ object z → z .fresh ≡ true
 unfolding takeable objectOf objectInRow objectIn objectAt
 take-fresh T f g r i q z t w a =
     let oz : objectOf T g ≡ Present z = rw (w, a) in
@@ -83,18 +88,22 @@ pad-getD [] n j = holes-getD n j
 pad-getD (s ∷ l) n zero = refl
 pad-getD (s ∷ l) n (suc j) = pad-getD l n j
 
-pad-row : (w : ParentRow) (t : List ℕ) (n j : ℕ) → getD (slotsOf (withSlots w (slotsOf w ++ replicate n Hole) t)) j Hole ≡ getD (slotsOf w) j Hole
+pad-row : (w : ParentRow) (t : List ℕ) (n j : ℕ) →
+    getD (slotsOf (withSlots w (slotsOf w ++ replicate n Hole) t)) j Hole ≡ getD (slotsOf w) j Hole
 unfolding slotsOf withSlots
 pad-row (noParent b) t n j = refl
 pad-row (parent p) t n j = pad-getD (p .layout .slots) n j
 
-pad-width : (f : MdtFid) (w : ParentRow) (t : List ℕ) (n : ℕ) → isParent f w ≡ true → length (slotsOf (withSlots w (slotsOf w ++ replicate n Hole) t)) ≡ length (slotsOf w) + n
+pad-width : (f : MdtFid) (w : ParentRow) (t : List ℕ) (n : ℕ) → isParent f w ≡ true →
+    length (slotsOf (withSlots w (slotsOf w ++ replicate n Hole) t)) ≡ length (slotsOf w) + n
 unfolding slotsOf withSlots isParent
 pad-width f (noParent b) t n e = clash e refl
-pad-width f (parent p) t n e = length-append (p .layout .slots) (replicate n Hole) ∙ ap (λ k. length (p .layout .slots) + k) (length-replicate n Hole)
+pad-width f (parent p) t n e =
+    length-append (p .layout .slots) (replicate n Hole) ∙ ap (λ k. length (p .layout .slots) + k) (length-replicate n Hole)
 
 -- ## Ready
-module _ (policy : ℕ) (T : Tables) (o i : ℕ) (x : Object) (f : MdtFid) (sound : Distinct T) (holds : objectAt T o ≡ object x) (claim : x .claim ≡ Claims f i) (unnamed : named T (x .fid) ≡ false) where
+module _ (policy : ℕ) (T : Tables) (o i : ℕ) (x : Object) (f : MdtFid) (sound : Distinct T) (holds : objectAt T o ≡ object x)
+    (claim : x .claim ≡ Claims f i) (unnamed : named T (x .fid) ≡ false) where
   pub ready-fill : (r : ℕ) → isParent f (rowAt T r) ≡ true → i < width T r → slotAt T r i ≡ Hole → Ready policy T T o r i x
   unfolding namesAt slotNames
   ready-fill r e h q =
@@ -115,9 +124,12 @@ module _ (policy : ℕ) (T : Tables) (o i : ℕ) (x : Object) (f : MdtFid) (soun
       }
 
   -- row r becomes w, which has the same slots up to holes, and a Hole at i
-  module _ (r : ℕ) (w : ParentRow) (h : r < length (T .parents)) (same : (j : ℕ) → getD (slotsOf w) j Hole ≡ slotAt T r j) (like : (g : OstFid) (j : ℕ) → namesAt T g r j ≡ true → RowLike w (rowAt T r))
-      (one : OneParent (putParent T r w)) (more : (g : MdtFid) → isParent g (rowAt T r) ≡ true → (isParent g w ≡ true) × (holesIn (rowAt T r) ≡ true) × (length (slotsOf (rowAt T r)) ≤ length (slotsOf w)))
-      (wide : length (slotsOf (rowAt T r)) ≤ length (slotsOf w)) (isF : isParent f w ≡ true) (within : i < length (slotsOf w)) (q : slotAt T r i ≡ Hole) (right : headerQuiet (rowAt T r) ≡ true → headerQuiet w ≡ true) where
+  module _ (r : ℕ) (w : ParentRow) (h : r < length (T .parents)) (same : (j : ℕ) → getD (slotsOf w) j Hole ≡ slotAt T r j)
+      (like : (g : OstFid) (j : ℕ) → namesAt T g r j ≡ true → RowLike w (rowAt T r))
+      (one : OneParent (putParent T r w))
+      (more : (g : MdtFid) → isParent g (rowAt T r) ≡ true → (isParent g w ≡ true) × (holesIn (rowAt T r) ≡ true) × (length (slotsOf (rowAt T r)) ≤ length (slotsOf w)))
+      (wide : length (slotsOf (rowAt T r)) ≤ length (slotsOf w)) (isF : isParent f w ≡ true) (within : i < length (slotsOf w))
+      (q : slotAt T r i ≡ Hole) (right : headerQuiet (rowAt T r) ≡ true → headerQuiet w ≡ true) where
     ready-row : Ready policy T (putParent T r w) o r i x
     unfolding namesAt slotNames objectAt putParent rowAt width NotDestroyed
     ready-row =
@@ -146,7 +158,8 @@ module _ (policy : ℕ) (T : Tables) (o i : ℕ) (x : Object) (f : MdtFid) (soun
         names : (y : Object) → (k : ℕ) × (l : ℕ) × (namesAt T (y .fid) k l ≡ true) → named S (y .fid) ≡ true
         names y (k, l, t) = named-intro S (y .fid) k l (row-names T r w same like (y .fid) k l ∙ t)
 
-  pub ready-grow : (r : ℕ) → isParent f (rowAt T r) ≡ true → width T r ≤ i → holesIn (rowAt T r) ≡ true → Ready policy T (putParent T r (grown (rowAt T r) i)) o r i x
+  pub ready-grow : (r : ℕ) → isParent f (rowAt T r) ≡ true → width T r ≤ i → holesIn (rowAt T r) ≡ true →
+      Ready policy T (putParent T r (grown (rowAt T r) i)) o r i x
   unfolding grown slotAt width
   ready-grow r e h q =
       ready-row r w (parent-inside T f r e) (λ j. pad-row (rowAt T r) t n j)
@@ -172,7 +185,8 @@ module _ (policy : ℕ) (T : Tables) (o i : ℕ) (x : Object) (f : MdtFid) (soun
       back : (g : MdtFid) (a : ℕ) → isParent g (rowAt (putParent T r w) a) ≡ true → isParent g (rowAt T a) ≡ true
       back g a t = sym (row-frame (isParent g) T r w (with-like (rowAt T r) _ _ .parent g) a) ∙ t
 
-  pub ready-make : (r : ℕ) (b : List ℕ) → rowAt T r ≡ noParent b → r < length (T .parents) → ((k : ℕ) → isParent f (rowAt T k) ≡ false) → Ready policy T (putParent T r (made f i (x .owner) (tailOf (rowAt T r)))) o r i x
+  pub ready-make : (r : ℕ) (b : List ℕ) → rowAt T r ≡ noParent b → r < length (T .parents) → ((k : ℕ) → isParent f (rowAt T k) ≡ false) →
+      Ready policy T (putParent T r (made f i (x .owner) (tailOf (rowAt T r)))) o r i x
   unfolding made slotAt slotsOf namesAt slotNames isParent headerQuiet headerClass quietHeader
   ready-make r b e h q =
       ready-row r w h (λ j. holes-getD (suc i) j ∙ sym (rw e))
@@ -201,7 +215,9 @@ module _ (policy : ℕ) (T : Tables) (o i : ℕ) (x : Object) (f : MdtFid) (soun
           go (no n) (yes z) = absurd (new b a z t (old a n p))
           go (no n) (no m) = sound .parents a b g (old a n p) (old b m t)
 
-  pub ready-take : (r q : ℕ) (g : OstFid) (n m : ℕ) → isParent f (rowAt T r) ≡ true → i < width T r → slotAt T r i ≡ Names g n m → takeable T f g r i (objectOf T g) ≡ true → x .fresh ≡ false → objectRow T g ≡ RowIs q → Ready policy T (putObject T q destroyed) o r i x
+  pub ready-take : (r q : ℕ) (g : OstFid) (n m : ℕ) → isParent f (rowAt T r) ≡ true → i < width T r → slotAt T r i ≡ Names g n m →
+      takeable T f g r i (objectOf T g) ≡ true → x .fresh ≡ false → objectRow T g ≡ RowIs q →
+      Ready policy T (putObject T q destroyed) o r i x
   unfolding objectAt putObject rowAt slotAt width namesAt isObject slotNames objectOf objectInRow objectIn takeable named scan isFreeObject destroyed
   ready-take r q g n m e h d t stays w =
       record {
@@ -230,7 +246,9 @@ module _ (policy : ℕ) (T : Tables) (o i : ℕ) (x : Object) (f : MdtFid) (soun
       is-g c u = one-name T g c r i g-here u
 
       back : (a : ℕ) (c : OstFid) → isObject c (objectAt (putObject T q destroyed) a) ≡ true → isObject c (objectAt T a) ≡ true
-      back a c = set-pointwise (T .objects) q destroyed (noObject []) (λ v. isObject c v ≡ true → isObject c (objectAt T a) ≡ true) a (λ y u. rw y u) (λ y u. clash u refl) (λ y u. u)
+      back a c =
+          set-pointwise (T .objects) q destroyed (noObject []) (λ v. isObject c v ≡ true → isObject c (objectAt T a) ≡ true) a
+          (λ y u. rw y u) (λ y u. clash u refl) (λ y u. u)
 
       fresh-q : (z : Object) → objectAt T q ≡ object z → z .fresh ≡ true
       fresh-q z a = take-fresh T f g r i q z t w a
@@ -246,12 +264,18 @@ module _ (policy : ℕ) (T : Tables) (o i : ℕ) (x : Object) (f : MdtFid) (soun
           go (yes y) (no z) = clash (else-intro T g r i k l u (λ a b. z b)) (take-else T f g r i (objectOf T g) t)
           go (no y) z = clash (else-intro T g r i k l u (λ a b. y a)) (take-else T f g r i (objectOf T g) t)
 
-      row-quiet : (k : ℕ) → quietObject policy (objectClass T k) ≡ true → Dec (k ≡ q) → quietObject policy (objectClass (putObject T q destroyed) k) ≡ true
-      row-quiet k y (yes z) = quiet-free policy T (putObject T q destroyed) k (rw z (ap isFreeObject (getD-set-same (T .objects) q destroyed (noObject []) (object-inside T g q at-q))))
-      row-quiet k y (no z) = quiet-same policy T (putObject T q destroyed) k (less-drop T q (sound .parents) (sound .objects)) (getD-set-other (T .objects) q k destroyed (noObject []) z) (λ v a b. b) y
+      row-quiet : (k : ℕ) → quietObject policy (objectClass T k) ≡ true → Dec (k ≡ q) →
+          quietObject policy (objectClass (putObject T q destroyed) k) ≡ true
+      row-quiet k y (yes z) =
+          quiet-free policy T (putObject T q destroyed) k
+          (rw z (ap isFreeObject (getD-set-same (T .objects) q destroyed (noObject []) (object-inside T g q at-q))))
+      row-quiet k y (no z) =
+          quiet-same policy T (putObject T q destroyed) k (less-drop T q (sound .parents) (sound .objects))
+          (getD-set-other (T .objects) q k destroyed (noObject []) z) (λ v a b. b) y
 
 -- ## An object that no slot names is destroyed
-module _ (policy : ℕ) (T : Tables) (o : ℕ) (x : Object) (sound : Distinct T) (holds : objectAt T o ≡ object x) (unnamed : named T (x .fid) ≡ false) (fresh : x .fresh ≡ true) where
+module _ (policy : ℕ) (T : Tables) (o : ℕ) (x : Object) (sound : Distinct T) (holds : objectAt T o ≡ object x)
+    (unnamed : named T (x .fid) ≡ false) (fresh : x .fresh ≡ true) where
   at-o : isObject (x .fid) (objectAt T o) ≡ true
   unfolding isObject
   at-o = rw (holds, fid-refl (x .fid .0))
@@ -263,7 +287,9 @@ module _ (policy : ℕ) (T : Tables) (o : ℕ) (x : Object) (sound : Distinct T)
 
   drop-own : quietObject policy (objectClass (putObject T o destroyed) o) ≡ true
   unfolding objectAt putObject isFreeObject destroyed
-  drop-own = quiet-free policy T (putObject T o destroyed) o (ap isFreeObject (getD-set-same (T .objects) o destroyed (noObject []) (object-inside T (x .fid) o at-o)))
+  drop-own =
+      quiet-free policy T (putObject T o destroyed) o
+      (ap isFreeObject (getD-set-same (T .objects) o destroyed (noObject []) (object-inside T (x .fid) o at-o)))
 
   drop-calm : Calm policy T (putObject T o destroyed)
   unfolding objectAt putObject rowAt isObject named scan namesAt slotAt width destroyed
@@ -280,11 +306,16 @@ module _ (policy : ℕ) (T : Tables) (o : ℕ) (x : Object) (sound : Distinct T)
       }
     where
       back : (a : ℕ) (c : OstFid) → isObject c (objectAt (putObject T o destroyed) a) ≡ true → isObject c (objectAt T a) ≡ true
-      back a c = set-pointwise (T .objects) o destroyed (noObject []) (λ v. isObject c v ≡ true → isObject c (objectAt T a) ≡ true) a (λ y u. rw y u) (λ y u. clash u refl) (λ y u. u)
+      back a c =
+          set-pointwise (T .objects) o destroyed (noObject []) (λ v. isObject c v ≡ true → isObject c (objectAt T a) ≡ true) a
+          (λ y u. rw y u) (λ y u. clash u refl) (λ y u. u)
 
-      go : (k : ℕ) → quietObject policy (objectClass T k) ≡ true → Dec (k ≡ o) → quietObject policy (objectClass (putObject T o destroyed) k) ≡ true
+      go : (k : ℕ) → quietObject policy (objectClass T k) ≡ true → Dec (k ≡ o) →
+          quietObject policy (objectClass (putObject T o destroyed) k) ≡ true
       go k e (yes z) = rw z drop-own
-      go k e (no z) = quiet-same policy T (putObject T o destroyed) k (less-drop T o (sound .parents) (sound .objects)) (getD-set-other (T .objects) o k destroyed (noObject []) z) (λ v a b. b) e
+      go k e (no z) =
+          quiet-same policy T (putObject T o destroyed) k (less-drop T o (sound .parents) (sound .objects))
+          (getD-set-other (T .objects) o k destroyed (noObject []) z) (λ v a b. b) e
 
 -- ## What a step makes
 
@@ -316,32 +347,38 @@ apply-append [] b T = refl
 apply-append (w ∷ a) b T = apply-append a b (applyWrite T w)
 
 -- the owner's write, left out or not
-owner-writes : (T : Tables) (o : ℕ) (x : Object) (w : Owner) → objectAt T o ≡ object x → applyWrites (ownerWrites o x w) T ≡ putObject T o (object (withOwner x w))
+owner-writes : (T : Tables) (o : ℕ) (x : Object) (w : Owner) → objectAt T o ≡ object x →
+    applyWrites (ownerWrites o x w) T ≡ putObject T o (object (withOwner x w))
 unfolding ownerWrites applyWrites applyWrite putObject withOwner objectAt
 owner-writes T o x w holds = go (sameOwner (x .owner) w) refl
   where
-    go : (b : Bool) → sameOwner (x .owner) w ≡ b → applyWrites (cond b [] (writeObject o (object (withOwner x w)) ∷ [])) T ≡ putObject T o (object (withOwner x w))
+    go : (b : Bool) → sameOwner (x .owner) w ≡ b →
+        applyWrites (cond b [] (writeObject o (object (withOwner x w)) ∷ [])) T ≡ putObject T o (object (withOwner x w))
     go false e = refl
     go true e =
         let q : object x ≡ object (withOwner x w) = ap (λ v. object (withOwner x v)) (owner-true (x .owner) w e) in
         let l : T .objects ≡ set (T .objects) o (object (withOwner x w)) = sym (set-getD (T .objects) o (noObject [])) ∙ ap (set (T .objects) o) (holds ∙ q) in
         λ i. record { parents = T .parents; objects = l i }
 
-settle-writes : (T : Tables) (o r i : ℕ) (x : Object) (w : ParentRow) → objectAt T o ≡ object x → applyWrites (settle o x r i w) T ≡ putObject (putParent T r (withSlot w i (slotFor x))) o (object (withOwner x (ownerOf w)))
+settle-writes : (T : Tables) (o r i : ℕ) (x : Object) (w : ParentRow) → objectAt T o ≡ object x →
+    applyWrites (settle o x r i w) T ≡ putObject (putParent T r (withSlot w i (slotFor x))) o (object (withOwner x (ownerOf w)))
 unfolding settle applyWrites applyWrite objectAt putParent
 settle-writes T o r i x w holds = owner-writes (putParent T r (withSlot w i (slotFor x))) o x (ownerOf w) holds
 
 -- in a row that stays
-pub settle-here : (T : Tables) (o r i : ℕ) (x : Object) → objectAt T o ≡ object x → applyWrites (settle o x r i (rowAt T r)) T ≡ settled T o x r i
+pub settle-here : (T : Tables) (o r i : ℕ) (x : Object) → objectAt T o ≡ object x →
+    applyWrites (settle o x r i (rowAt T r)) T ≡ settled T o x r i
 unfolding settled putSlot
 settle-here T o r i x holds = settle-writes T o r i x (rowAt T r) holds
 
 -- in a row that is made or grown
-pub settle-row : (T : Tables) (o r i : ℕ) (x : Object) (w : ParentRow) → r < length (T .parents) → objectAt T o ≡ object x → applyWrites (settle o x r i w) T ≡ settled (putParent T r w) o x r i
+pub settle-row : (T : Tables) (o r i : ℕ) (x : Object) (w : ParentRow) → r < length (T .parents) → objectAt T o ≡ object x →
+    applyWrites (settle o x r i w) T ≡ settled (putParent T r w) o x r i
 unfolding settled putSlot putParent
 settle-row T o r i x w inside holds =
     settle-writes T o r i x w holds
-    ∙ ap₂ (λ (S : Tables) (v : Owner). putObject S o (object (withOwner x v))) (twice ∙ sym (ap (λ v. putParent (putParent T r w) r (withSlot v i (slotFor x))) same)) (sym (ap ownerOf same))
+    ∙ ap₂ (λ (S : Tables) (v : Owner). putObject S o (object (withOwner x v)))
+    (twice ∙ sym (ap (λ v. putParent (putParent T r w) r (withSlot v i (slotFor x))) same)) (sym (ap ownerOf same))
   where
     same : rowAt (putParent T r w) r ≡ w
     same = row-same T r w inside
@@ -350,12 +387,16 @@ settle-row T o r i x w inside holds =
     twice = λ k. record { parents = sym (set-set (T .parents) r w (withSlot w i (slotFor x))) k; objects = T .objects }
 
 -- with the fresh object destroyed last
-pub settle-take : (T : Tables) (o q r i : ℕ) (x : Object) → objectAt T o ≡ object x → (o ≡ q → ⊥) → applyWrites (settle o x r i (rowAt T r) ++ destroyAt (RowIs q)) T ≡ settled (putObject T q destroyed) o x r i
+pub settle-take : (T : Tables) (o q r i : ℕ) (x : Object) → objectAt T o ≡ object x → (o ≡ q → ⊥) →
+    applyWrites (settle o x r i (rowAt T r) ++ destroyAt (RowIs q)) T ≡ settled (putObject T q destroyed) o x r i
 unfolding destroyAt destroy applyWrites applyWrite settled putObject putSlot putParent rowAt
-settle-take T o q r i x holds apart = apply-append (settle o x r i (rowAt T r)) (destroyAt (RowIs q)) T ∙ ap (applyWrites (destroyAt (RowIs q))) (settle-here T o r i x holds) ∙ swap
+settle-take T o q r i x holds apart =
+    apply-append (settle o x r i (rowAt T r)) (destroyAt (RowIs q)) T ∙ ap (applyWrites (destroyAt (RowIs q))) (settle-here T o r i x holds)
+    ∙ swap
   where
     swap : applyWrites (writeObject q destroyed ∷ []) (settled T o x r i) ≡ settled (putObject T q destroyed) o x r i
-    swap = λ k. record { parents = set (T .parents) r (withSlot (rowAt T r) i (slotFor x)); objects = set-comm (T .objects) o q (object (withOwner x (ownerOf (rowAt T r)))) destroyed apart k }
+    swap =
+        λ k. record { parents = set (T .parents) r (withSlot (rowAt T r) i (slotFor x)); objects = set-comm (T .objects) o q (object (withOwner x (ownerOf (rowAt T r)))) destroyed apart k }
 
 -- ## Stage two
 
@@ -379,11 +420,14 @@ free-row T r e =
 
 -- what the classes say of an object
 module _ (T : Tables) (o : ℕ) (x : Object) (holds : objectAt T o ≡ object x) where
-  pub orphan-means : objectClass T o ≡ ORPHAN → (f : MdtFid) × (i : ℕ) × (x .claim ≡ Claims f i) × (named T (x .fid) ≡ false) × (x .fresh ≡ false) × (isWay (way T f i) ≡ true)
+  pub orphan-means : objectClass T o ≡ ORPHAN →
+      (f : MdtFid) × (i : ℕ) × (x .claim ≡ Claims f i) × (named T (x .fid) ≡ false) × (x .fresh ≡ false) × (isWay (way T f i) ≡ true)
   unfolding objectClass objectClassOf unnamedClass
   orphan-means e = go (named T (x .fid)) refl (x .claim) refl (x .fresh) refl (rw holds at e)
     where
-      go : (b : Bool) → named T (x .fid) ≡ b → (k : Claim) → x .claim ≡ k → (a : Bool) → x .fresh ≡ a → cond b KEPT (unnamedClass T a k) ≡ ORPHAN → (f : MdtFid) × (i : ℕ) × (x .claim ≡ Claims f i) × (named T (x .fid) ≡ false) × (x .fresh ≡ false) × (isWay (way T f i) ≡ true)
+      go : (b : Bool) → named T (x .fid) ≡ b → (k : Claim) → x .claim ≡ k → (a : Bool) → x .fresh ≡ a →
+          cond b KEPT (unnamedClass T a k) ≡ ORPHAN →
+          (f : MdtFid) × (i : ℕ) × (x .claim ≡ Claims f i) × (named T (x .fid) ≡ false) × (x .fresh ≡ false) × (isWay (way T f i) ≡ true)
       go true n k ek a ea z = let y : _≡_ {A = ℕ} 0 1 = cc in absurd (omega arith)
       go false n Unclaimed ek a ea z = let y : _≡_ {A = ℕ} 0 1 = cc in absurd (omega arith)
       go false n (Claims f i) ek true ea z = let y : _≡_ {A = ℕ} 0 1 = cc in absurd (omega arith)
@@ -397,7 +441,8 @@ module _ (T : Tables) (o : ℕ) (x : Object) (holds : objectAt T o ≡ object x)
   unfolding objectClass objectClassOf unnamedClass
   empty-means e = go (named T (x .fid)) refl (x .claim) (x .fresh) refl (rw holds at e)
     where
-      go : (b : Bool) → named T (x .fid) ≡ b → (k : Claim) (a : Bool) → x .fresh ≡ a → cond b KEPT (unnamedClass T a k) ≡ EMPTY → (named T (x .fid) ≡ false) × (x .fresh ≡ true)
+      go : (b : Bool) → named T (x .fid) ≡ b → (k : Claim) (a : Bool) → x .fresh ≡ a → cond b KEPT (unnamedClass T a k) ≡ EMPTY →
+          (named T (x .fid) ≡ false) × (x .fresh ≡ true)
       go true n k a ea z = let y : _≡_ {A = ℕ} 0 1 = cc in absurd (omega arith)
       go false n Unclaimed a ea z = let y : _≡_ {A = ℕ} 0 1 = cc in absurd (omega arith)
       go false n (Claims f i) true ea z = (n, ea)
@@ -426,7 +471,9 @@ module _ (policy : ℕ) (T : Tables) (sound : Distinct T) (o m : ℕ) (x : Objec
       }
     where
       mine : (k l : ℕ) → k ≡ r → l ≡ i → claimIs (claimIn (objectIn (objectAt T o))) (selfOf (rowAt (settled U o x r i) k)) l ≡ true
-      mine k l e d = rw (e, d, holds) (claim-here (x .claim) (selfOf (rowAt (settled U o x r i) r)) i (ready .claimed ∙ ap (λ v. Claims v i) (sym (self-slot U r i (slotFor x) r))))
+      mine k l e d =
+          rw (e, d, holds)
+          (claim-here (x .claim) (selfOf (rowAt (settled U o x r i) r)) i (ready .claimed ∙ ap (λ v. Claims v i) (sym (self-slot U r i (slotFor x) r))))
 
   destroy-step : named T (x .fid) ≡ false → x .fresh ≡ true → Stepped policy T (place 2 o m) (putObject T o destroyed)
   unfolding quietAt place OthersKeepClass
@@ -441,7 +488,8 @@ module _ (policy : ℕ) (T : Tables) (sound : Distinct T) (o m : ℕ) (x : Objec
       }
 
   module _ (f : MdtFid) (i : ℕ) (claim : x .claim ≡ Claims f i) (unnamed : named T (x .fid) ≡ false) (stays : x .fresh ≡ false) where
-    make-step : ((k : ℕ) → isParent f (rowAt T k) ≡ false) → (a : Row) → freeParent T ≡ a → Makes policy T (place 2 o m) (makeParent T o x f i a)
+    make-step : ((k : ℕ) → isParent f (rowAt T k) ≡ false) → (a : Row) → freeParent T ≡ a →
+        Makes policy T (place 2 o m) (makeParent T o x f i a)
     unfolding makeParent
     make-step n NoRow q = (omega arith, omega arith)
     make-step n (RowIs r) q =
@@ -449,12 +497,14 @@ module _ (policy : ℕ) (T : Tables) (sound : Distinct T) (o m : ℕ) (x : Objec
         subst (Stepped policy T (place 2 o m)) (sym (settle-row T o r i x (made f i (x .owner) (tailOf (rowAt T r))) (free .1) holds))
         (settled-step (putParent T r (made f i (x .owner) (tailOf (rowAt T r)))) r i (ready-make policy T o i x f sound holds claim unnamed r (free .0 .0) (free .0 .1) (free .1) n) stays)
 
-    take-step : (r : ℕ) (g : OstFid) (n l : ℕ) → isParent f (rowAt T r) ≡ true → i < width T r → slotAt T r i ≡ Names g n l → takeable T f g r i (objectOf T g) ≡ true → (a : Row) → objectRow T g ≡ a
+    take-step : (r : ℕ) (g : OstFid) (n l : ℕ) → isParent f (rowAt T r) ≡ true → i < width T r → slotAt T r i ≡ Names g n l →
+        takeable T f g r i (objectOf T g) ≡ true → (a : Row) → objectRow T g ≡ a
         → Stepped policy T (place 2 o m) (applyWrites (settle o x r i (rowAt T r) ++ destroyAt a) T)
     unfolding takeable objectOf objectInRow
     take-step r g n l p h q t NoRow z = clash t (rw z)
     take-step r g n l p h q t (RowIs k) z =
-        subst (Stepped policy T (place 2 o m)) (sym (settle-take T o k r i x holds (λ e. clash (take-fresh T f g r i k x t z (rw (← e) holds)) stays)))
+        subst (Stepped policy T (place 2 o m))
+        (sym (settle-take T o k r i x holds (λ e. clash (take-fresh T f g r i k x t z (rw (← e) holds)) stays)))
         (settled-step (putObject T k destroyed) r i (ready-take policy T o i x f sound holds claim unnamed r k g n l p h q t stays z) stays)
 
     adopt-step : {v : Way} → Means T f i v → isWay v ≡ true → Makes policy T (place 2 o m) (adoptBy T o x f i v)
@@ -462,7 +512,8 @@ module _ (policy : ℕ) (T : Tables) (sound : Distinct T) (o m : ℕ) (x : Objec
     adopt-step none-at-all w = clash w refl
     adopt-step (to-make n) w = make-step n (freeParent T) refl
     adopt-step (to-fill {r = r} p h q) w =
-        subst (Stepped policy T (place 2 o m)) (sym (settle-here T o r i x holds)) (settled-step T r i (ready-fill policy T o i x f sound holds claim unnamed r p h q) stays)
+        subst (Stepped policy T (place 2 o m)) (sym (settle-here T o r i x holds))
+        (settled-step T r i (ready-fill policy T o i x f sound holds claim unnamed r p h q) stays)
     adopt-step (to-grow {r = r} p h q) w =
         subst (Stepped policy T (place 2 o m)) (sym (settle-row T o r i x (grown (rowAt T r) i) (parent-inside T f r p) holds))
         (settled-step (putParent T r (grown (rowAt T r) i)) r i (ready-grow policy T o i x f sound holds claim unnamed r p h q) stays)
@@ -493,7 +544,8 @@ module _ (policy : ℕ) (T : Tables) (sound : Distinct T) (o m : ℕ) (x : Objec
 -- ## Stage one
 
 -- every slot but (r, j) keeps its class, and (r, j) becomes clean
-slot-stepped : (policy : ℕ) (T S : Tables) (r j : ℕ) → Distinct S → NotDestroyed T S → length (S .parents) ≡ length (T .parents) → ((k : ℕ) → width S k ≡ width T k) → length (S .objects) ≡ length (T .objects)
+slot-stepped : (policy : ℕ) (T S : Tables) (r j : ℕ) → Distinct S → NotDestroyed T S → length (S .parents) ≡ length (T .parents) →
+    ((k : ℕ) → width S k ≡ width T k) → length (S .objects) ≡ length (T .objects)
     → ((k : ℕ) → headerQuiet (rowAt S k) ≡ headerQuiet (rowAt T k)) → ((k i : ℕ) → (k ≡ r → i ≡ j → ⊥) → slotClass S k i ≡ slotClass T k i) → slotClass S r j ≡ CLEAN → Stepped policy T (place 1 r (suc j)) S
 unfolding quietSlot quietAt quietPart place OthersKeepClass OwnSlot
 slot-stepped policy T S r j sound stays tall widths size headers others here =
@@ -517,7 +569,8 @@ slot-stepped policy T S r j sound stays tall widths size headers others here =
     go k i e (no n) d = rw (others k i (λ a b. n a)) e
 
 -- a row comes to hold an object whose FID no other row holds
-one-put : (T : Tables) (o : ℕ) (x : Object) → OneObject T → ((k : ℕ) → isObject (x .fid) (objectAt T k) ≡ true → k ≡ o) → OneObject (putObject T o (object x))
+one-put : (T : Tables) (o : ℕ) (x : Object) → OneObject T → ((k : ℕ) → isObject (x .fid) (objectAt T k) ≡ true → k ≡ o) →
+    OneObject (putObject T o (object x))
 unfolding objectAt putObject isObject
 one-put T o x one alone a b g p q = go (ℕ-discrete a o) (ℕ-discrete b o)
   where
@@ -528,7 +581,9 @@ one-put T o x one alone a b g p q = go (ℕ-discrete a o) (ℕ-discrete b o)
     old c n u = rw (getD-set-other (T .objects) o c (object x) (noObject []) n) at u
 
     new : (c d : ℕ) → c ≡ o → (d ≡ o → ⊥) → isObject g (objectAt S c) ≡ true → isObject g (objectAt T d) ≡ true → ⊥
-    new c d z n u v = n (set-pointwise (T .objects) o (object x) (noObject []) (λ w. isObject g w ≡ true → d ≡ o) c (λ e t. one d o g v t) (λ e t. alone d (rw (ost-true (x .fid) g t) v)) (λ m t. absurd (m z)) u)
+    new c d z n u v =
+        n
+        (set-pointwise (T .objects) o (object x) (noObject []) (λ w. isObject g w ≡ true → d ≡ o) c (λ e t. one d o g v t) (λ e t. alone d (rw (ost-true (x .fid) g t) v)) (λ m t. absurd (m z)) u)
 
     go : Dec (a ≡ o) → Dec (b ≡ o) → a ≡ b
     go (yes y) (yes z) = y ∙ sym z
@@ -542,7 +597,8 @@ unfolding isRow
 no-row NoRow e = refl
 no-row (RowIs o) e = clash refl e
 
-usable-free : (T : Tables) (reserve : List OstFid) (f : OstFid) → usable T reserve ≡ Takes f → ((k : ℕ) → isObject f (objectAt T k) ≡ false) × (named T f ≡ false)
+usable-free : (T : Tables) (reserve : List OstFid) (f : OstFid) → usable T reserve ≡ Takes f →
+    ((k : ℕ) → isObject f (objectAt T k) ≡ false) × (named T f ≡ false)
 unfolding usable
 usable-free T [] f e = let z : _≡_ {A = ℕ} 0 1 = cc in absurd (omega arith)
 usable-free T (g ∷ gs) f e = go (isRow (objectRow T g) || named T g) refl e (usable-free T gs f)
@@ -577,7 +633,8 @@ free-object T o e =
     go (object x) t g = clash t refl
 
 -- ## Slots
-module _ (policy : ℕ) (reserve : List OstFid) (T : Tables) (sound : Distinct T) (r j : ℕ) (f : OstFid) (n ost : ℕ) (at : slotAt T r j ≡ Names f n ost) where
+module _ (policy : ℕ) (reserve : List OstFid) (T : Tables) (sound : Distinct T) (r j : ℕ) (f : OstFid) (n ost : ℕ)
+    (at : slotAt T r j ≡ Names f n ost) where
   names : namesAt T f r j ≡ true
   unfolding namesAt slotNames
   names = rw (at, fid-refl (f .0))
@@ -587,42 +644,54 @@ module _ (policy : ℕ) (reserve : List OstFid) (T : Tables) (sound : Distinct T
   slot-rests q = stepped-same policy T (place 1 r (suc j)) sound q
 
   -- row o comes to hold the keeper's object, with the claim and the owner of its slot
-  put-step : (o : ℕ) (x : Object) → keeper T f ≡ At r j → o < length (T .objects) → x .fid ≡ f → x .claim ≡ Claims (selfOf (rowAt T r)) j → x .owner ≡ ownerOf (rowAt T r)
+  put-step : (o : ℕ) (x : Object) → keeper T f ≡ At r j → o < length (T .objects) → x .fid ≡ f → x .claim ≡ Claims (selfOf (rowAt T r)) j →
+      x .owner ≡ ownerOf (rowAt T r)
       → ((g : OstFid) → isObject g (objectAt T o) ≡ true → g ≡ f) → ((k : ℕ) → isObject f (objectAt T k) ≡ true → k ≡ o)
       → ((z : Object) → objectAt T o ≡ object z → z .fresh ≡ false → (x .fid ≡ z .fid) × (x .fresh ≡ false)) → Stepped policy T (place 1 r (suc j)) (putObject T o (object x))
   unfolding rowAt putObject width
   put-step o x keeps inside is claimed owned held alone old =
-      slot-stepped policy T (putObject T o (object x)) r j (record { parents = sound .parents; objects = one-put T o x (sound .objects) (λ k t. alone k (rw (← is) t)) })
-      (stays-put T o (object x) (λ z a b. (x, refl, old z a b .0, old z a b .1))) refl (λ k. refl) (length-set (T .objects) o (object x)) (λ k. refl)
+      slot-stepped policy T (putObject T o (object x)) r j
+      (record { parents = sound .parents; objects = one-put T o x (sound .objects) (λ k t. alone k (rw (← is) t)) })
+      (stays-put T o (object x) (λ z a b. (x, refl, old z a b .0, old z a b .1))) refl (λ k. refl) (length-set (T .objects) o (object x))
+      (λ k. refl)
       (claim-others T f r j o x (sound .parents) names keeps inside is claimed owned held alone)
       (claim-clean T f r j o x (sound .parents) names keeps inside is claimed owned held alone)
 
   -- the object in its row gets other content: claim and owner are then right, FID and fresh mark stay
-  rewrite-step : (c : Repair) (h : Object → Object) → keeper T f ≡ At r j → ((x : Object) → (h x .fid ≡ x .fid) × (h x .fresh ≡ x .fresh) × (h x .owner ≡ ownerOf (rowAt T r)))
+  rewrite-step : (c : Repair) (h : Object → Object) → keeper T f ≡ At r j →
+      ((x : Object) → (h x .fid ≡ x .fid) × (h x .fresh ≡ x .fresh) × (h x .owner ≡ ownerOf (rowAt T r)))
       → ((x : Object) → objectOf T f ≡ Present x → h x .claim ≡ Claims (selfOf (rowAt T r)) j) → (y : Object) → objectOf T f ≡ Present y
       → Makes policy T (place 1 r (suc j)) (rewriteAt T c h (objectRow T f))
   unfolding rewriteAt rewrite objectOf objectInRow objectIn isObject objectAt applyWrites applyWrite
   rewrite-step c h keeps same claimed y has = go (objectRow T f) refl has
     where
-      write : (o : ℕ) → objectRow T f ≡ RowIs o → (w : ObjectRow) → objectAt T o ≡ w → isObject f w ≡ true → Makes policy T (place 1 r (suc j)) (rewrite T c h o w)
+      write : (o : ℕ) → objectRow T f ≡ RowIs o → (w : ObjectRow) → objectAt T o ≡ w → isObject f w ≡ true →
+          Makes policy T (place 1 r (suc j)) (rewrite T c h o w)
       write o q (noObject b) d t = clash t refl
       write o q (object x) d t =
           let here = object-found T f q in
           let s = same x in
-          put-step o (h x) keeps (object-inside T f o here) (s .0 ∙ ost-true (x .fid) f t) (claimed x (rw (q, d))) (s .2) (λ g u. one-fid T o f g here u) (λ k u. sound .objects k o f u here)
+          put-step o (h x) keeps (object-inside T f o here) (s .0 ∙ ost-true (x .fid) f t) (claimed x (rw (q, d))) (s .2)
+          (λ g u. one-fid T o f g here u) (λ k u. sound .objects k o f u here)
           (λ z a b. let y : z ≡ x = cc in (s .0 ∙ ap (λ v. v .fid) (sym y), s .1 ∙ ap (λ v. v .fresh) (sym y) ∙ b))
 
       go : (a : Row) → objectRow T f ≡ a → objectInRow (T .objects) a ≡ Present y → Makes policy T (place 1 r (suc j)) (rewriteAt T c h a)
       go NoRow q e = let z : _≡_ {A = ℕ} 0 1 = cc in absurd (omega arith)
       go (RowIs o) q e = write o q (objectAt T o) refl (object-found T f q)
 
-  claim-step : (c : Repair) (y : Object) → keeper T f ≡ At r j → objectOf T f ≡ Present y → Makes policy T (place 1 r (suc j)) (writeClaim T c r j (objectRow T f))
+  claim-step : (c : Repair) (y : Object) → keeper T f ≡ At r j → objectOf T f ≡ Present y →
+      Makes policy T (place 1 r (suc j)) (writeClaim T c r j (objectRow T f))
   unfolding writeClaim withClaim
-  claim-step c y keeps has = rewrite-step c (λ x. withClaim x (Claims (selfOf (rowAt T r)) j) (ownerOf (rowAt T r))) keeps (λ x. (refl, refl, refl)) (λ x e. refl) y has
+  claim-step c y keeps has =
+      rewrite-step c (λ x. withClaim x (Claims (selfOf (rowAt T r)) j) (ownerOf (rowAt T r))) keeps (λ x. (refl, refl, refl))
+      (λ x e. refl) y has
 
-  owner-step : (y : Object) → keeper T f ≡ At r j → objectOf T f ≡ Present y → y .claim ≡ Claims (selfOf (rowAt T r)) j → Makes policy T (place 1 r (suc j)) (writeOwner T r (objectRow T f))
+  owner-step : (y : Object) → keeper T f ≡ At r j → objectOf T f ≡ Present y → y .claim ≡ Claims (selfOf (rowAt T r)) j →
+      Makes policy T (place 1 r (suc j)) (writeOwner T r (objectRow T f))
   unfolding writeOwner withOwner
-  owner-step y keeps has claimed = rewrite-step OfOwner (λ x. withOwner x (ownerOf (rowAt T r))) keeps (λ x. (refl, refl, refl)) (λ x e. let q : x ≡ y = cc in ap (λ v. v .claim) q ∙ claimed) y has
+  owner-step y keeps has claimed =
+      rewrite-step OfOwner (λ x. withOwner x (ownerOf (rowAt T r))) keeps (λ x. (refl, refl, refl))
+      (λ x e. let q : x ≡ y = cc in ap (λ v. v .claim) q ∙ claimed) y has
 
   redirect-step : isPlace (keeper T f) r j ≡ false → Makes policy T (place 1 r (suc j)) (redirect T r j ost (usable T reserve))
   unfolding redirect redirectTo newObject rowAt objectAt putObject putSlot putParent width isObject applyWrites applyWrite
@@ -631,7 +700,8 @@ module _ (policy : ℕ) (reserve : List OstFid) (T : Tables) (sound : Distinct T
       new : OstFid → Object
       new g = newObject T g r j ost
 
-      put : (g : OstFid) → usable T reserve ≡ Takes g → (a : Row) → freeObject T ≡ a → Makes policy T (place 1 r (suc j)) (redirectTo T r j ost g a)
+      put : (g : OstFid) → usable T reserve ≡ Takes g → (a : Row) → freeObject T ≡ a →
+          Makes policy T (place 1 r (suc j)) (redirectTo T r j ost g a)
       put g q NoRow d = (omega arith, omega arith)
       put g q (RowIs o) d =
           let u = usable-free T reserve g q in
@@ -644,19 +714,24 @@ module _ (policy : ℕ) (reserve : List OstFid) (T : Tables) (sound : Distinct T
           (redirect-others T f r j o 0 ost (new g) (sound .parents) names second (v .1) (v .0) refl refl (named-none T g (u .1)) (u .0))
           (redirect-clean T f r j o 0 ost (new g) (sound .parents) names second (v .1) (v .0) refl refl (named-none T g (u .1)) (u .0))
         where
-          redirect-stays : (o : ℕ) (g : OstFid) → ((h : OstFid) → isObject h (objectAt T o) ≡ false) → NotDestroyed T (putSlot (putObject T o (object (new g))) r j (Names g 0 ost))
-          redirect-stays o g free = stays-slot T (putObject T o (object (new g))) r j (Names g 0 ost) (stays-put T o (object (new g)) (λ z a b. clash (rw (a, fid-refl (z .fid .0))) (free (z .fid))))
+          redirect-stays : (o : ℕ) (g : OstFid) → ((h : OstFid) → isObject h (objectAt T o) ≡ false) →
+              NotDestroyed T (putSlot (putObject T o (object (new g))) r j (Names g 0 ost))
+          redirect-stays o g free =
+              stays-slot T (putObject T o (object (new g))) r j (Names g 0 ost)
+              (stays-put T o (object (new g)) (λ z a b. clash (rw (a, fid-refl (z .fid .0))) (free (z .fid))))
 
       go : (a : Usable) → usable T reserve ≡ a → Makes policy T (place 1 r (suc j)) (redirect T r j ost a)
       go UsedUp q = (omega arith, omega arith)
       go (Takes g) q = put g q (freeObject T) refl
 
-  dangling-step : keeper T f ≡ At r j → objectOf T f ≡ Missing → (a : Row) → freeObject T ≡ a → Makes policy T (place 1 r (suc j)) (makeObject (newObject T f r j ost) a)
+  dangling-step : keeper T f ≡ At r j → objectOf T f ≡ Missing → (a : Row) → freeObject T ≡ a →
+      Makes policy T (place 1 r (suc j)) (makeObject (newObject T f r j ost) a)
   unfolding makeObject newObject isObject applyWrites applyWrite
   dangling-step keeps lost NoRow d = (omega arith, omega arith)
   dangling-step keeps lost (RowIs o) d =
       let v = free-object T o d in
-      put-step o (newObject T f r j ost) keeps (v .1) refl refl refl (λ g t. clash t (v .0 g)) (λ k t. clash t (lost-none T f lost k)) (λ z a b. clash (rw (a, fid-refl (z .fid .0))) (v .0 (z .fid)))
+      put-step o (newObject T f r j ost) keeps (v .1) refl refl refl (λ g t. clash t (v .0 g)) (λ k t. clash t (lost-none T f lost k))
+      (λ z a b. clash (rw (a, fid-refl (z .fid .0))) (v .0 (z .fid)))
 
   -- the cases of the class, as it is defined
   pub slot-step : Makes policy T (place 1 r (suc j)) (slotStep policy reserve T r j (Names f n ost))
@@ -678,27 +753,33 @@ module _ (policy : ℕ) (reserve : List OstFid) (T : Tables) (sound : Distinct T
       back : {k : SlotClass} → slotClass T r j ≡ k → Repaired k → Repaired (slotClass T r j)
       back q h = subst Repaired (sym q) h
 
-      claim-case : (x : Object) → keeper T f ≡ At r j → objectOf T f ≡ Present x → (k : Claim) → x .claim ≡ k → slotClass T r j ≡ claimClass self j (sameOwner (x .owner) owner) k → Repaired (claimClass self j (sameOwner (x .owner) owner) k)
+      claim-case : (x : Object) → keeper T f ≡ At r j → objectOf T f ≡ Present x → (k : Claim) → x .claim ≡ k →
+          slotClass T r j ≡ claimClass self j (sameOwner (x .owner) owner) k → Repaired (claimClass self j (sameOwner (x .owner) owner) k)
       claim-case x keeps has Unclaimed ek q = claim-step OfBlank x keeps has
       claim-case x keeps has (Claims g i) ek q = right (claimIs (Claims g i) self j) refl (sameOwner (x .owner) owner) q
         where
-          right : (a : Bool) → claimIs (Claims g i) self j ≡ a → (b : Bool) → slotClass T r j ≡ cond a (cond b CLEAN OWNER) (UNMATCHED g i) → Repaired (cond a (cond b CLEAN OWNER) (UNMATCHED g i))
+          right : (a : Bool) → claimIs (Claims g i) self j ≡ a → (b : Bool) →
+              slotClass T r j ≡ cond a (cond b CLEAN OWNER) (UNMATCHED g i) → Repaired (cond a (cond b CLEAN OWNER) (UNMATCHED g i))
           right true ea true q = slot-rests (rw q)
           right true ea false q = owner-step x keeps has (ek ∙ claim-means g i self j ea)
           right false ea b q = claim-step OfUnmatched x keeps has
 
-      kept-case : keeper T f ≡ At r j → (x : Lookup) → objectOf T f ≡ x → slotClass T r j ≡ keeperClass self owner j x → Repaired (keeperClass self owner j x)
+      kept-case : keeper T f ≡ At r j → (x : Lookup) → objectOf T f ≡ x → slotClass T r j ≡ keeperClass self owner j x →
+          Repaired (keeperClass self owner j x)
       kept-case keeps Missing has q = dangling (creates policy) refl
         where
-          dangling : (b : Bool) → creates policy ≡ b → Makes policy T (place 1 r (suc j)) (cond b (makeObject (newObject T f r j ost) (freeObject T)) rests)
+          dangling : (b : Bool) → creates policy ≡ b →
+              Makes policy T (place 1 r (suc j)) (cond b (makeObject (newObject T f r j ost) (freeObject T)) rests)
           dangling true p = dangling-step keeps has (freeObject T) refl
           dangling false p = slot-rests (rw (q, p))
       kept-case keeps (Present x) has q = claim-case x keeps has (x .claim) refl q
 
-      first-case : (b : Bool) → isPlace (keeper T f) r j ≡ b → slotClass T r j ≡ cond b (keeperClass self owner j (objectOf T f)) MULTIPLE → Repaired (slotClass T r j)
+      first-case : (b : Bool) → isPlace (keeper T f) r j ≡ b → slotClass T r j ≡ cond b (keeperClass self owner j (objectOf T f)) MULTIPLE →
+          Repaired (slotClass T r j)
       first-case false p q = back q (multiple (creates policy) refl)
         where
-          multiple : (b : Bool) → creates policy ≡ b → Makes policy T (place 1 r (suc j)) (cond b (redirect T r j ost (usable T reserve)) rests)
+          multiple : (b : Bool) → creates policy ≡ b →
+              Makes policy T (place 1 r (suc j)) (cond b (redirect T r j ost (usable T reserve)) rests)
           multiple true d = redirect-step p
           multiple false d = slot-rests (rw (q, d))
       first-case true p q = back q (kept-case (is-place (keeper T f) r j p) (objectOf T f) refl q)
@@ -760,7 +841,8 @@ header-written policy T r sound =
     here (yes h) = rw (getD-set-same (T .parents) r w (noParent []) h) (own-right (rowAt T r))
     here (no m) = rw (set-out (T .parents) r w (omega arith)) (header-absent T r (omega arith))
 
-header-step : (policy : ℕ) (T : Tables) (r : ℕ) → Distinct T → (k : HeaderClass) → headerClass (rowAt T r) ≡ k → Makes policy T (place 1 r 0) (repairHeader T r k)
+header-step : (policy : ℕ) (T : Tables) (r : ℕ) → Distinct T → (k : HeaderClass) → headerClass (rowAt T r) ≡ k →
+    Makes policy T (place 1 r 0) (repairHeader T r k)
 unfolding repairHeader applyWrites applyWrite quietAt quietPart place headerQuiet quietHeader
 header-step policy T r sound SELF q = header-written policy T r sound
 header-step policy T r sound CLEAN-HEADER q = stepped-same policy T (place 1 r 0) sound (rw q)
@@ -768,18 +850,21 @@ header-step policy T r sound UNUSED-PARENT q = stepped-same policy T (place 1 r 
 
 -- ## Any step
 
-slot-any : (policy : ℕ) (reserve : List OstFid) (T : Tables) (r j : ℕ) → Distinct T → (s : Slot) → slotAt T r j ≡ s → Makes policy T (place 1 r (suc j)) (slotStep policy reserve T r j s)
+slot-any : (policy : ℕ) (reserve : List OstFid) (T : Tables) (r j : ℕ) → Distinct T → (s : Slot) → slotAt T r j ≡ s →
+    Makes policy T (place 1 r (suc j)) (slotStep policy reserve T r j s)
 unfolding slotStep slotClass slotClassOf quietSlot quietAt quietPart place
 slot-any policy reserve T r j sound Hole q = stepped-same policy T (place 1 r (suc j)) sound (rw q)
 slot-any policy reserve T r j sound (Names f n ost) q = slot-step policy reserve T sound r j f n ost q
 
-object-any : (policy : ℕ) (T : Tables) (o m : ℕ) → Distinct T → (w : ObjectRow) → objectAt T o ≡ w → Makes policy T (place 2 o m) (objectStep policy T o w)
+object-any : (policy : ℕ) (T : Tables) (o m : ℕ) → Distinct T → (w : ObjectRow) → objectAt T o ≡ w →
+    Makes policy T (place 2 o m) (objectStep policy T o w)
 unfolding objectStep quietAt place isFreeObject
 object-any policy T o m sound (noObject b) q = stepped-same policy T (place 2 o m) sound (quiet-free policy T T o (rw q))
 object-any policy T o m sound (object x) q = object-step policy T sound o m x q
 
 -- from any position, there or not
-pub step-makes : (policy : ℕ) (reserve : List OstFid) (T : Tables) (p : Position) → Distinct T → Makes policy T p (stepAt policy reserve T p)
+pub step-makes : (policy : ℕ) (reserve : List OstFid) (T : Tables) (p : Position) → Distinct T →
+    Makes policy T p (stepAt policy reserve T p)
 unfolding stepAt quietAt partStep place
 step-makes policy reserve T p sound = first-stage (eqb (p .stage) 1) refl
   where
@@ -790,10 +875,16 @@ step-makes policy reserve T p sound = first-stage (eqb (p .stage) 1) refl
     parts zero = header-step policy T (p .row) sound (headerClass (rowAt T (p .row))) refl
     parts (suc j) = slot-any policy reserve T (p .row) j sound (slotAt T (p .row) j) refl
 
-    second-stage : (b : Bool) → eqb (p .stage) 1 ≡ false → eqb (p .stage) 2 ≡ b → Makes policy T p (cond b (objectStep policy T (p .row) (objectAt T (p .row))) rests)
-    second-stage true a e = subst (λ (q : Position). Makes policy T q (objectStep policy T (p .row) (objectAt T (p .row)))) (is 2 (eqb-true (p .stage) 2 e)) (object-any policy T (p .row) (p .part) sound (objectAt T (p .row)) refl)
+    second-stage : (b : Bool) → eqb (p .stage) 1 ≡ false → eqb (p .stage) 2 ≡ b →
+        Makes policy T p (cond b (objectStep policy T (p .row) (objectAt T (p .row))) rests)
+    second-stage true a e =
+        subst (λ (q : Position). Makes policy T q (objectStep policy T (p .row) (objectAt T (p .row)))) (is 2 (eqb-true (p .stage) 2 e))
+        (object-any policy T (p .row) (p .part) sound (objectAt T (p .row)) refl)
     second-stage false a e = stepped-same policy T p sound (rw (a, e))
 
-    first-stage : (b : Bool) → eqb (p .stage) 1 ≡ b → Makes policy T p (cond b (partStep policy reserve T (p .row) (p .part)) (cond (eqb (p .stage) 2) (objectStep policy T (p .row) (objectAt T (p .row))) rests))
-    first-stage true e = subst (λ (q : Position). Makes policy T q (partStep policy reserve T (p .row) (p .part))) (is 1 (eqb-true (p .stage) 1 e)) (parts (p .part))
+    first-stage : (b : Bool) → eqb (p .stage) 1 ≡ b →
+        Makes policy T p (cond b (partStep policy reserve T (p .row) (p .part)) (cond (eqb (p .stage) 2) (objectStep policy T (p .row) (objectAt T (p .row))) rests))
+    first-stage true e =
+        subst (λ (q : Position). Makes policy T q (partStep policy reserve T (p .row) (p .part))) (is 1 (eqb-true (p .stage) 1 e))
+        (parts (p .part))
     first-stage false e = second-stage (eqb (p .stage) 2) e refl

@@ -36,7 +36,9 @@ module _ (T : Tables) (g : OstFid) where
 
     pub else-intro : (k l : ℕ) → namesAt T g k l ≡ true → (k ≡ r → l ≡ j → ⊥) → namedElse T g r j ≡ true
     unfolding namedElse namesElse
-    else-intro k l e n = somewhere-intro else-first k l (and-both e (rw (never (eqb k r && eqb l j) (λ t. n (eqb-true k r (and-l _ (eqb l j) t)) (eqb-true l j (and-r (eqb k r) _ t))))))
+    else-intro k l e n =
+        somewhere-intro else-first k l
+        (and-both e (rw (never (eqb k r && eqb l j) (λ t. n (eqb-true k r (and-l _ (eqb l j) t)) (eqb-true l j (and-r (eqb k r) _ t))))))
 
     pub else-elim : namedElse T g r j ≡ true → (k : ℕ) × (l : ℕ) × (namesAt T g k l ≡ true) × (k ≡ r → l ≡ j → ⊥)
     unfolding namedElse namesElse
@@ -64,14 +66,17 @@ way-less T S one stay row f i e = pick (ltb i maxSlots) e
   where
     go : {a : Row} → First (λ r. isParent f (rowAt T r)) a → isWay (rowWay T f i a) ≡ false → isWay (rowWay S f i (parentRow S f)) ≡ false
     go (absent n) t = clash refl t
-    go (found {i = k} u n) t = rw (first-unique (parent-first S f) (first-only (stay f k u) (λ l v. one l k f v (stay f k u)))) (row f i k u t)
+    go (found {i = k} u n) t =
+        rw (first-unique (parent-first S f) (first-only (stay f k u) (λ l v. one l k f v (stay f k u)))) (row f i k u t)
 
-    pick : (b : Bool) → isWay (cond b (rowWay T f i (parentRow T f)) NoWay) ≡ false → isWay (cond b (rowWay S f i (parentRow S f)) NoWay) ≡ false
+    pick : (b : Bool) → isWay (cond b (rowWay T f i (parentRow T f)) NoWay) ≡ false →
+        isWay (cond b (rowWay S f i (parentRow S f)) NoWay) ≡ false
     pick true t = go (parent-first T f) t
     pick false t = refl
 
 -- the row's width may grow, by holes and where the layout allows them; a slot that cannot be had stays so
-pub row-less : (T S : Tables) (f : MdtFid) (i k : ℕ) → width T k ≤ width S k → (holesIn (rowAt T k) ≡ false → (width S k ≡ width T k) × (holesIn (rowAt S k) ≡ false))
+pub row-less : (T S : Tables) (f : MdtFid) (i k : ℕ) → width T k ≤ width S k →
+    (holesIn (rowAt T k) ≡ false → (width S k ≡ width T k) × (holesIn (rowAt S k) ≡ false))
     → ((g : OstFid) (n m : ℕ) → slotAt T k i ≡ Names g n m → takeable T f g k i (objectOf T g) ≡ false → isWay (slotWay S f k i (slotAt S k i)) ≡ false)
     → isWay (rowWay T f i (RowIs k)) ≡ false → isWay (rowWay S f i (RowIs k)) ≡ false
 unfolding rowWay slotWay isWay
@@ -85,16 +90,21 @@ row-less T S f i k wide fixed slots e = go (ltb i (width T k)) refl e
         pick true t = clash refl t
         pick false t = refl
 
-    past : (b : Bool) → holesIn (rowAt T k) ≡ b → isWay (cond b (Grow k) NoWay) ≡ false → width T k ≤ i → isWay (rowWay S f i (RowIs k)) ≡ false
+    past : (b : Bool) → holesIn (rowAt T k) ≡ b → isWay (cond b (Grow k) NoWay) ≡ false → width T k ≤ i →
+        isWay (rowWay S f i (RowIs k)) ≡ false
     past true q t h = clash refl t
     past false q t h = rw (le-ltb i (width S k) (let w = fixed q .0 in omega arith), fixed q .1)
 
-    go : (b : Bool) → ltb i (width T k) ≡ b → isWay (cond b (slotWay T f k i (slotAt T k i)) (cond (holesIn (rowAt T k)) (Grow k) NoWay)) ≡ false → isWay (rowWay S f i (RowIs k)) ≡ false
+    go : (b : Bool) → ltb i (width T k) ≡ b →
+        isWay (cond b (slotWay T f k i (slotAt T k i)) (cond (holesIn (rowAt T k)) (Grow k) NoWay)) ≡ false →
+        isWay (rowWay S f i (RowIs k)) ≡ false
     go true q t = rw (lt-ltb i (width S k) (let h = ltb-true i (width T k) q in omega arith)) (at-slot (slotAt T k i) refl t)
     go false q t = past (holesIn (rowAt T k)) refl t (ltb-false i (width T k) q)
 
 -- a slot that cannot be taken cannot be taken if its object is the same and a slot named besides it is still so
-pub take-less : (T S : Tables) (f : MdtFid) (g : OstFid) (k i : ℕ) → objectOf S g ≡ objectOf T g → (namedElse T g k i ≡ true → namedElse S g k i ≡ true) → takeable T f g k i (objectOf T g) ≡ false → takeable S f g k i (objectOf S g) ≡ false
+pub take-less : (T S : Tables) (f : MdtFid) (g : OstFid) (k i : ℕ) → objectOf S g ≡ objectOf T g →
+    (namedElse T g k i ≡ true → namedElse S g k i ≡ true) → takeable T f g k i (objectOf T g) ≡ false →
+    takeable S f g k i (objectOf S g) ≡ false
 unfolding takeable
 take-less T S f g k i eo more e = rw eo (go (objectOf T g) e)
   where
@@ -108,14 +118,17 @@ take-less T S f g k i eo more e = rw eo (go (objectOf T g) e)
     go (Present x) t = both (x .fresh && claimIs (x .claim) f i) (namedElse T g k i) (namedElse S g k i) more t
 
 -- and one whose object is gone, or holds data, cannot be taken
-pub slot-taken : (S : Tables) (f : MdtFid) (g : OstFid) (n m k i : ℕ) → takeable S f g k i (objectOf S g) ≡ false → isWay (slotWay S f k i (Names g n m)) ≡ false
+pub slot-taken : (S : Tables) (f : MdtFid) (g : OstFid) (n m k i : ℕ) → takeable S f g k i (objectOf S g) ≡ false →
+    isWay (slotWay S f k i (Names g n m)) ≡ false
 unfolding slotWay isWay
 slot-taken S f g n m k i e = rw e
 
 -- ## The writes of stage two
 -- a row is made or grown by holes
-module _ (T : Tables) (r : ℕ) (w : ParentRow) (same : (i : ℕ) → getD (slotsOf w) i Hole ≡ slotAt T r i) (like : (g : OstFid) (i : ℕ) → namesAt T g r i ≡ true → RowLike w (rowAt T r))
-    (one : OneParent (putParent T r w)) (more : (f : MdtFid) → isParent f (rowAt T r) ≡ true → (isParent f w ≡ true) × (holesIn (rowAt T r) ≡ true) × (length (slotsOf (rowAt T r)) ≤ length (slotsOf w))) where
+module _ (T : Tables) (r : ℕ) (w : ParentRow) (same : (i : ℕ) → getD (slotsOf w) i Hole ≡ slotAt T r i)
+    (like : (g : OstFid) (i : ℕ) → namesAt T g r i ≡ true → RowLike w (rowAt T r))
+    (one : OneParent (putParent T r w))
+    (more : (f : MdtFid) → isParent f (rowAt T r) ≡ true → (isParent f w ≡ true) × (holesIn (rowAt T r) ≡ true) × (length (slotsOf (rowAt T r)) ≤ length (slotsOf w))) where
   pub less-row : WayLess T (putParent T r w)
   unfolding rowAt putParent width slotAt
   less-row = way-less T S one (λ f k e. pointwise (λ v. isParent f v ≡ true) k (λ q. rw (← q) e) (λ q. more f (rw q at e) .0) e) row
@@ -131,7 +144,8 @@ module _ (T : Tables) (r : ℕ) (w : ParentRow) (same : (i : ℕ) → getD (slot
           let (a, b, t, n) = else-elim T g k i e in
           else-intro S g k i a b (row-names T r w same like g a b ∙ t) n
 
-      row : (f : MdtFid) (i k : ℕ) → isParent f (rowAt T k) ≡ true → isWay (rowWay T f i (RowIs k)) ≡ false → isWay (rowWay S f i (RowIs k)) ≡ false
+      row : (f : MdtFid) (i k : ℕ) → isParent f (rowAt T k) ≡ true → isWay (rowWay T f i (RowIs k)) ≡ false →
+          isWay (rowWay S f i (RowIs k)) ≡ false
       row f i k e =
           row-less T S f i k
           (pointwise (λ v. length (slotsOf (rowAt T k)) ≤ length (slotsOf v)) k (λ q. rw q (omega arith)) (λ q. rw q (more f (rw q at e) .2)) (omega arith))
@@ -139,7 +153,8 @@ module _ (T : Tables) (r : ℕ) (w : ParentRow) (same : (i : ℕ) → getD (slot
           (λ g n m q t. rw (row-slots T r w same like k i, q) (slot-taken S f g n m k i (take-less T S f g k i (objects-row T r w g) (els g k i) t)))
 
 -- an object is destroyed
-pub drop-none : (T : Tables) (o : ℕ) (g : OstFid) → OneObject T → isObject g (objectAt T o) ≡ true → (k : ℕ) → isObject g (objectAt (putObject T o destroyed) k) ≡ false
+pub drop-none : (T : Tables) (o : ℕ) (g : OstFid) → OneObject T → isObject g (objectAt T o) ≡ true → (k : ℕ) →
+    isObject g (objectAt (putObject T o destroyed) k) ≡ false
 unfolding objectAt putObject isObject destroyed
 drop-none T o g one e k = go (ℕ-discrete k o)
   where
@@ -147,13 +162,16 @@ drop-none T o g one e k = go (ℕ-discrete k o)
     go (yes q) = rw (q, getD-set-same (T .objects) o destroyed (noObject []) (object-inside T g o e))
     go (no n) = rw (getD-set-other (T .objects) o k destroyed (noObject []) n) (never (isObject g (objectAt T k)) (λ t. n (one k o g t e)))
 
-pub drop-gone : (T : Tables) (o : ℕ) (g : OstFid) → OneObject T → isObject g (objectAt T o) ≡ true → objectOf (putObject T o destroyed) g ≡ Missing
+pub drop-gone : (T : Tables) (o : ℕ) (g : OstFid) → OneObject T → isObject g (objectAt T o) ≡ true →
+    objectOf (putObject T o destroyed) g ≡ Missing
 unfolding objectOf objectInRow
 drop-gone T o g one e = rw (first-unique (object-first (putObject T o destroyed) g) (absent (drop-none T o g one e)))
 
 pub less-drop : (T : Tables) (o : ℕ) → OneParent T → OneObject T → WayLess T (putObject T o destroyed)
 unfolding rowAt putObject width slotAt namesAt takeable isObject destroyed
-less-drop T o one alone = way-less T S one (λ f k e. e) (λ f i k e. row-less T S f i k (omega arith) (λ h. (refl, h)) (λ g n m q t. rw q (slot-taken S f g n m k i (go f g k i t (isObject g (objectAt T o)) refl))))
+less-drop T o one alone =
+    way-less T S one (λ f k e. e)
+    (λ f i k e. row-less T S f i k (omega arith) (λ h. (refl, h)) (λ g n m q t. rw q (slot-taken S f g n m k i (go f g k i t (isObject g (objectAt T o)) refl))))
   where
     S : Tables
     S = putObject T o destroyed
@@ -163,18 +181,21 @@ less-drop T o one alone = way-less T S one (λ f k e. e) (λ f i k e. row-less T
         let (a, b, t, n) = else-elim T g k i e in
         else-intro S g k i a b t n
 
-    go : (f : MdtFid) (g : OstFid) (k i : ℕ) → takeable T f g k i (objectOf T g) ≡ false → (b : Bool) → isObject g (objectAt T o) ≡ b → takeable S f g k i (objectOf S g) ≡ false
+    go : (f : MdtFid) (g : OstFid) (k i : ℕ) → takeable T f g k i (objectOf T g) ≡ false → (b : Bool) → isObject g (objectAt T o) ≡ b →
+        takeable S f g k i (objectOf S g) ≡ false
     go f g k i t true e = rw (drop-gone T o g alone e)
     go f g k i t false e = take-less T S f g k i (object-frame T o destroyed g e refl) (els g k i) t
 
 -- an object that holds data is put into a slot
-module _ (T : Tables) (o r i : ℕ) (x : Object) (one : OneParent T) (alone : OneObject T) (holds : objectAt T o ≡ object x) (row : r < length (T .parents)) (part : i < width T r)
+module _ (T : Tables) (o r i : ℕ) (x : Object) (one : OneParent T) (alone : OneObject T) (holds : objectAt T o ≡ object x)
+    (row : r < length (T .parents)) (part : i < width T r)
     (stays : x .fresh ≡ false) (unnamed : (k l : ℕ) → namesAt T (x .fid) k l ≡ false)
     (lonely : (g : OstFid) (k l : ℕ) → namesAt T g r i ≡ true → namesAt T g k l ≡ true → (k ≡ r) × (l ≡ i)) where
   pub less-settled : WayLess T (settled T o x r i)
   unfolding rowAt putObject putSlot putParent objectAt width slotAt namesAt slotNames takeable isObject settled slotFor withOwner
   less-settled = way-less T S (one-parent-slot T r i s one) (λ f k e. parent-slot T r i s f k ∙ e) (λ f l k e.
-      row-less T S f l k (let w = width-slot T r i s k in omega arith) (λ h. (width-slot T r i s k, holes-slot T r i s k ∙ h)) (slots f l k))
+      row-less T S f l k (let w = width-slot T r i s k in omega arith) (λ h. (width-slot T r i s k, holes-slot T r i s k ∙ h))
+      (slots f l k))
     where
       s : Slot
       s = slotFor x
@@ -196,7 +217,8 @@ module _ (T : Tables) (o r i : ℕ) (x : Object) (one : OneParent T) (alone : On
           let (a, b, t, m) = else-elim T g k l e in
           else-intro S g k l a b (names-other T r i s g a b (λ p q. let z = lonely g k l (rw (p, q) at t) u in n (z .0) (z .1)) ∙ t) m
 
-      slots : (f : MdtFid) (l k : ℕ) (g : OstFid) (n m : ℕ) → slotAt T k l ≡ Names g n m → takeable T f g k l (objectOf T g) ≡ false → isWay (slotWay S f k l (slotAt S k l)) ≡ false
+      slots : (f : MdtFid) (l k : ℕ) (g : OstFid) (n m : ℕ) → slotAt T k l ≡ Names g n m → takeable T f g k l (objectOf T g) ≡ false →
+          isWay (slotWay S f k l (slotAt S k l)) ≡ false
       slots f l k g n m q t = go (ℕ-discrete k r) (ℕ-discrete l i)
         where
           names : namesAt T g k l ≡ true
@@ -256,26 +278,31 @@ module _ (policy : ℕ) (T S : Tables) (k : ℕ) where
   quiet-named y e t = rw (e, t)
 
   -- an object's row is as it was: it is quiet if it was, where no place comes to be had, and its FID goes on being named
-  pub quiet-same : WayLess T S → objectAt S k ≡ objectAt T k → ((y : Object) → objectAt T k ≡ object y → named T (y .fid) ≡ true → named S (y .fid) ≡ true)
+  pub quiet-same : WayLess T S → objectAt S k ≡ objectAt T k →
+      ((y : Object) → objectAt T k ≡ object y → named T (y .fid) ≡ true → named S (y .fid) ≡ true)
       → quietObject policy (objectClass T k) ≡ true → quietObject policy (objectClass S k) ≡ true
   unfolding objectClass objectClassOf quietObject unnamedClass
   quiet-same less e more q = rw e (go (objectAt T k) refl q)
     where
-      claim : (fresh : Bool) (c : Claim) → quietObject policy (unnamedClass T fresh c) ≡ true → quietObject policy (unnamedClass S fresh c) ≡ true
+      claim : (fresh : Bool) (c : Claim) → quietObject policy (unnamedClass T fresh c) ≡ true →
+          quietObject policy (unnamedClass S fresh c) ≡ true
       claim fresh Unclaimed t = refl
       claim true (Claims f i) t = t
       claim false (Claims f i) t = ways (isWay (way T f i)) (isWay (way S f i)) (less f i) t
         where
-          ways : (a b : Bool) → (a ≡ false → b ≡ false) → quietObject policy (cond a ORPHAN CONFLICT) ≡ true → quietObject policy (cond b ORPHAN CONFLICT) ≡ true
+          ways : (a b : Bool) → (a ≡ false → b ≡ false) → quietObject policy (cond a ORPHAN CONFLICT) ≡ true →
+              quietObject policy (cond b ORPHAN CONFLICT) ≡ true
           ways a false h t = refl
           ways true true h t = t
           ways false true h t = clash refl (h refl)
 
-      go : (w : ObjectRow) → objectAt T k ≡ w → quietObject policy (objectClassOf T w) ≡ true → quietObject policy (objectClassOf S w) ≡ true
+      go : (w : ObjectRow) → objectAt T k ≡ w → quietObject policy (objectClassOf T w) ≡ true →
+          quietObject policy (objectClassOf S w) ≡ true
       go (noObject b) d t = refl
       go (object y) d t = names (named T (y .fid)) (named S (y .fid)) (more y d) t
         where
-          names : (a b : Bool) → (a ≡ true → b ≡ true) → quietObject policy (cond a KEPT (unnamedClass T (y .fresh) (y .claim))) ≡ true → quietObject policy (cond b KEPT (unnamedClass S (y .fresh) (y .claim))) ≡ true
+          names : (a b : Bool) → (a ≡ true → b ≡ true) → quietObject policy (cond a KEPT (unnamedClass T (y .fresh) (y .claim))) ≡ true →
+              quietObject policy (cond b KEPT (unnamedClass S (y .fresh) (y .claim))) ≡ true
           names a true h t = refl
           names true false h t = clash (h refl) refl
           names false false h t = claim (y .fresh) (y .claim) t
@@ -291,9 +318,12 @@ stays-trans T U S a b o x e f =
     let (z, d′, g′, h′) = b o y d h in
     (z, d′, g′ ∙ g, h′)
 
-pub stays-put : (T : Tables) (o : ℕ) (w : ObjectRow) → ((x : Object) → objectAt T o ≡ object x → x .fresh ≡ false → (y : Object) × (w ≡ object y) × (y .fid ≡ x .fid) × (y .fresh ≡ false)) → NotDestroyed T (putObject T o w)
+pub stays-put : (T : Tables) (o : ℕ) (w : ObjectRow) →
+    ((x : Object) → objectAt T o ≡ object x → x .fresh ≡ false → (y : Object) × (w ≡ object y) × (y .fid ≡ x .fid) × (y .fresh ≡ false)) →
+    NotDestroyed T (putObject T o w)
 unfolding NotDestroyed objectAt putObject
-stays-put T o w h k x e f = set-pointwise (T .objects) o w (noObject []) (λ v. (y : Object) × (v ≡ object y) × (y .fid ≡ x .fid) × (y .fresh ≡ false)) k
+stays-put T o w h k x e f =
+    set-pointwise (T .objects) o w (noObject []) (λ v. (y : Object) × (v ≡ object y) × (y .fid ≡ x .fid) × (y .fresh ≡ false)) k
     (λ q. (x, rw (← q) e, refl, f)) (λ q. h x (rw q at e) f) (λ n. (x, e, refl, f))
 
 pub stays-slot : (T U : Tables) (r j : ℕ) (s : Slot) → NotDestroyed T U → NotDestroyed T (putSlot U r j s)
@@ -314,7 +344,8 @@ pub grows-refl : (T : Tables) → Grows T T
 grows-refl T = record { tall = refl; wider = λ k. omega arith; size = refl }
 
 pub grows-trans : (T U S : Tables) → Grows T U → Grows U S → Grows T S
-grows-trans T U S a b = record { tall = b .tall ∙ a .tall; wider = λ k. let x = a .wider k in let y = b .wider k in omega arith; size = b .size ∙ a .size }
+grows-trans T U S a b =
+    record { tall = b .tall ∙ a .tall; wider = λ k. let x = a .wider k in let y = b .wider k in omega arith; size = b .size ∙ a .size }
 
 pub grows-put : (T : Tables) (o : ℕ) (w : ObjectRow) → Grows T (putObject T o w)
 unfolding putObject width rowAt
@@ -338,7 +369,8 @@ pub record Calm (policy : ℕ) (T S : Tables) : Type 0 where
   pub rows : (k : ℕ) → quietObject policy (objectClass T k) ≡ true → quietObject policy (objectClass S k) ≡ true
 
 pub same-quiet : (policy : ℕ) (T : Tables) → Distinct T → Calm policy T T
-same-quiet policy T s = record { first = record { sound = s; stays = stays-refl T; grows = grows-refl T; headers = λ k e. e; parts = λ k i e. e }; rows = λ k e. e }
+same-quiet policy T s =
+    record { first = record { sound = s; stays = stays-refl T; grows = grows-refl T; headers = λ k e. e; parts = λ k i e. e }; rows = λ k e. e }
 
 -- ## What is not there is quiet
 
@@ -374,16 +406,21 @@ pub record Ready (policy : ℕ) (T U : Tables) (o r i : ℕ) (x : Object) : Type
 module _ (policy : ℕ) (T U : Tables) (o r i : ℕ) (x : Object) (ready : Ready policy T U o r i x) (stays : x .fresh ≡ false) where
   settled-sound : Distinct (settled U o x r i)
   unfolding settled rowAt putObject objectAt putSlot putParent isObject withOwner
-  settled-sound = record { parents = one-parent-slot U r i _ (ready .sound .parents); objects = λ a b f p q. ready .sound .objects a b f (back a f p) (back b f q) }
+  settled-sound =
+      record { parents = one-parent-slot U r i _ (ready .sound .parents); objects = λ a b f p q. ready .sound .objects a b f (back a f p) (back b f q) }
     where
       back : (a : ℕ) (f : OstFid) → isObject f (objectAt (settled U o x r i) a) ≡ true → isObject f (objectAt U a) ≡ true
-      back a f = set-pointwise (U .objects) o _ (noObject []) (λ w. isObject f w ≡ true → isObject f (objectAt U a) ≡ true) a (λ q t. rw q t) (λ q t. rw (q, ready .holds) t) (λ n t. t)
+      back a f =
+          set-pointwise (U .objects) o _ (noObject []) (λ w. isObject f w ≡ true → isObject f (objectAt U a) ≡ true) a (λ q t. rw q t)
+          (λ q t. rw (q, ready .holds) t) (λ n t. t)
 
   settled-names : named (settled U o x r i) (x .fid) ≡ true
   unfolding settled rowAt putObject namesAt slotAt slotNames slotFor
-  settled-names = named-intro (settled U o x r i) (x .fid) r i (rw (slot-same U r i (slotFor x) (ready .inside) (ready .within), fid-refl (x .fid .0)))
+  settled-names =
+      named-intro (settled U o x r i) (x .fid) r i (rw (slot-same U r i (slotFor x) (ready .inside) (ready .within), fid-refl (x .fid .0)))
 
-  settled-rows : (k : ℕ) → (k ≡ o → ⊥) → quietObject policy (objectClass U k) ≡ true → quietObject policy (objectClass (settled U o x r i) k) ≡ true
+  settled-rows : (k : ℕ) → (k ≡ o → ⊥) → quietObject policy (objectClass U k) ≡ true →
+      quietObject policy (objectClass (settled U o x r i) k) ≡ true
   unfolding settled putObject objectAt putSlot putParent isObject namesAt slotAt rowAt
   settled-rows k n =
       quiet-same policy U (settled U o x r i) k
@@ -399,7 +436,8 @@ module _ (policy : ℕ) (T U : Tables) (o r i : ℕ) (x : Object) (ready : Ready
   -- every other slot keeps its class
   pub settled-keeps : (k l : ℕ) → (k ≡ r → l ≡ i → ⊥) → slotClass (settled U o x r i) k l ≡ slotClass T k l
   settled-keeps k l n =
-      settled-others U o r i x (ready .sound .parents) (ready .sound .objects) (ready .holds) (ready .inside) (ready .within) (ready .claimed) (ready .unnamed) (ready .lonely) k l n
+      settled-others U o r i x (ready .sound .parents) (ready .sound .objects) (ready .holds) (ready .inside) (ready .within)
+      (ready .claimed) (ready .unnamed) (ready .lonely) k l n
       ∙ ready .others k l n
 
   settled-parts : (k l : ℕ) → quietSlot policy (slotClass T k l) ≡ true → quietSlot policy (slotClass (settled U o x r i) k l) ≡ true
@@ -412,7 +450,9 @@ module _ (policy : ℕ) (T U : Tables) (o r i : ℕ) (x : Object) (ready : Ready
       go : Dec (k ≡ r) → Dec (l ≡ i) → quietSlot policy (slotClass (settled U o x r i) k l) ≡ true
       go (no d) z = other (λ p q. d p)
       go (yes p) (no d) = other (λ p q. d q)
-      go (yes p) (yes q) = rw (p, q, settled-clean U o r i x (ready .sound .parents) (ready .sound .objects) (ready .holds) (ready .inside) (ready .within) (ready .claimed) (ready .unnamed) (ready .lonely))
+      go (yes p) (yes q) =
+          rw
+          (p, q, settled-clean U o r i x (ready .sound .parents) (ready .sound .objects) (ready .holds) (ready .inside) (ready .within) (ready .claimed) (ready .unnamed) (ready .lonely))
 
   pub settled-row : quietObject policy (objectClass (settled U o x r i) o) ≡ true
   unfolding withOwner settled objectAt putObject putSlot putParent isObject
@@ -421,7 +461,9 @@ module _ (policy : ℕ) (T U : Tables) (o r i : ℕ) (x : Object) (ready : Ready
 
   settled-stays : NotDestroyed U (settled U o x r i)
   unfolding NotDestroyed settled withOwner objectAt putSlot putParent putObject
-  settled-stays = stays-put (putSlot U r i (slotFor x)) o (object (withOwner x (ownerOf (rowAt U r)))) (λ z e f. let q : z ≡ x = cc (ready .holds) in (withOwner x (ownerOf (rowAt U r)), refl, ap (λ a. a .fid) (sym q), stays))
+  settled-stays =
+      stays-put (putSlot U r i (slotFor x)) o (object (withOwner x (ownerOf (rowAt U r))))
+      (λ z e f. let q : z ≡ x = cc (ready .holds) in (withOwner x (ownerOf (rowAt U r)), refl, ap (λ a. a .fid) (sym q), stays))
 
   pub settled-calm : Calm policy T (settled U o x r i)
   unfolding settled rowAt putObject putSlot putParent
@@ -431,6 +473,7 @@ module _ (policy : ℕ) (T U : Tables) (o r i : ℕ) (x : Object) (ready : Ready
         rows = λ k e. go k e (ℕ-discrete k o);
       }
     where
-      go : (k : ℕ) → quietObject policy (objectClass T k) ≡ true → Dec (k ≡ o) → quietObject policy (objectClass (settled U o x r i) k) ≡ true
+      go : (k : ℕ) → quietObject policy (objectClass T k) ≡ true → Dec (k ≡ o) →
+          quietObject policy (objectClass (settled U o x r i) k) ≡ true
       go k e (yes q) = rw q settled-row
       go k e (no n) = settled-rows k n (ready .rows k n e)

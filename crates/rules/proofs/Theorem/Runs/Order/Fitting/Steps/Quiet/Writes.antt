@@ -9,12 +9,14 @@ unfolding namesAt slotAt rowAt putObject
 kept-objects T o y f c = record { fewer = λ r j e. e; still = λ r j e. keeper-names T f c r j e; selves = λ r j e. refl }
 
 -- the slot that names a FID and is claimed by its object is the keeper
-pub keeper-own : (T : Tables) (f : OstFid) (r j : ℕ) (x : Object) → OneParent T → namesAt T f r j ≡ true → objectOf T f ≡ Present x → x .claim ≡ Claims (selfOf (rowAt T r)) j → keeper T f ≡ At r j
+pub keeper-own : (T : Tables) (f : OstFid) (r j : ℕ) (x : Object) → OneParent T → namesAt T f r j ≡ true → objectOf T f ≡ Present x →
+    x .claim ≡ Claims (selfOf (rowAt T r)) j → keeper T f ≡ At r j
 unfolding keeper claimIn
 keeper-own T f r j x one e eo ec = rw (eo, ec) (keeper-claimed T f r j one e)
 
 -- and if the object has its owner too, the slot is clean
-pub clean : (T : Tables) (f : OstFid) (r j : ℕ) (x : Object) → OneParent T → namesAt T f r j ≡ true → objectOf T f ≡ Present x → x .claim ≡ Claims (selfOf (rowAt T r)) j → x .owner ≡ ownerOf (rowAt T r) → slotClass T r j ≡ CLEAN
+pub clean : (T : Tables) (f : OstFid) (r j : ℕ) (x : Object) → OneParent T → namesAt T f r j ≡ true → objectOf T f ≡ Present x →
+    x .claim ≡ Claims (selfOf (rowAt T r)) j → x .owner ≡ ownerOf (rowAt T r) → slotClass T r j ≡ CLEAN
 unfolding slotClass slotClassOf namesAt slotNames keeperClass claimClass claimIs
 clean T f r j x one e eo ec ew = go (slotAt T r j) e
   where
@@ -26,7 +28,8 @@ clean T f r j x one e eo ec ew = go (slotAt T r j) e
     go (Names g n i) t = rw (ost-true g f t, keeper-own T f r j x one e eo ec, is-here r j, eo) kept
 
 -- the row that is written holds the object, if no other row does
-pub put-found : (T : Tables) (f : OstFid) (o : ℕ) (x : Object) → o < length (T .objects) → x .fid ≡ f → ((k : ℕ) → isObject f (objectAt T k) ≡ true → k ≡ o) → objectOf (putObject T o (object x)) f ≡ Present x
+pub put-found : (T : Tables) (f : OstFid) (o : ℕ) (x : Object) → o < length (T .objects) → x .fid ≡ f →
+    ((k : ℕ) → isObject f (objectAt T k) ≡ true → k ≡ o) → objectOf (putObject T o (object x)) f ≡ Present x
 unfolding objectOf objectInRow objectAt putObject isObject objectIn
 put-found T f o x inside is alone = rw (here, getD-set-same (T .objects) o (object x) (noObject []) inside)
   where
@@ -37,14 +40,17 @@ put-found T f o x inside is alone = rw (here, getD-set-same (T .objects) o (obje
     at = rw (getD-set-same (T .objects) o (object x) (noObject []) inside, is, fid-refl (f .0))
 
     only : (k : ℕ) → isObject f (objectAt S k) ≡ true → k ≡ o
-    only k = set-pointwise (T .objects) o (object x) (noObject []) (λ w. isObject f w ≡ true → k ≡ o) k (λ e t. e) (λ e t. e) (λ n t. alone k t)
+    only k =
+        set-pointwise (T .objects) o (object x) (noObject []) (λ w. isObject f w ≡ true → k ≡ o) k (λ e t. e) (λ e t. e) (λ n t. alone k t)
 
     here : objectRow S f ≡ RowIs o
     here = first-unique (object-first S f) (first-only at only)
 
 -- row o comes to hold object x of FID f, which Claims slot (r, j), the keeper of f, and has its parent's owner; it held f or nothing, and no other row holds f
-module _ (T : Tables) (f : OstFid) (r j o : ℕ) (x : Object) (one : OneParent T) (names : namesAt T f r j ≡ true) (keeps : keeper T f ≡ At r j)
-    (inside : o < length (T .objects)) (is : x .fid ≡ f) (claimed : x .claim ≡ Claims (selfOf (rowAt T r)) j) (owned : x .owner ≡ ownerOf (rowAt T r))
+module _ (T : Tables) (f : OstFid) (r j o : ℕ) (x : Object) (one : OneParent T) (names : namesAt T f r j ≡ true)
+    (keeps : keeper T f ≡ At r j)
+    (inside : o < length (T .objects)) (is : x .fid ≡ f) (claimed : x .claim ≡ Claims (selfOf (rowAt T r)) j)
+    (owned : x .owner ≡ ownerOf (rowAt T r))
     (held : (g : OstFid) → isObject g (objectAt T o) ≡ true → g ≡ f) (alone : (k : ℕ) → isObject f (objectAt T k) ≡ true → k ≡ o) where
   pub claim-clean : slotClass (putObject T o (object x)) r j ≡ CLEAN
   unfolding namesAt slotAt rowAt putObject
@@ -70,7 +76,9 @@ module _ (T : Tables) (f : OstFid) (r j o : ℕ) (x : Object) (one : OneParent T
           record { self = refl; owner = refl; keeps = ap (λ a. isPlace a k i) (keeper-frame T S g eo (kept-objects T o (object x) g _)); object = λ u. eo }
 
 -- ## The two writes, seen from a slot whose FID they do not touch
-pub object-others : (T : Tables) (o : ℕ) (y : ObjectRow) (k i : ℕ) → ((g : OstFid) → namesAt T g k i ≡ true → (isObject g (objectAt T o) ≡ false) × (isObject g y ≡ false)) → slotClass (putObject T o y) k i ≡ slotClass T k i
+pub object-others : (T : Tables) (o : ℕ) (y : ObjectRow) (k i : ℕ) →
+    ((g : OstFid) → namesAt T g k i ≡ true → (isObject g (objectAt T o) ≡ false) × (isObject g y ≡ false)) →
+    slotClass (putObject T o y) k i ≡ slotClass T k i
 unfolding slotAt rowAt putObject
 object-others T o y k i h = class-same T (putObject T o y) k i refl go
   where
@@ -83,12 +91,14 @@ pub objects-slot : (T : Tables) (r j : ℕ) (s : Slot) (g : OstFid) → objectOf
 unfolding objectOf objectInRow objectRow objectAt putSlot putParent
 objects-slot T r j s g = refl
 
-pub names-other : (T : Tables) (r j : ℕ) (s : Slot) (g : OstFid) (k i : ℕ) → (k ≡ r → i ≡ j → ⊥) → namesAt (putSlot T r j s) g k i ≡ namesAt T g k i
+pub names-other : (T : Tables) (r j : ℕ) (s : Slot) (g : OstFid) (k i : ℕ) → (k ≡ r → i ≡ j → ⊥) →
+    namesAt (putSlot T r j s) g k i ≡ namesAt T g k i
 unfolding namesAt
 names-other T r j s g k i n = ap (slotNames g) (slot-other T r j s k i n)
 
 -- a slot is written that is not the keeper of the FID, and it does not come to name it
-pub kept-slot : (T : Tables) (r j : ℕ) (s : Slot) (g : OstFid) (c : Claim) → slotNames g s ≡ false → isPlace (keeperBy T g c) r j ≡ false → Kept T (putSlot T r j s) g c
+pub kept-slot : (T : Tables) (r j : ℕ) (s : Slot) (g : OstFid) (c : Claim) → slotNames g s ≡ false → isPlace (keeperBy T g c) r j ≡ false →
+    Kept T (putSlot T r j s) g c
 unfolding claimsParent namesAt slotAt
 kept-slot T r j s g c new keep = record { fewer = fewer; still = still; selves = λ k i e. selves c k }
   where
@@ -96,7 +106,8 @@ kept-slot T r j s g c new keep = record { fewer = fewer; still = still; selves =
     S = putSlot T r j s
 
     fewer : (k i : ℕ) → namesAt S g k i ≡ true → namesAt T g k i ≡ true
-    fewer k i = slot-pointwise T r j s (λ w. slotNames g w ≡ true → namesAt T g k i ≡ true) k i (λ p q t. t) (λ p q t. clash t new) (λ n t. t)
+    fewer k i =
+        slot-pointwise T r j s (λ w. slotNames g w ≡ true → namesAt T g k i ≡ true) k i (λ p q t. t) (λ p q t. clash t new) (λ n t. t)
 
     still : (k i : ℕ) → keeperBy T g c ≡ At k i → namesAt S g k i ≡ true
     still k i e = names-other T r j s g k i (λ p q. clash (rw (e, p, q) (is-here r j)) keep) ∙ keeper-names T g c k i e
@@ -105,7 +116,9 @@ kept-slot T r j s g c new keep = record { fewer = fewer; still = still; selves =
     selves Unclaimed k = refl
     selves (Claims f i) k = parent-slot T r j s f k
 
-pub slot-others : (T : Tables) (r j : ℕ) (s : Slot) (k i : ℕ) → (k ≡ r → i ≡ j → ⊥) → ((g : OstFid) → namesAt T g k i ≡ true → (slotNames g s ≡ false) × (isPlace (keeper T g) r j ≡ false)) → slotClass (putSlot T r j s) k i ≡ slotClass T k i
+pub slot-others : (T : Tables) (r j : ℕ) (s : Slot) (k i : ℕ) → (k ≡ r → i ≡ j → ⊥) →
+    ((g : OstFid) → namesAt T g k i ≡ true → (slotNames g s ≡ false) × (isPlace (keeper T g) r j ≡ false)) →
+    slotClass (putSlot T r j s) k i ≡ slotClass T k i
 unfolding keeper
 slot-others T r j s k i n h = class-same T (putSlot T r j s) k i (slot-other T r j s k i n) (λ g e.
     record {
@@ -127,10 +140,13 @@ one-name T f g r j a b = go (slotAt T r j) a b
     go (Names h n i) a b = sym (ost-true h g b) ∙ ost-true h f a
 
 -- slot (r, j), which is not the keeper of what it names, takes the FID of a new object in the free row o; the FID was named by no slot and in no row
-module _ (T : Tables) (f : OstFid) (r j o m ost : ℕ) (x : Object) (one : OneParent T) (names : namesAt T f r j ≡ true) (second : isPlace (keeper T f) r j ≡ false)
-    (inside : o < length (T .objects)) (free : (g : OstFid) → isObject g (objectAt T o) ≡ false) (claimed : x .claim ≡ Claims (selfOf (rowAt T r)) j) (owned : x .owner ≡ ownerOf (rowAt T r))
+module _ (T : Tables) (f : OstFid) (r j o m ost : ℕ) (x : Object) (one : OneParent T) (names : namesAt T f r j ≡ true)
+    (second : isPlace (keeper T f) r j ≡ false)
+    (inside : o < length (T .objects)) (free : (g : OstFid) → isObject g (objectAt T o) ≡ false)
+    (claimed : x .claim ≡ Claims (selfOf (rowAt T r)) j) (owned : x .owner ≡ ownerOf (rowAt T r))
     (unnamed : (k i : ℕ) → namesAt T (x .fid) k i ≡ false) (missing : (k : ℕ) → isObject (x .fid) (objectAt T k) ≡ false) where
-  pub redirect-others : (k i : ℕ) → (k ≡ r → i ≡ j → ⊥) → slotClass (putSlot (putObject T o (object x)) r j (Names (x .fid) m ost)) k i ≡ slotClass T k i
+  pub redirect-others : (k i : ℕ) → (k ≡ r → i ≡ j → ⊥) →
+      slotClass (putSlot (putObject T o (object x)) r j (Names (x .fid) m ost)) k i ≡ slotClass T k i
   unfolding namesAt slotAt rowAt putObject isObject slotNames keeper
   redirect-others k i n = slot-others U r j _ k i n keep ∙ object-others T o (object x) k i (λ g e. (free g, new g k i e))
     where
@@ -170,7 +186,8 @@ unfolding objectOf objectInRow objectRow objectAt putParent
 objects-row T r w g = refl
 
 -- row r is replaced by one with the same slots, up to holes at the end; where it names anything the row is the same otherwise
-module _ (T : Tables) (r : ℕ) (w : ParentRow) (same : (i : ℕ) → getD (slotsOf w) i Hole ≡ slotAt T r i) (like : (g : OstFid) (i : ℕ) → namesAt T g r i ≡ true → RowLike w (rowAt T r)) where
+module _ (T : Tables) (r : ℕ) (w : ParentRow) (same : (i : ℕ) → getD (slotsOf w) i Hole ≡ slotAt T r i)
+    (like : (g : OstFid) (i : ℕ) → namesAt T g r i ≡ true → RowLike w (rowAt T r)) where
   pub row-slots : (k i : ℕ) → slotAt (putParent T r w) k i ≡ slotAt T k i
   unfolding slotAt
   row-slots k i = row-frame (λ v. getD (slotsOf v) i Hole) T r w (same i) k
@@ -186,9 +203,11 @@ module _ (T : Tables) (r : ℕ) (w : ParentRow) (same : (i : ℕ) → getD (slot
 
   row-kept : (g : OstFid) (c : Claim) → Kept T (putParent T r w) g c
   unfolding claimsParent
-  row-kept g c = record { fewer = λ k i e. sym (row-names g k i) ∙ e; still = λ k i e. row-names g k i ∙ keeper-names T g c k i e; selves = λ k i e. go c k (row-like g k i e) }
+  row-kept g c =
+      record { fewer = λ k i e. sym (row-names g k i) ∙ e; still = λ k i e. row-names g k i ∙ keeper-names T g c k i e; selves = λ k i e. go c k (row-like g k i e) }
     where
-      go : (c : Claim) (k : ℕ) → RowLike (rowAt (putParent T r w) k) (rowAt T k) → claimsParent c (rowAt (putParent T r w) k) ≡ claimsParent c (rowAt T k)
+      go : (c : Claim) (k : ℕ) → RowLike (rowAt (putParent T r w) k) (rowAt T k) →
+          claimsParent c (rowAt (putParent T r w) k) ≡ claimsParent c (rowAt T k)
       go Unclaimed k l = refl
       go (Claims f i) k l = l .parent f
 
@@ -205,14 +224,17 @@ unfoldable pub settled : Tables → ℕ → Object → ℕ → ℕ → Tables
 settled T o x r i = putObject (putSlot T r i (slotFor x)) o (object (withOwner x (ownerOf (rowAt T r))))
 
 -- ## An object that no slot names is put into a slot
-pub settled-found : (T : Tables) (o r i : ℕ) (x : Object) → OneObject T → objectAt T o ≡ object x → objectOf (settled T o x r i) (x .fid) ≡ Present (withOwner x (ownerOf (rowAt T r)))
+pub settled-found : (T : Tables) (o r i : ℕ) (x : Object) → OneObject T → objectAt T o ≡ object x →
+    objectOf (settled T o x r i) (x .fid) ≡ Present (withOwner x (ownerOf (rowAt T r)))
 unfolding settled isObject putSlot putParent putObject objectAt withOwner
-settled-found T o r i x alone holds = put-found (putSlot T r i _) (x .fid) o _ (object-inside T (x .fid) o held) refl (λ k t. alone k o (x .fid) t held)
+settled-found T o r i x alone holds =
+    put-found (putSlot T r i _) (x .fid) o _ (object-inside T (x .fid) o held) refl (λ k t. alone k o (x .fid) t held)
   where
     held : isObject (x .fid) (objectAt T o) ≡ true
     held = rw (holds, fid-refl (x .fid .0))
 
-module _ (T : Tables) (o r i : ℕ) (x : Object) (one : OneParent T) (alone : OneObject T) (holds : objectAt T o ≡ object x) (row : r < length (T .parents)) (part : i < width T r)
+module _ (T : Tables) (o r i : ℕ) (x : Object) (one : OneParent T) (alone : OneObject T) (holds : objectAt T o ≡ object x)
+    (row : r < length (T .parents)) (part : i < width T r)
     (claimed : x .claim ≡ Claims (selfOf (rowAt T r)) i) (unnamed : (k l : ℕ) → namesAt T (x .fid) k l ≡ false)
     (lonely : (g : OstFid) (k l : ℕ) → namesAt T g r i ≡ true → namesAt T g k l ≡ true → (k ≡ r) × (l ≡ i)) where
   s : Slot
@@ -225,7 +247,8 @@ module _ (T : Tables) (o r i : ℕ) (x : Object) (one : OneParent T) (alone : On
   unfolding settled slotFor s isObject slotNames putSlot putParent objectAt withOwner keeper
   settled-others k l n =
       object-others U o _ k l (λ g e. let d = new g k l (sym (names-other T r i s g k l n) ∙ e) in (rw (holds, d), d))
-      ∙ slot-others T r i s k l n (λ g e. (new g k l e, never (isPlace (keeper T g) r i) (λ t. elsewhere g e (is-place (keeper T g) r i t))))
+      ∙ slot-others T r i s k l n
+      (λ g e. (new g k l e, never (isPlace (keeper T g) r i) (λ t. elsewhere g e (is-place (keeper T g) r i t))))
     where
       U : Tables
       U = putSlot T r i s
