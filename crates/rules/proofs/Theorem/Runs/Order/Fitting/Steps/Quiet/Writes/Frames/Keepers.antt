@@ -85,11 +85,11 @@ pub data FirstPlace (P : ℕ → ℕ → Bool) : Found → Type 0 where
   first : {r j : ℕ} → P r j ≡ true → ((i : ℕ) → i < j → P r i ≡ false) → ((k i : ℕ) → k < r → P k i ≡ false) → FirstPlace P (At r j)
 
 -- the first slot of one row
-data FirstIn (P : ℕ → ℕ → Bool) (r : ℕ) : Found → Type 0 where
+pub data FirstIn (P : ℕ → ℕ → Bool) (r : ℕ) : Found → Type 0 where
   not-in : ((j : ℕ) → P r j ≡ false) → FirstIn P r Nowhere
   is-in : {j : ℕ} → P r j ≡ true → ((i : ℕ) → i < j → P r i ≡ false) → FirstIn P r (At r j)
 
-slot-from : (P : ℕ → ℕ → Bool) (r n j : ℕ) → ((k : ℕ) → k < j → P r k ≡ false) → ((k : ℕ) → j + n ≤ k → P r k ≡ false) →
+pub slot-from : (P : ℕ → ℕ → Bool) (r n j : ℕ) → ((k : ℕ) → k < j → P r k ≡ false) → ((k : ℕ) → j + n ≤ k → P r k ≡ false) →
     FirstIn P r (slotFrom r n j P)
 unfolding slotFrom
 slot-from P r zero j lo hi = not-in (below-or-past (P r) j lo hi)
