@@ -353,7 +353,7 @@ module _ (policy : ℕ) (reserve : List OstFid) (T₀ : Tables) (sound : Distinc
 
   module _ {Call : Type 0} (request : Call → Request) (accepted : Tables → Call → Bool) where
     along-call : {T : Tables} {ps : List Position} (c : Call) → Along T ps →
-        (accepted T c ≡ true → Fits request accepted policy reserve ps (request c)) →
+        (accepted T c ≡ true → Follows policy reserve ps (request c)) →
         Along (leaves request accepted T c) (ps ++ adds request accepted T c)
     unfolding leaves adds runOf passedOf
     along-call {T} {ps} c a fits = go (accepted T c) refl

@@ -60,7 +60,7 @@ unfoldable pub use Rattle.rules.specs.Repairs.{putParent, putObject, app
 unfoldable pub use Rattle.rules.specs.Steps.{slotStep, partStep, objectStep, stepAt}
 pub use Rattle.rules.specs.Runs.{Run}
 unfoldable pub use Rattle.rules.specs.Runs.{stepTables, counts, noCounts, countOf, addCounts, halt, after, onStep, run}
-pub use Rattle.rules.specs.Calls.{Request, Fits}
+pub use Rattle.rules.specs.Calls.{Request, Follows}
 unfoldable pub use Rattle.rules.specs.Calls.{runOf, passedOn, passed, passedOf, leaves, adds, tablesAfter, passedAfter, Reached, Fair}
 pub use Rattle.rules.specs.Fit.{twoBytes, fourBytes, eightBytes, FitFid, FitOwner, FitHeader, FitSlot, FitClaim, FitParent, FitParentRow, FitObject, FitObjectRow, FitRows, FitReserve}
 pub use Rattle.rules.specs.Promises.{Distinct, HeldAlone, UncutRun, Promise}
