@@ -1,9 +1,9 @@
 -- Laws of FIDs: the tests case by case, and the round trips between a FID and its 16 bytes. Assumes nothing.
 use mathlib.Core.Path.{_≡_, refl, sym, ap, _∙_}
 use mathlib.Core.List.{List, [], _∷_, _++_, append-assoc}
-use mathlib.Core.Bool.{true, false}
+use mathlib.Core.Bool.{Bool, true, false, _&&_}
 use Prim.Native.Nat.{ℕ, zero, suc, _+_, _*_, _≤_, _<_, _^_}
-use borrow.Author.Tests.{le-leb, lt-leb, eq-eqb, ne-eqb}
+use borrow.Author.Tests.{le-leb, lt-leb, eq-eqb, ne-eqb, leb-true}
 use native.Mathlib.Nat.{mod-eq-of-lt}
 use native.Mathlib.Omega.{arith}
 use lib.Dec.{leb, eqb}
@@ -12,6 +12,7 @@ use lib.Seq.{sets, drop-drop, take-add, drop-at, drop-append-le}
 use Rattle.wire.specs.Numbers.{le, bytes}
 use Rattle.fid.specs.Fid.{goodSequence, goodNumber, goodFid, sameFid, decodeFid, encodeFid}
 use Rattle.fid.specs.declared.Fid.{Fid}
+use Rattle.wire.proofs.Both.{and-first}
 use Rattle.wire.proofs.Splice.{sets-at}
 use Rattle.wire.proofs.NumberLaws.{length-bytes, le-bytes, bytes-le, le-append, Bytes, bytes-drop}
 
@@ -109,3 +110,13 @@ decode-append p q h =
       drop-append-le 12 p q (omega arith),
       le-append 4 (drop 12 p) q (rw length-drop (omega arith)),
     )
+
+-- the sequence of a good FID is not 0
+pub good-positive : (f : Fid) → goodFid f ≡ true → 0 < f .seq
+unfolding goodFid goodNumber goodSequence
+good-positive f h =
+    let a : Bool = leb 0x200000400 (f .seq) in
+    let b : Bool = leb (f .seq) 0xfffffffffffffffe in
+    let d : Bool = leb 1 (f .oid) in
+    let v : Bool = eqb (f .ver) 0 in
+    omega (arith, leb-true 0x200000400 (f .seq) (and-first a b (and-first (a && b) d (and-first (a && b && d) v h))))

@@ -10,8 +10,8 @@ use Rattle.layout.specs.Layout.{Layout, decodeHeader, decodeLayout, enco
 use Rattle.layout.specs.declared.Header.{Header}
 use Rattle.layout.specs.declared.Slot.{Slot}
 use Rattle.layout.specs.declared.Slot.the-variants.{Hole, Names}
-use Rattle.layout.specs.declared.Read.{Read}
-use Rattle.layout.specs.declared.Read.the-variants.{Refused, Accepted}
+use Rattle.layout.specs.declared.Reading.{Reading}
+use Rattle.layout.specs.declared.Reading.the-variants.{Refused, Accepted}
 use Rattle.layout.specs.declared.SlotRead.{SlotRead}
 use Rattle.layout.specs.declared.SlotRead.the-variants.{BadLayout, NoSlot, SlotIs}
 use Rattle.layout.specs.declared.Given.{Given}
@@ -22,11 +22,11 @@ use Rattle.layout.specs.declared.Written.the-variants.{BadFields, TooSho
 -- ## The reader
 
 -- header and stripe count of a layout that the rules accept
-unfoldable pub readLayout : List ℕ → Read
+unfoldable pub readLayout : List ℕ → Reading
 readLayout l = cond (acceptedLayout l) (Accepted (decodeHeader l) (stripeCount l)) Refused
 
 -- "13: layout not as above"
-unfoldable pub readNumber : Read → ℕ
+unfoldable pub readNumber : Reading → ℕ
 readNumber Refused = 13
 readNumber (Accepted h n) = 0
 
@@ -54,13 +54,19 @@ rewriteBytes l j s = cond (eqb (rewriteAnswer l j s) 0) (sets l (slotStart l + 2
 
 -- ## The writer
 
--- slots are handed in as five numbers each: a hole where all are 0, else 1, sequence, id, generation and OST index.
--- Any other first number, or one that doesn't fit its field, is no slot
+-- slots are handed in as five numbers each: a hole where all are 0
+unfoldable pub zeroGiven : ℕ → ℕ → ℕ → ℕ → ℕ → Bool
+zeroGiven k s o g i = eqb k 0 && eqb s 0 && eqb o 0 && eqb g 0 && eqb i 0
+
+-- else 1, sequence, id, generation and OST index, of which the last three fit 32 bits
+unfoldable pub namesGiven : ℕ → ℕ → ℕ → ℕ → Bool
+namesGiven k o g i = eqb k 1 && leb o 0xffffffff && leb g 0xffffffff && leb i 0xffffffff
+
+-- any other first number, or one that doesn't fit its field, is no slot
 unfoldable pub givenFrom : ℕ → ℕ → ℕ → ℕ → ℕ → Given
 givenFrom k s o g i =
-    cond (eqb k 0 && eqb s 0 && eqb o 0 && eqb g 0 && eqb i 0) (GivenSlot Hole)
-    (cond (eqb k 1 && leb o 0xffffffff && leb g 0xffffffff && leb i 0xffffffff)
-    (GivenSlot (Names (record { 0 = record { seq = s; oid = o; ver = 0 } }) g i)) NotSlot)
+    cond (zeroGiven k s o g i) (GivenSlot Hole)
+    (cond (namesGiven k o g i) (GivenSlot (Names (record { 0 = record { seq = s; oid = o; ver = 0 } }) g i)) NotSlot)
 
 unfoldable pub givenAt : List ℕ → ℕ → Given
 givenAt l j = givenFrom (getD l (5 * j) 0) (getD l (5 * j + 1) 0) (getD l (5 * j + 2) 0) (getD l (5 * j + 3) 0) (getD l (5 * j + 4) 0)

@@ -1,5 +1,28 @@
-// Striping layouts, version 1 and 3.
+// Striping layouts, version 1 and 3: reader, slot reader, writer and slot rewrite.
+use fid::Fid;
 use fid::OstFid;
+ghost use mathlib.Core.Path.{_≡_};
+ghost use mathlib.Core.Bool.{true, _&&_};
+ghost use Prim.Native.Nat.{_+_, _*_, _≤_};
+ghost use lib.ListN.{length, drop};
+ghost use lib.Seq.{sets};
+ghost use Rattle.layout.specs.Slot.{zeroSlot, slotOf, encodeSlot, decodeSlots, encodeSlots, allowedSlot, allowedSlots, slotNames};
+ghost use Rattle.layout.specs.Layout.{headerSize, decodeHeader, encodeHeader, stripeCount, slotStart, knownVersion, knownPattern, withHoles, exactLength, acceptedLayout};
+ghost use Rattle.layout.specs.Answers.{readLayout, readSlot, rewriteAnswer, rewriteBytes, zeroGiven, givenFrom, givenAt, isSlot, slotGiven, givenSlots, allGiven, writable, writeLayout, writeBytes};
+
+// The greatest number of slots.
+pub const MAX_SLOTS: usize = 160;
+
+// The greatest OST index.
+pub const MAX_INDEX: u32 = 65535;
+
+pub const MAGIC_ONE: u32 = 0x0bd1_0bd0;
+
+pub const MAGIC_THREE: u32 = 0x0bd3_0bd0;
+
+const PLAIN_PATTERN: u32 = 1;
+
+const HOLE_PATTERN: u32 = 0x4000_0001;
 
 // One stripe: a hole, or an object's FID, the generation and the OST index.
 pub enum Slot {
@@ -18,7 +41,7 @@ pub struct Header {
 }
 
 // What the reader says: refused, or the header and the stripe count.
-pub enum Read {
+pub enum Reading {
     Refused,
     Accepted(Header, u16),
 }
@@ -41,4 +64,439 @@ pub enum Written {
     BadFields,
     TooShort,
     Bytes(usize),
+}
+
+// Whether the five numbers of a slot are all zero.
+fn is_zero_slot(f: Fid, g: u32, i: u32) -> bool
+    ensures { λ r. ⌜ r ≡ zeroSlot f g i ⌝ }
+{
+    if f.seq != 0 {
+        return false;
+    }
+    if f.oid != 0 {
+        return false;
+    }
+    if f.ver != 0 {
+        return false;
+    }
+    if g != 0 {
+        return false;
+    }
+    i == 0
+}
+
+// Slot j of the slot area, the part of a layout after its header.
+pub fn slot_at(area: &[u8], j: usize) -> Slot
+    requires { ⌜ 24 * j + 24 ≤ length (now area) ⌝ }
+    ensures { λ r. ⌜ r ≡ slotOf (now (area .entry)) j ⌝ }
+{
+    let at = 24 * j;
+    let f = fid::read_fid(area, at);
+    let g = wire::le32(area, at + 16);
+    let i = wire::le32(area, at + 20);
+    if is_zero_slot(f, g, i) {
+        Slot::Hole
+    } else {
+        Slot::Names(OstFid(f), g, i)
+    }
+}
+
+// Whether a slot names an object.
+pub fn names(s: Slot, f: OstFid) -> bool
+    ensures { λ r. ⌜ r ≡ slotNames f s ⌝ }
+{
+    match s {
+        Slot::Hole => false,
+        Slot::Names(g, _, _) => fid::same_ost(g, f),
+    }
+}
+
+// Whether a slot may stand in a layout, with or without the hole pattern.
+pub fn allowed_slot(holes: bool, s: Slot) -> bool
+    ensures { λ r. ⌜ r ≡ allowedSlot holes s ⌝ }
+{
+    match s {
+        Slot::Hole => holes,
+        Slot::Names(f, _, i) => {
+            let g = f.0;
+            if !fid::is_good(g) {
+                return false;
+            }
+            i <= MAX_INDEX
+        }
+    }
+}
+
+// Whether each of the first slots of a slot area is allowed.
+fn allowed_slots(area: &[u8], count: usize, holes: bool) -> bool
+    requires { ⌜ 24 * count ≤ length (now area) ⌝ }
+    ensures { λ r. ⌜ r ≡ allowedSlots holes (decodeSlots count (now (area .entry))) ⌝ }
+{
+    for j in 0..count {
+        let s = slot_at(area, j);
+        if !allowed_slot(holes, s) {
+            return false;
+        }
+    }
+    true
+}
+
+// Writes a slot over the 24 bytes that it is lent.
+pub fn put_slot(part: &mut [u8], s: Slot)
+    requires { ⌜ length (now part) ≡ 24 ⌝ }
+    ensures { λ _. ⌜ now (part .exit) ≡ encodeSlot s ⌝ }
+{
+    match s {
+        Slot::Hole => {
+            wire::put_le64(part, 0, 0);
+            wire::put_le64(part, 8, 0);
+            wire::put_le64(part, 16, 0);
+        }
+        Slot::Names(f, g, i) => {
+            let named = f.0;
+            fid::write_fid(part, 0, named);
+            wire::put_le32(part, 16, g);
+            wire::put_le32(part, 20, i);
+        }
+    }
+}
+
+// Rewrites slot j in place, the slots starting at h: its 24 bytes are lent to the slot writer.
+pub fn set_slot(layout: &mut [u8], h: usize, j: usize, s: Slot)
+    requires { ⌜ h + 24 * j + 24 ≤ length (now layout) ⌝ }
+    ensures { λ _. ⌜ now (layout .exit) ≡ sets (now (layout .entry)) (h + 24 * j) (encodeSlot s) ⌝ }
+{
+    let a = h + 24 * j;
+    let e = a + 24;
+    put_slot(&mut layout[a..e], s);
+}
+
+// The header's length by the magic number.
+pub fn header_size(magic: u32) -> usize
+    ensures { λ r. ⌜ r ≡ headerSize magic ⌝ }
+{
+    if magic == MAGIC_THREE { 48 } else { 32 }
+}
+
+// Where the slots start.
+pub fn slot_start(layout: &[u8]) -> usize
+    requires { ⌜ 4 ≤ length (now layout) ⌝ }
+    ensures { λ r. ⌜ r ≡ slotStart (now (layout .entry)) ⌝ }
+{
+    header_size(wire::le32(layout, 0))
+}
+
+// The stripe count of a header.
+pub fn stripe_count(layout: &[u8]) -> u16
+    requires { ⌜ 30 ≤ length (now layout) ⌝ }
+    ensures { λ r. ⌜ r ≡ stripeCount (now (layout .entry)) ⌝ }
+{
+    wire::le16(layout, 28)
+}
+
+// The header that a layout begins with.
+pub fn read_header(layout: &[u8]) -> Header
+    requires { ⌜ 32 ≤ length (now layout) ⌝ }
+    ensures { λ r. ⌜ r ≡ decodeHeader (now (layout .entry)) ⌝ }
+{
+    Header {
+        magic: wire::le32(layout, 0),
+        pattern: wire::le32(layout, 4),
+        oid: wire::le64(layout, 8),
+        seq: wire::le64(layout, 16),
+        stripe: wire::le32(layout, 24),
+        generation: wire::le16(layout, 30),
+    }
+}
+
+// Whether the magic number is that of version 1 or 3.
+fn known_version(h: Header) -> bool
+    ensures { λ r. ⌜ r ≡ knownVersion h ⌝ }
+{
+    if h.magic == MAGIC_ONE {
+        return true;
+    }
+    h.magic == MAGIC_THREE
+}
+
+// Whether the pattern is known.
+fn known_pattern(h: Header) -> bool
+    ensures { λ r. ⌜ r ≡ knownPattern h ⌝ }
+{
+    if h.pattern == PLAIN_PATTERN {
+        return true;
+    }
+    h.pattern == HOLE_PATTERN
+}
+
+// Whether magic and pattern are known.
+fn known_header(h: Header) -> bool
+    ensures { λ r. ⌜ r ≡ (knownVersion h && knownPattern h) ⌝ }
+{
+    if !known_version(h) {
+        return false;
+    }
+    known_pattern(h)
+}
+
+// Whether the pattern allows holes.
+pub fn with_holes(h: Header) -> bool
+    ensures { λ r. ⌜ r ≡ withHoles h ⌝ }
+{
+    h.pattern == HOLE_PATTERN
+}
+
+// Whether the length is header plus 24 times count.
+fn exact_length(layout: &[u8]) -> bool
+    ensures { λ r. ⌜ r ≡ exactLength (now (layout .entry)) ⌝ }
+{
+    if layout.len() < 32 {
+        return false;
+    }
+    let h = slot_start(layout);
+    let n = stripe_count(layout) as usize;
+    layout.len() == h + 24 * n
+}
+
+// Whether a layout meets every rule.
+pub fn accepted(layout: &[u8]) -> bool
+    ensures { λ r. ⌜ r ≡ acceptedLayout (now (layout .entry)) ⌝ }
+{
+    if !exact_length(layout) {
+        return false;
+    }
+    let h = read_header(layout);
+    if !known_header(h) {
+        return false;
+    }
+    let n = stripe_count(layout) as usize;
+    if MAX_SLOTS < n {
+        return false;
+    }
+    let start = slot_start(layout);
+    allowed_slots(&layout[start..], n, with_holes(h))
+}
+
+// Reads a layout: its header and stripe count, or 13.
+pub fn read(layout: &[u8]) -> Reading
+    ensures { λ r. ⌜ r ≡ readLayout (now (layout .entry)) ⌝ }
+{
+    if !accepted(layout) {
+        return Reading::Refused;
+    }
+    Reading::Accepted(read_header(layout), stripe_count(layout))
+}
+
+// Reads slot j of a layout: 13 for the layout, then 16 for the index.
+pub fn read_slot(layout: &[u8], j: usize) -> SlotRead
+    ensures { λ r. ⌜ r ≡ readSlot (now (layout .entry)) j ⌝ }
+{
+    if !accepted(layout) {
+        return SlotRead::BadLayout;
+    }
+    let n = stripe_count(layout) as usize;
+    if n <= j {
+        return SlotRead::NoSlot;
+    }
+    let start = slot_start(layout);
+    SlotRead::SlotIs(slot_at(&layout[start..], j))
+}
+
+// Whether a slot may be written into a layout.
+fn may_rewrite(layout: &[u8], s: Slot) -> bool
+    ensures { λ r. ⌜ r ≡ (acceptedLayout (now (layout .entry)) && allowedSlot (withHoles (decodeHeader (now (layout .entry)))) s) ⌝ }
+{
+    if !accepted(layout) {
+        return false;
+    }
+    allowed_slot(with_holes(read_header(layout)), s)
+}
+
+// Rewrites slot j of a layout in place: 13, then 16, and with both nothing is written.
+pub fn rewrite(layout: &mut [u8], j: usize, s: Slot) -> u32
+    ensures answer { λ r. ⌜ r ≡ rewriteAnswer (now (layout .entry)) j s ⌝ }
+    ensures bytes { λ _. ⌜ now (layout .exit) ≡ rewriteBytes (now (layout .entry)) j s ⌝ }
+{
+    if !may_rewrite(layout, s) {
+        return 13;
+    }
+    let n = stripe_count(layout) as usize;
+    if n <= j {
+        return 16;
+    }
+    let start = slot_start(layout);
+    set_slot(layout, start, j, s);
+    0
+}
+
+// Whether five numbers are all zero.
+fn is_zero_given(k: u64, s: u64, o: u64, g: u64, i: u64) -> bool
+    ensures { λ r. ⌜ r ≡ zeroGiven k s o g i ⌝ }
+{
+    if k != 0 {
+        return false;
+    }
+    if s != 0 {
+        return false;
+    }
+    if o != 0 {
+        return false;
+    }
+    if g != 0 {
+        return false;
+    }
+    i == 0
+}
+
+// The slot of five numbers, if they are one.
+pub fn given_from(k: u64, s: u64, o: u64, g: u64, i: u64) -> Given
+    ensures { λ r. ⌜ r ≡ givenFrom k s o g i ⌝ }
+{
+    if is_zero_given(k, s, o, g, i) {
+        return Given::GivenSlot(Slot::Hole);
+    }
+    if k != 1 {
+        return Given::NotSlot;
+    }
+    if 0xffff_ffff < o {
+        return Given::NotSlot;
+    }
+    if 0xffff_ffff < g {
+        return Given::NotSlot;
+    }
+    if 0xffff_ffff < i {
+        return Given::NotSlot;
+    }
+    let f = Fid {
+        seq: s,
+        oid: o as u32,
+        ver: 0,
+    };
+    Given::GivenSlot(Slot::Names(OstFid(f), g as u32, i as u32))
+}
+
+// The j-th slot of a list of numbers, five to a slot.
+fn given_at(numbers: &[u64], j: usize) -> Given
+    requires { ⌜ 5 * j + 5 ≤ length (now numbers) ⌝ }
+    ensures { λ r. ⌜ r ≡ givenAt (now (numbers .entry)) j ⌝ }
+{
+    let a = 5 * j;
+    given_from(
+        numbers[a],
+        numbers[a + 1],
+        numbers[a + 2],
+        numbers[a + 3],
+        numbers[a + 4],
+    )
+}
+
+// Whether a slot is given, and allowed.
+fn allowed_given(holes: bool, g: Given) -> bool
+    ensures { λ r. ⌜ r ≡ (isSlot g && allowedSlot holes (slotGiven g)) ⌝ }
+{
+    match g {
+        Given::NotSlot => false,
+        Given::GivenSlot(s) => allowed_slot(holes, s),
+    }
+}
+
+// Whether each of the slots handed in is one, and allowed.
+fn allowed_numbers(numbers: &[u64], count: usize, holes: bool) -> bool
+    requires { ⌜ length (now numbers) ≡ 5 * count ⌝ }
+    ensures { λ r. ⌜ r ≡ (allGiven (now (numbers .entry)) count 0 && allowedSlots holes (givenSlots (now (numbers .entry)) count 0)) ⌝ }
+{
+    for j in 0..count {
+        let g = given_at(numbers, j);
+        if !allowed_given(holes, g) {
+            return false;
+        }
+    }
+    true
+}
+
+// Whether the writer takes these fields, this pool name and these slots.
+pub fn may_write(h: Header, count: usize, pool: &[u8], numbers: &[u64]) -> bool
+    ensures { λ r. ⌜ r ≡ writable h count (now (pool .entry)) (now (numbers .entry)) ⌝ }
+{
+    if MAX_SLOTS < count {
+        return false;
+    }
+    if numbers.len() != 5 * count {
+        return false;
+    }
+    if pool.len() != header_size(h.magic) - 32 {
+        return false;
+    }
+    if !known_header(h) {
+        return false;
+    }
+    allowed_numbers(numbers, count, with_holes(h))
+}
+
+// Writes a header with a stripe count over the first 32 bytes.
+pub fn write_header(dest: &mut [u8], h: Header, count: u16)
+    requires { ⌜ 32 ≤ length (now dest) ⌝ }
+    ensures { λ _. ⌜ now (dest .exit) ≡ sets (now (dest .entry)) 0 (encodeHeader h count) ⌝ }
+{
+    wire::put_le32(dest, 0, h.magic);
+    wire::put_le32(dest, 4, h.pattern);
+    wire::put_le64(dest, 8, h.oid);
+    wire::put_le64(dest, 16, h.seq);
+    wire::put_le32(dest, 24, h.stripe);
+    wire::put_le16(dest, 28, count);
+    wire::put_le16(dest, 30, h.generation);
+}
+
+// Copies the pool name to its place after the 32 bytes.
+fn write_pool(dest: &mut [u8], pool: &[u8])
+    requires { ⌜ 32 + length (now pool) ≤ length (now dest) ⌝ }
+    ensures { λ _. ⌜ now (dest .exit) ≡ sets (now (dest .entry)) 32 (now (pool .entry)) ⌝ }
+{
+    for i in 0..pool.len() {
+        let b = pool[i];
+        dest[32 + i] = b;
+    }
+}
+
+// Writes the j-th of the slots handed in over the 24 bytes that it is lent.
+fn put_given(part: &mut [u8], numbers: &[u64], j: usize)
+    requires { ⌜ (length (now part) ≡ 24) × (5 * j + 5 ≤ length (now numbers)) ⌝ }
+    ensures { λ _. ⌜ now (part .exit) ≡ encodeSlot (slotGiven (givenAt (now (numbers .entry)) j)) ⌝ }
+{
+    let g = given_at(numbers, j);
+    match g {
+        Given::NotSlot => put_slot(part, Slot::Hole),
+        Given::GivenSlot(s) => put_slot(part, s),
+    }
+}
+
+// Writes the slots handed in, from a place on.
+fn write_slots(dest: &mut [u8], start: usize, numbers: &[u64], count: usize)
+    requires { ⌜ (start + 24 * count ≤ length (now dest)) × (length (now numbers) ≡ 5 * count) ⌝ }
+    ensures { λ _. ⌜ now (dest .exit) ≡ sets (now (dest .entry)) start (encodeSlots (givenSlots (now (numbers .entry)) count 0)) ⌝ }
+{
+    for j in 0..count {
+        let a = start + 24 * j;
+        let e = a + 24;
+        put_given(&mut dest[a..e], numbers, j);
+    }
+}
+
+// Writes a layout at the start of the destination: 13 for what it is handed, then 17 for the room.
+pub fn write(h: Header, count: usize, pool: &[u8], numbers: &[u64], dest: &mut [u8]) -> Written
+    ensures answer { λ r. ⌜ r ≡ writeLayout h count (now (pool .entry)) (now (numbers .entry)) (now (dest .entry)) ⌝ }
+    ensures bytes { λ _. ⌜ now (dest .exit) ≡ writeBytes h count (now (pool .entry)) (now (numbers .entry)) (now (dest .entry)) ⌝ }
+{
+    if !may_write(h, count, pool, numbers) {
+        return Written::BadFields;
+    }
+    let start = header_size(h.magic);
+    let size = start + 24 * count;
+    if dest.len() < size {
+        return Written::TooShort;
+    }
+    write_header(dest, h, count as u16);
+    write_pool(dest, pool);
+    write_slots(dest, start, numbers, count);
+    Written::Bytes(size)
 }

@@ -1,3 +1,4 @@
+pub mod Both
 pub mod Splice
 pub mod NumberLaws
 pub mod RowLaws

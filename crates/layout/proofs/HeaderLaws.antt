@@ -1,0 +1,176 @@
+-- Laws of headers: their size, their fields read and stored, and the round trip. Assumes nothing.
+use mathlib.Core.Path.{_≡_, refl, sym, ap, _∙_}
+use mathlib.Core.List.{List, [], _∷_, _++_, append-assoc}
+use mathlib.Core.Bool.{Bool, true, false, cond, _&&_, _||_}
+use Prim.Native.Nat.{ℕ, _+_, _*_, _≤_, _<_, _^_, _%_}
+use borrow.Author.Tests.{eq-eqb, ne-eqb}
+use native.Mathlib.Omega.{arith}
+use native.Mathlib.Nat.{mod-eq-of-lt}
+use lib.Dec.{eqb}
+use lib.ListN.{length, take, drop, length-append, length-drop}
+use lib.Seq.{sets, take-add, drop-at}
+use Rattle.wire.specs.Numbers.{le, bytes}
+use Rattle.wire.proofs.Splice.{sets-at}
+use Rattle.wire.proofs.NumberLaws.{Bytes, bytes-drop, bytes-le, length-bytes, le-bytes}
+use Rattle.layout.specs.declared.Header.{Header}
+use Rattle.layout.specs.Layout.{headerSize, magicOne, magicThree, decodeHeader, encodeHeader, stripeCount, knownVersion, knownPattern, plainPattern, holePattern}
+
+pub size-three : (m : ℕ) → m ≡ magicThree → 48 ≡ headerSize m
+unfolding headerSize
+size-three m h = rw (eq-eqb _ _ h)
+
+pub size-one : (m : ℕ) → (m ≡ magicThree → ⊥) → 32 ≡ headerSize m
+unfolding headerSize
+size-one m h = rw (ne-eqb _ _ h)
+
+pub size-least : (m : ℕ) → 32 ≤ headerSize m
+unfolding headerSize
+size-least m = go (eqb m magicThree)
+  where
+    go : (b : Bool) → 32 ≤ cond b 48 32
+    go true = omega arith
+    go false = omega arith
+
+pub size-most : (m : ℕ) → headerSize m ≤ 48
+unfolding headerSize
+size-most m = go (eqb m magicThree)
+  where
+    go : (b : Bool) → cond b 48 32 ≤ 48
+    go true = omega arith
+    go false = omega arith
+
+-- a header's size that was computed lies between 32 and 48
+pub record SizeFacts (m b : ℕ) : Type 0 where
+  pub least : 32 ≤ b
+  pub most : b ≤ 48
+  pub is : b ≡ headerSize m
+
+pub size-known : (m b : ℕ) → b ≡ headerSize m → SizeFacts m b
+size-known m b e = record { least = rw e (size-least m); most = rw e (size-most m); is = e }
+
+module _ (h : Header) where
+  pub version-one : h .magic ≡ magicOne → true ≡ knownVersion h
+  unfolding knownVersion
+  version-one e = rw (eq-eqb _ _ e)
+
+  pub version-three : (h .magic ≡ magicOne → ⊥) → eqb (h .magic) magicThree ≡ knownVersion h
+  unfolding knownVersion
+  version-three e = rw (ne-eqb _ _ e)
+
+  pub pattern-plain : h .pattern ≡ plainPattern → true ≡ knownPattern h
+  unfolding knownPattern
+  pattern-plain e = rw (eq-eqb _ _ e)
+
+  pub pattern-holes : (h .pattern ≡ plainPattern → ⊥) → eqb (h .pattern) holePattern ≡ knownPattern h
+  unfolding knownPattern
+  pattern-holes e = rw (ne-eqb _ _ e)
+
+  pub known-none : knownVersion h ≡ false → false ≡ (knownVersion h && knownPattern h)
+  known-none e = rw e
+
+  pub known-then : (b : Bool) → knownVersion h ≡ true → b ≡ knownPattern h → b ≡ (knownVersion h && knownPattern h)
+  known-then b e p = rw (e, p)
+
+-- the fields, read one by one
+pub header-at : (l : List ℕ) (m p o s t g : ℕ) → m ≡ le 4 l → p ≡ le 4 (drop 4 l) → o ≡ le 8 (drop 8 l) → s ≡ le 8 (drop 16 l) →
+    t ≡ le 4 (drop 24 l) → g ≡ le 2 (drop 30 l) →
+    _≡_ {A = Header} (record { magic = m; pattern = p; oid = o; seq = s; stripe = t; generation = g }) (decodeHeader l)
+unfolding decodeHeader
+header-at l m p o s t g e1 e2 e3 e4 e5 e6 =
+    λ i. record { magic = e1 i; pattern = e2 i; oid = e3 i; seq = e4 i; stripe = e5 i; generation = e6 i }
+
+pub length-header : (h : Header) (n : ℕ) → length (encodeHeader h n) ≡ 32
+unfolding encodeHeader
+length-header h n = simp (length-append, length-bytes)
+
+-- the fields, stored one by one
+pub header-stores : (l : List ℕ) (h : Header) (n : ℕ) →
+    sets (sets (sets (sets (sets (sets (sets l 0 (bytes 4 (h .magic))) 4 (bytes 4 (h .pattern))) 8 (bytes 8 (h .oid))) 16 (bytes 8 (h .seq)))
+    24 (bytes 4 (h .stripe))) 28 (bytes 2 n)) 30 (bytes 2 (h .generation)) ≡ sets l 0 (encodeHeader h n)
+unfolding encodeHeader
+header-stores l h n =
+    let m : List ℕ = bytes 4 (h .magic) in
+    let p : List ℕ = m ++ bytes 4 (h .pattern) in
+    let o : List ℕ = p ++ bytes 8 (h .oid) in
+    let s : List ℕ = o ++ bytes 8 (h .seq) in
+    let t : List ℕ = s ++ bytes 4 (h .stripe) in
+    let c : List ℕ = t ++ bytes 2 n in
+    rw (
+      sets-at m (bytes 4 (h .pattern)) l 0 4 (length-bytes 4 (h .magic)),
+      sets-at p (bytes 8 (h .oid)) l 0 8 (simp (length-append, length-bytes)),
+      sets-at o (bytes 8 (h .seq)) l 0 16 (simp (length-append, length-bytes)),
+      sets-at s (bytes 4 (h .stripe)) l 0 24 (simp (length-append, length-bytes)),
+      sets-at t (bytes 2 n) l 0 28 (simp (length-append, length-bytes)),
+      sets-at c (bytes 2 (h .generation)) l 0 30 (simp (length-append, length-bytes)),
+    )
+
+-- the fields fit their widths
+pub record FitHeader (h : Header) : Type 0 where
+  pub magic : h .magic < 2 ^ 32
+  pub pattern : h .pattern < 2 ^ 32
+  pub oid : h .oid < 2 ^ 64
+  pub seq : h .seq < 2 ^ 64
+  pub stripe : h .stripe < 2 ^ 32
+  pub generation : h .generation < 2 ^ 16
+
+-- a number after others, read back
+pub field : (n v k : ℕ) (before after l : List ℕ) → l ≡ before ++ (bytes n v ++ after) → length before ≡ k → v < 256 ^ n → le n (drop k l) ≡ v
+field n v k before after l e h f = rw (e, drop-at before (bytes n v ++ after) k h, le-bytes n v after, mod-eq-of-lt f)
+
+module _ (h : Header) (n : ℕ) (r : List ℕ) where
+  m : List ℕ
+  m = bytes 4 (h .magic)
+
+  p : List ℕ
+  p = bytes 4 (h .pattern)
+
+  o : List ℕ
+  o = bytes 8 (h .oid)
+
+  s : List ℕ
+  s = bytes 8 (h .seq)
+
+  t : List ℕ
+  t = bytes 4 (h .stripe)
+
+  c : List ℕ
+  c = bytes 2 n
+
+  g : List ℕ
+  g = bytes 2 (h .generation)
+
+  pub count-read-back : n < 2 ^ 16 → stripeCount (encodeHeader h n ++ r) ≡ n
+  unfolding stripeCount encodeHeader m p o s t g
+  count-read-back f = field 2 n 28 (m ++ p ++ o ++ s ++ t) (g ++ r) (encodeHeader h n ++ r) (simp append-assoc) (simp (length-append, length-bytes)) f
+
+  pub header-read-back : FitHeader h → decodeHeader (encodeHeader h n ++ r) ≡ h
+  unfolding decodeHeader encodeHeader m p o s t c g
+  header-read-back f =
+      let l : List ℕ = encodeHeader h n ++ r in
+      let em : le 4 (drop 0 l) ≡ h .magic = field 4 (h .magic) 0 [] (p ++ (o ++ (s ++ (t ++ (c ++ (g ++ r)))))) l (simp append-assoc) refl (f .magic) in
+      let ep : le 4 (drop 4 l) ≡ h .pattern = field 4 (h .pattern) 4 m (o ++ (s ++ (t ++ (c ++ (g ++ r))))) l (simp append-assoc) (simp (length-append, length-bytes)) (f .pattern) in
+      let eo : le 8 (drop 8 l) ≡ h .oid = field 8 (h .oid) 8 (m ++ p) (s ++ (t ++ (c ++ (g ++ r)))) l (simp append-assoc) (simp (length-append, length-bytes)) (f .oid) in
+      let es : le 8 (drop 16 l) ≡ h .seq = field 8 (h .seq) 16 (m ++ p ++ o) (t ++ (c ++ (g ++ r))) l (simp append-assoc) (simp (length-append, length-bytes)) (f .seq) in
+      let et : le 4 (drop 24 l) ≡ h .stripe = field 4 (h .stripe) 24 (m ++ p ++ o ++ s) (c ++ (g ++ r)) l (simp append-assoc) (simp (length-append, length-bytes)) (f .stripe) in
+      let eg : le 2 (drop 30 l) ≡ h .generation = field 2 (h .generation) 30 (m ++ p ++ o ++ s ++ t ++ c) r l (simp append-assoc) (simp (length-append, length-bytes)) (f .generation) in
+      λ i. record { magic = em i; pattern = ep i; oid = eo i; seq = es i; stripe = et i; generation = eg i }
+
+-- the header's 32 bytes, read and written
+pub header-written-back : (l : List ℕ) → Bytes l → 32 ≤ length l → encodeHeader (decodeHeader l) (stripeCount l) ≡ take 32 l
+unfolding encodeHeader decodeHeader stripeCount
+header-written-back l h k =
+    rw (
+      bytes-le 4 l h (omega arith),
+      bytes-le 4 (drop 4 l) (bytes-drop 4 l h) (rw length-drop (omega arith)),
+      bytes-le 8 (drop 8 l) (bytes-drop 8 l h) (rw length-drop (omega arith)),
+      bytes-le 8 (drop 16 l) (bytes-drop 16 l h) (rw length-drop (omega arith)),
+      bytes-le 4 (drop 24 l) (bytes-drop 24 l h) (rw length-drop (omega arith)),
+      bytes-le 2 (drop 28 l) (bytes-drop 28 l h) (rw length-drop (omega arith)),
+      bytes-le 2 (drop 30 l) (bytes-drop 30 l h) (rw length-drop (omega arith)),
+      ← take-add 4 4 l,
+      ← take-add 8 8 l,
+      ← take-add 16 8 l,
+      ← take-add 24 4 l,
+      ← take-add 28 2 l,
+      ← take-add 30 2 l,
+    )

@@ -1,0 +1,5 @@
+pub mod SlotLaws
+pub mod HeaderLaws
+pub mod LayoutLaws
+pub mod GivenLaws
+pub mod WriteLaws

@@ -1,0 +1,62 @@
+use native.Mathlib.Omega.{arith}
+use borrow.Author.Tests.{not-true, not-false}
+use borrow.Author.Needs.{needs}
+use mathlib.Core.Path.{_≡_}
+use Prim.Native.Nat.{ℕ, _+_, _-_, _*_, _≤_, _<_}
+use Rattle.layout.specs.Slot.{allowedSlots, decodeSlots}
+use Rattle.layout.proofs.SlotLaws.{allowedFrom, allowed-start, allowed-stop, allowed-next, allowed-end}
+use Rattle.layout.proofs.allowed_slots.Statement.{statement}
+use Rattle.layout.proofs.allowed_slots.Tie as tie
+use Rattle.layout.proofs.allowed_slots.Reads as reads
+use Rattle.layout.proofs.allowed_slots.Lts as lts
+use Rattle.layout.proofs.allowed_slot.Reads as allowed-slot-reads
+use Rattle.layout.proofs.slot_at.Reads as slot-at-reads
+
+abbrev Inv-loop : tie.InvT-loop
+Inv-loop area count holes j₀ j = (j ≤ count) × (allowedSlots holes (decodeSlots count area) ≡ allowedFrom holes area count j)
+
+abbrev μ-loop : tie.MeasureT-loop
+μ-loop area count holes j₀ j = count - j
+
+loop-holds : tie.Need-loop-holds Inv-loop μ-loop
+loop-holds c = (omega arith, allowed-start _ _ _)
+
+slot-at-requires : tie.Need-slot-at-requires Inv-loop μ-loop
+slot-at-requires c κs = omega arith
+
+allowed-slot-requires : tie.Need-allowed-slot-requires Inv-loop μ-loop
+allowed-slot-requires c κs = search needs
+
+returns : tie.Need-returns Inv-loop μ-loop
+returns c =
+    let i = c .before .before .before .before .loop .inv in
+    allowed-stop _ _ _ _ _ _ (i .1) (omega arith) (c .before .before .slot-at .ensures) (c .before .allowed-slot .ensures) (not-true _ (c .if1 .taken))
+
+add-j : tie.Need-add-j Inv-loop μ-loop
+add-j c = omega arith
+
+loop-less : tie.Need-loop-less Inv-loop μ-loop
+loop-less c = omega arith
+
+loop-again : tie.Need-loop-again Inv-loop μ-loop
+loop-again c =
+    let i = c .before .before .before .before .loop .inv in
+    (omega arith, allowed-next _ _ _ _ _ _ (i .1) (omega arith) (c .before .before .slot-at .ensures) (c .before .allowed-slot .ensures) (not-false _ (c .if1 .left)))
+
+returns-2 : tie.Need-returns-2 Inv-loop μ-loop
+returns-2 c = allowed-end _ _ _ _ (c .before .loop .inv .1) (omega arith)
+
+pub allowed-slots-spec : {M : Type 1} → statement M
+allowed-slots-spec =
+    tie.close
+    (tie.spec
+    Inv-loop
+    μ-loop
+    loop-holds
+    slot-at-requires
+    allowed-slot-requires
+    returns
+    add-j
+    loop-less
+    loop-again
+    returns-2)
