@@ -1,6 +1,51 @@
--- Every write of a step fits its row: so the tables after it can be written as bytes again.
+-- Tables that can be written as bytes and read back: field widths, row sizes, and the rules of the check, on records.
+-- Every write of a step fits its row.
 pub mod Steps
 unfoldable pub use Steps.*
+
+-- ## What fits
+
+pub record FitFid (f : Fid) : Type 0 where
+  pub good : goodFid f ≡ true
+  pub fits : Fits f
+
+pub record FitOwner (w : Owner) : Type 0 where
+  pub uid : w .uid < 2 ^ 32
+  pub gid : w .gid < 2 ^ 32
+
+-- "any index is allowed" that fits its field
+abbrev pub FitClaim : Claim → Type 0
+FitClaim Unclaimed = Unit {0}
+FitClaim (Claims f i) = FitFid (f .0) × (i < 2 ^ 32)
+
+-- the row is full: 27 bytes of fields, the layout and the bytes past it
+pub record FitParent (p : Parent) : Type 0 where
+  pub self : FitFid (p .self .0)
+  pub owner : FitOwner (p .owner)
+  pub layout : Writable (p .layout)
+  pub room : 27 + layoutSize (p .layout .header .magic) (length (p .layout .slots)) + length (p .tail) ≡ parentSize
+
+abbrev pub FitParentRow : ParentRow → Type 0
+FitParentRow (noParent b) = 1 + length b ≡ parentSize
+FitParentRow (parent p) = FitParent p
+
+pub record FitObject (x : Object) : Type 0 where
+  pub fid : FitFid (x .fid .0)
+  pub ost : x .ost ≤ maxIndex
+  pub owner : FitOwner (x .owner)
+  pub claim : FitClaim (x .claim)
+  pub fresh : x .fresh ≡ true → x .claim ≡ Unclaimed → ⊥
+
+abbrev pub FitObjectRow : ObjectRow → Type 0
+FitObjectRow (noObject b) = 1 + length b ≡ objectSize
+FitObjectRow (object x) = FitObject x
+
+pub record FitRows (T : Tables) : Type 0 where
+  pub parents : (r : ℕ) → r < length (T .parents) → FitParentRow (rowAt T r)
+  pub objects : (o : ℕ) → o < length (T .objects) → FitObjectRow (objectAt T o)
+
+abbrev pub FitReserve : List OstFid → Type 0
+FitReserve reserve = (f : OstFid) → List·Memᴰ f reserve → FitFid (f .0)
 
 -- ## Writes
 
@@ -43,14 +88,6 @@ fit-append (w ∷ a) b f g = (f .0, fit-append a b (f .1) g)
 
 -- ## Slots
 
-allowed-set : (b : Bool) (l : List Slot) (j : ℕ) (s : Slot) → allowedSlots b l ≡ true → allowedSlot b s ≡ true →
-    allowedSlots b (set l j s) ≡ true
-unfolding allowedSlots
-allowed-set b [] j s f h = refl
-allowed-set b (v ∷ l) zero s f h = and-both h (and-r (allowedSlot b v) _ f)
-allowed-set b (v ∷ l) (suc j) s f h =
-    and-both (and-l (allowedSlot b v) (allowedSlots b l) f) (allowed-set b l j s (and-r (allowedSlot b v) _ f) h)
-
 allowed-holes : (l : List Slot) (n : ℕ) → allowedSlots true l ≡ true → allowedSlots true (l ++ replicate n Hole) ≡ true
 unfolding allowedSlots allowedSlot
 allowed-holes [] zero f = refl
@@ -58,56 +95,73 @@ allowed-holes [] (suc n) f = allowed-holes [] n f
 allowed-holes (v ∷ l) n f =
     and-both (and-l (allowedSlot true v) (allowedSlots true l) f) (allowed-holes l n (and-r (allowedSlot true v) _ f))
 
-allowed-index : (b : Bool) (l : List Slot) (j : ℕ) (f : OstFid) (n i : ℕ) → allowedSlots b l ≡ true → getD l j Hole ≡ Names f n i →
-    i ≤ maxIndex
-unfolding allowedSlots allowedSlot
-allowed-index b [] j f n i a e = let z : _≡_ {A = ℕ} 0 1 = cc in absurd (omega arith)
-allowed-index b (v ∷ l) zero f n i a e =
-    leb-true i maxIndex (and-r (goodFid (f .0)) _ (rw e at (and-l (allowedSlot b v) (allowedSlots b l) a)))
-allowed-index b (v ∷ l) (suc j) f n i a e = allowed-index b l j f n i (and-r (allowedSlot b v) _ a) e
+fit-set : (l : List Slot) (j : ℕ) (s : Slot) → FitSlots l → FitSlot s → FitSlots (set l j s)
+unfolding FitSlots
+fit-set [] j s f h = tt
+fit-set (v ∷ l) zero s f h = (h, f .1)
+fit-set (v ∷ l) (suc j) s f h = (f .0, fit-set l j s (f .1) h)
 
--- the rules of a layout, one by one
-record Rules (h : Header) (ss : List Slot) : Type 0 where
-  known : (knownVersion h && knownPattern h) ≡ true
-  few : length ss ≤ maxSlots
-  allowed : allowedSlots (withHoles h) ss ≡ true
+fit-holes : (l : List Slot) (n : ℕ) → FitSlots l → FitSlots (l ++ replicate n Hole)
+unfolding FitSlots FitSlot
+fit-holes [] zero f = tt
+fit-holes [] (suc n) f = (tt, fit-holes [] n f)
+fit-holes (v ∷ l) n f = (f .0, fit-holes l n (f .1))
 
-rules-of : (h : Header) (ss : List Slot) → layoutRules h ss ≡ true → Rules h ss
+-- slot j of a layout
+fit-named : (holes : Bool) (l : List Slot) (j : ℕ) (f : OstFid) (n i : ℕ) → allowedSlots holes l ≡ true → FitSlots l →
+    getD l j Hole ≡ Names f n i →
+    FitFid (f .0) × (i ≤ maxIndex)
+unfolding allowedSlots allowedSlot FitSlots FitSlot
+fit-named holes [] j f n i a h e = let z : _≡_ {A = ℕ} 0 1 = cc in absurd (omega arith)
+fit-named holes (v ∷ l) zero f n i a h e = go v e (and-l (allowedSlot holes v) (allowedSlots holes l) a) (h .0)
+  where
+    go : (v : Slot) → v ≡ Names f n i → allowedSlot holes v ≡ true → FitSlot v → FitFid (f .0) × (i ≤ maxIndex)
+    go Hole e a h = let z : _≡_ {A = ℕ} 0 1 = cc in absurd (omega arith)
+    go (Names g m k) e a h =
+        let q : g ≡ f = cc in
+        let w : k ≡ i = cc in
+        rw (← q, ← w)
+        (record { good = and-l (goodFid (g .0)) (leb k maxIndex) a; fits = h .0 }, leb-true k maxIndex (and-r (goodFid (g .0)) _ a))
+fit-named holes (v ∷ l) (suc j) f n i a h e = fit-named holes l j f n i (and-r (allowedSlot holes v) _ a) (h .1) e
+
+-- header and pattern are known, and the slots are few and allowed
+rules-from : (h : Header) (l m : List Slot) → layoutRules h l ≡ true → length m ≤ maxSlots → allowedSlots (withHoles h) m ≡ true →
+    layoutRules h m ≡ true
 unfolding layoutRules fewSlots
-rules-of h ss e =
-    let t = and-l (knownVersion h && knownPattern h && fewSlots (length ss)) (allowedSlots (withHoles h) ss) e in
-    record {
-      known = and-l (knownVersion h && knownPattern h) (fewSlots (length ss)) t;
-      few = leb-true (length ss) maxSlots (and-r (knownVersion h && knownPattern h) _ t);
-      allowed = and-r (knownVersion h && knownPattern h && fewSlots (length ss)) _ e;
-    }
-
-to-rules : (h : Header) (ss : List Slot) → Rules h ss → layoutRules h ss ≡ true
-unfolding layoutRules fewSlots
-to-rules h ss r = and-both (and-both (r .known) (le-leb (length ss) maxSlots (r .few))) (r .allowed)
+rules-from h l m r few allowed =
+    let t = and-l (knownVersion h && knownPattern h && leb (length l) maxSlots) (allowedSlots (withHoles h) l) r in
+    and-both (and-both (and-l (knownVersion h && knownPattern h) (leb (length l) maxSlots) t) (le-leb (length m) maxSlots few)) allowed
 
 -- ## Rows
 
 -- a used row whose slots and tail change
-fit-slots : (p : Parent) (ss : List Slot) (t : List ℕ) → FitParent p → Rules (p .layout .header) ss → ((j : ℕ) → FitSlot (getD ss j Hole))
-    → 24 * length ss + length t ≡ 24 * length (p .layout .slots) + length (p .tail) → FitParentRow (withSlots (parent p) ss t)
+fit-slots : (p : Parent) (ss : List Slot) (t : List ℕ) → FitParent p → FitSlots ss → length ss ≤ maxSlots →
+    allowedSlots (withHoles (p .layout .header)) ss ≡ true →
+    24 * length ss + length t ≡ 24 * length (p .layout .slots) + length (p .tail) → FitParentRow (withSlots (parent p) ss t)
 unfolding withSlots layoutSize
-fit-slots p ss t f r s e =
-    record { self = f .self; owner = f .owner; header = f .header; pool = f .pool; rules = to-rules (p .layout .header) ss r; slots = s; room = let z = f .room in omega arith }
+fit-slots p ss t f s few allowed e =
+    let l = f .layout in
+    record {
+      self = f .self;
+      owner = f .owner;
+      room = let z = f .room in omega arith;
+      layout =
+          record { header = l .header; fits = s; pool = l .pool; rules = rules-from (p .layout .header) (p .layout .slots) ss (l .rules) few allowed };
+    }
 
 -- one slot of a row, which names an object
-fit-slot : (w : ParentRow) (j : ℕ) (f : OstFid) (n i : ℕ) → FitParentRow w → FitFid (f .0) → n < fourBytes → i ≤ maxIndex →
+fit-slot : (w : ParentRow) (j : ℕ) (f : OstFid) (n i : ℕ) → FitParentRow w → FitFid (f .0) → n < 2 ^ 32 → i ≤ maxIndex →
     FitParentRow (withSlot w j (Names f n i))
-unfolding withSlot slotsOf tailOf withSlots allowedSlot
+unfolding withSlot slotsOf tailOf withSlots allowedSlot FitSlot
 fit-slot (noParent b) j f n i h g m k = h
 fit-slot (parent p) j f n i h g m k =
     let s : Slot = Names f n i in
     let l = p .layout .slots in
-    let r = rules-of (p .layout .header) l (h .rules) in
     let e : length (set l j s) ≡ length l = length-set l j s in
-    fit-slots p (set l j s) (p .tail) h
-    (record { known = r .known; few = rw e (r .few); allowed = allowed-set (withHoles (p .layout .header)) l j s (r .allowed) (and-both (g .good) (le-leb i maxIndex k)) })
-    (λ k. set-pointwise l j s Hole FitSlot k (λ e. h .slots j) (λ e. (g, m)) (λ m. h .slots k)) (rw e)
+    fit-slots p (set l j s) (p .tail) h (fit-set l j s (h .layout .fits) (g .fits, m, omega arith))
+    (rw e (rules-few (p .layout .header) l (h .layout .rules)))
+    (allowed-set (withHoles (p .layout .header)) l j s (rules-slots (p .layout .header) l (h .layout .rules)) (and-both (g .good) (le-leb i maxIndex k)))
+    (rw e)
 
 fit-owner : (w : ParentRow) → FitParentRow w → FitOwner (ownerOf w)
 unfolding ownerOf
@@ -118,36 +172,38 @@ fit-own : (w : ParentRow) → FitParentRow w → FitParentRow (withOwn w)
 unfolding withOwn ownHeader layoutRules knownVersion knownPattern withHoles
 fit-own (noParent b) f = f
 fit-own (parent p) f =
+    let l = f .layout in
+    let h = l .header in
+    let s = f .self .fits in
     record {
       self = f .self;
       owner = f .owner;
-      pool = f .pool;
-      rules = f .rules;
-      slots = f .slots;
       room = f .room;
-      header = record { oid = let z = f .self .oid in omega arith; seq = f .self .seq; stripe = f .header .stripe; generation = f .header .generation };
+      layout = record {
+        fits = l .fits;
+        pool = l .pool;
+        rules = l .rules;
+        header =
+            record { magic = h .magic; pattern = h .pattern; stripe = h .stripe; generation = h .generation; oid = omega arith; seq = s .seq };
+      };
     }
-
-header-most : (magic : ℕ) → headerSize magic ≤ 48
-unfolding headerSize
-header-most magic = go (eqb magic 0x0bd30bd0)
-  where
-    go : (b : Bool) → cond {A = ℕ} b 48 32 ≤ 48
-    go true = omega arith
-    go false = omega arith
 
 fit-made : (f : MdtFid) (i : ℕ) (w : Owner) (b : List ℕ) → FitFid (f .0) → i < maxSlots → FitOwner w → 1 + length b ≡ parentSize →
     FitParentRow (made f i w b)
-unfolding made layoutSize headerSize layoutRules knownVersion knownPattern fewSlots withHoles allowedSlots
+unfolding made layoutSize headerSize layoutRules knownVersion knownPattern fewSlots withHoles allowedSlots FitSlots
 fit-made f i w b g k o e =
+    let s = g .fits in
     record {
       self = g;
       owner = o;
-      pool = refl;
-      header = record { oid = let z = g .oid in omega arith; seq = g .seq; stripe = omega arith; generation = omega arith };
-      rules = and-both (le-leb (length (replicate (suc i) Hole)) maxSlots (rw n (omega arith))) (allowed-holes [] (suc i) refl);
-      slots = λ j. subst FitSlot (sym (holes-getD (suc i) j)) tt;
       room = rw (length-drop, n) (omega arith);
+      layout = record {
+        fits = fit-holes [] (suc i) tt;
+        pool = refl;
+        rules = and-both (le-leb (length (replicate (suc i) Hole)) maxSlots (rw n (omega arith))) (allowed-holes [] (suc i) refl);
+        header =
+            record { magic = omega arith; pattern = omega arith; stripe = omega arith; generation = omega arith; oid = omega arith; seq = s .seq };
+      };
     }
   where
     n : length (replicate (suc i) Hole) ≡ suc i
@@ -156,26 +212,23 @@ fit-made f i w b g k o e =
 -- there is room for all slots that a layout may have
 fit-room : (p : Parent) → FitParent p → 24 * maxSlots ≤ 24 * length (p .layout .slots) + length (p .tail)
 unfolding layoutSize
-fit-room p f = let y = header-most (p .layout .header .magic) in let z = f .room in omega arith
+fit-room p f = let y = size-most (p .layout .header .magic) in let z = f .room in omega arith
 
 fit-grown : (w : ParentRow) (i : ℕ) → FitParentRow w → holesIn w ≡ true → length (slotsOf w) ≤ i → i < maxSlots → FitParentRow (grown w i)
 unfolding grown holesIn slotsOf tailOf withSlots
 fit-grown (noParent b) i f h k l = f
-fit-grown (parent p) i f h k l = fit-slots p (p .layout .slots ++ replicate more Hole) (drop (24 * more) (p .tail)) f
-    (record { known = r .known; few = rw n (omega arith); allowed = subst (λ b. allowedSlots b (p .layout .slots ++ replicate more Hole) ≡ true) (sym h) (allowed-holes (p .layout .slots) more (subst (λ b. allowedSlots b (p .layout .slots) ≡ true) h (r .allowed))) })
-    (λ j. subst FitSlot (sym (pad-getD (p .layout .slots) more j)) (f .slots j)) (rw (n, length-drop) (let z = room in omega arith))
+fit-grown (parent p) i f h k l =
+    fit-slots p (p .layout .slots ++ replicate more Hole) (drop (24 * more) (p .tail)) f
+    (fit-holes (p .layout .slots) more (f .layout .fits)) (rw n (omega arith))
+    (subst (λ b. allowedSlots b (p .layout .slots ++ replicate more Hole) ≡ true) (sym h)
+    (allowed-holes (p .layout .slots) more (subst (λ b. allowedSlots b (p .layout .slots) ≡ true) h (rules-slots (p .layout .header) (p .layout .slots) (f .layout .rules)))))
+    (rw (n, length-drop) (let z = fit-room p f in omega arith))
   where
     more : ℕ
     more = suc i - length (p .layout .slots)
 
-    r : Rules (p .layout .header) (p .layout .slots)
-    r = rules-of (p .layout .header) (p .layout .slots) (f .rules)
-
     n : length (p .layout .slots ++ replicate more Hole) ≡ length (p .layout .slots) + more
     n = length-append (p .layout .slots) (replicate more Hole) ∙ ap (λ k. length (p .layout .slots) + k) (length-replicate more Hole)
-
-    room : 24 * maxSlots ≤ 24 * length (p .layout .slots) + length (p .tail)
-    room = fit-room p f
 
 -- ## Steps
 
@@ -302,13 +355,11 @@ module _ (policy : ℕ) (T : Tables) (fit : FitRows T) where
     unfolding slotAt slotsOf
     at-row = rw row-is at at
 
-    slot-fits : FitFid (f .0) × (n < fourBytes)
-    slot-fits = subst FitSlot at-row (row-fits .slots j)
-
-    index-fits : ost ≤ maxIndex
-    index-fits =
-        allowed-index (withHoles (its-row .layout .header)) (its-row .layout .slots) j f n ost
-        (rules-of _ _ (row-fits .rules) .allowed) at-row
+    slot-fits : FitFid (f .0) × (ost ≤ maxIndex)
+    slot-fits =
+        let l = row-fits .layout in
+        fit-named (withHoles (its-row .layout .header)) (its-row .layout .slots) j f n ost
+        (rules-slots (its-row .layout .header) (its-row .layout .slots) (l .rules)) (l .fits) at-row
 
     self-fits : FitFid (selfOf (rowAt T r) .0)
     unfolding selfOf
@@ -322,15 +373,15 @@ module _ (policy : ℕ) (T : Tables) (fit : FitRows T) where
     claim-fits = (self-fits, low)
       where
         few : length (slotsOf (rowAt T r)) ≤ maxSlots
-        few = rw row-is (rules-of _ _ (row-fits .rules) .few)
+        few = rw row-is (rules-few (its-row .layout .header) (its-row .layout .slots) (row-fits .layout .rules))
 
-        low : j < fourBytes
+        low : j < 2 ^ 32
         low = let z = few in let y = inside .1 in omega arith
 
     fit-new : (g : OstFid) → FitFid (g .0) → FitObject (newObject T g r j ost)
     unfolding newObject
     fit-new g h =
-        record { fid = h; ost = index-fits; owner = owner-fits; claim = claim-fits; fresh = λ e q. let z : _≡_ {A = ℕ} 0 1 = cc in omega arith }
+        record { fid = h; ost = slot-fits .1; owner = owner-fits; claim = claim-fits; fresh = λ e q. let z : _≡_ {A = ℕ} 0 1 = cc in omega arith }
 
     usable-fits : (gs : List OstFid) → FitReserve gs → (g : OstFid) → usable T gs ≡ Takes g → FitFid (g .0)
     unfolding usable
@@ -367,7 +418,7 @@ module _ (policy : ℕ) (T : Tables) (fit : FitRows T) where
 
         to : (g : OstFid) → FitFid (g .0) → (a : Row) → FitStep (redirectTo T r j ost g a)
         to g h NoRow = tt
-        to g h (RowIs o) = (fit-new g h, (fit-slot (rowAt T r) j g 0 ost (fit .parents r (inside .0)) h (omega arith) index-fits, tt))
+        to g h (RowIs o) = (fit-new g h, (fit-slot (rowAt T r) j g 0 ost (fit .parents r (inside .0)) h (omega arith) (slot-fits .1), tt))
 
         take : (a : Usable) → usable T reserve ≡ a → FitStep (redirect T r j ost a)
         take UsedUp e = tt
@@ -415,7 +466,8 @@ module _ (policy : ℕ) (T : Tables) (fit : FitRows T) where
   step-fits reserve good p = go (eqb (p .stage) 1) (eqb (p .stage) 2)
     where
       go : (a b : Bool) →
-          FitStep (cond a (partStep policy reserve T (p .row) (p .part)) (cond b (objectStep policy T (p .row) (objectAt T (p .row))) rests))
+          FitStep
+          (cond a (partStep policy reserve T (p .row) (p .part)) (cond b (objectStep policy T (p .row) (objectAt T (p .row))) rests))
       go true b = fit-part reserve good (p .row) (p .part)
       go false true = fit-object (p .row) (objectAt T (p .row)) refl
       go false false = tt

@@ -1,5 +1,5 @@
 -- The names that the laws of the rules share, and the tests on truth values and FIDs that they use.
-pub use Prim.Native.Nat.{ℕ, zero, suc, _+_, _-_, _*_, _≤_, _<_}
+pub use Prim.Native.Nat.{ℕ, zero, suc, _+_, _-_, _*_, _≤_, _<_, _^_}
 pub use native.Mathlib.Omega.{arith}
 pub use native.Mathlib.Decide.{decLt, ℕ-discrete}
 pub use native.Mathlib.Nat.{suc-add, zero-add, add-assoc}
@@ -12,6 +12,7 @@ pub use lib.Seq.{getD-set-same, getD-set-other, set-out, set-set, set-comm, set-
 pub use lib.Dec.{eqb, ltb, leb}
 pub use borrow.Author.Tests.{eqb-true, eq-eqb, ne-eqb, not-true, ltb-true, ltb-false, lt-ltb, le-ltb, leb-true, le-leb, lt-leb}
 unfoldable pub use Rattle.fid.specs.Fid.{sameFid, zeroFid, goodFid, goodNumber, goodSequence}
+pub use Rattle.fid.proofs.FidLaws.{Fits}
 pub use Rattle.fid.specs.declared.Fid.{Fid}
 pub use Rattle.fid.specs.declared.MdtFid.{MdtFid}
 pub use Rattle.fid.specs.declared.OstFid.{OstFid}
@@ -19,6 +20,9 @@ pub use Rattle.layout.specs.Slot.{maxIndex}
 unfoldable pub use Rattle.layout.specs.Slot.{slotNames, allowedSlot, allowedSlots}
 pub use Rattle.layout.specs.Layout.{Layout, magicOne, holePattern, maxSlots}
 unfoldable pub use Rattle.layout.specs.Layout.{headerSize, layoutSize, withHoles, knownVersion, knownPattern, fewSlots, layoutRules}
+unfoldable pub use Rattle.layout.proofs.SlotLaws.{FitSlot, FitSlots}
+pub use Rattle.layout.proofs.HeaderLaws.{FitHeader, size-most}
+pub use Rattle.layout.proofs.LayoutLaws.{Writable, rules-few, rules-slots, allowed-set}
 pub use Rattle.layout.specs.declared.Header.{Header}
 pub use Rattle.layout.specs.declared.Slot.{Slot}
 pub use Rattle.layout.specs.declared.Slot.the-variants.{Hole, Names}
@@ -62,7 +66,6 @@ pub use Rattle.rules.specs.Runs.{Run}
 unfoldable pub use Rattle.rules.specs.Runs.{stepTables, counts, noCounts, countOf, addCounts, halt, after, onStep, run}
 pub use Rattle.rules.specs.Calls.{Request, Follows}
 unfoldable pub use Rattle.rules.specs.Calls.{runOf, passedOn, passed, passedOf, leaves, adds, tablesAfter, passedAfter, Reached, Fair}
-pub use Rattle.rules.specs.Fit.{twoBytes, fourBytes, eightBytes, FitFid, FitOwner, FitHeader, FitSlot, FitClaim, FitParent, FitParentRow, FitObject, FitObjectRow, FitRows, FitReserve}
 pub use Rattle.rules.specs.Promises.{Distinct, HeldAlone, UncutRun, Promise}
 unfoldable pub use Rattle.rules.specs.Promises.{OwnSlot, OthersKeepClass, NotDestroyed, Settled, then, uncut, Ended}
 
