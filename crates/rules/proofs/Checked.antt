@@ -15,7 +15,7 @@ use Rattle.tables.specs.Positions.{rowAt}
 use Rattle.tables.specs.Check.{selfFid, hasSelf, noneTwice, allDifferent}
 use Rattle.rules.specs.Rows.{isParent, objectAt, isObject}
 use Rattle.rules.specs.Promises.{Distinct}
-use Rattle.rules.proofs.Theorem.{clash, never, and-l, and-r, and-both, or-false, fid-true, fid-refl}
+use Rattle.rules.proofs.Theorem.{clash, and-l, and-r, fid-true, OneParent, OneObject}
 
 -- a used row with this self FID
 has : Fid → List ℕ → Bool
@@ -72,16 +72,30 @@ object-has f row = go (isUsed row)
     go false = refl
 
 -- tables without 15 have no FID twice
+pub checked-parents : (parents objects : List ℕ) → noneTwice (parentRows parents) ≡ true → OneParent (parse parents objects)
+unfolding parse rowAt parseParent isUsed
+checked-parents parents objects e r s f p q = none-twice (parentRows parents) e r s (f .0) (inside r p) (inside s q)
+  where
+    inside : (r : ℕ) → isParent f (getD (map parseParent (parentRows parents)) r (noParent [])) ≡ true → has (f .0) (getD (parentRows parents) r []) ≡ true
+    inside r p =
+        sym (parent-has f (getD (parentRows parents) r []))
+        ∙ ap (isParent f) (sym (List·getD-map parseParent (parentRows parents) r []))
+        ∙ p
+
+pub checked-objects : (parents objects : List ℕ) → noneTwice (objectRows objects) ≡ true → OneObject (parse parents objects)
+unfolding parse objectAt parseObject isUsed
+checked-objects parents objects e r s f p q = none-twice (objectRows objects) e r s (f .0) (inside r p) (inside s q)
+  where
+    inside : (r : ℕ) → isObject f (getD (map parseObject (objectRows objects)) r (noObject [])) ≡ true → has (f .0) (getD (objectRows objects) r []) ≡ true
+    inside r p =
+        sym (object-has f (getD (objectRows objects) r []))
+        ∙ ap (isObject f) (sym (List·getD-map parseObject (objectRows objects) r []))
+        ∙ p
+
 pub checked-distinct : (parents objects : List ℕ) → allDifferent parents objects ≡ true → Distinct (parse parents objects)
-unfolding allDifferent parse rowAt objectAt parseParent parseObject isUsed
+unfolding allDifferent
 checked-distinct parents objects e =
     record {
-      parents = λ r s f p q. none-twice (parentRows parents) (and-l (noneTwice (parentRows parents)) (noneTwice (objectRows objects)) e) r s (f .0) (in-parents r f p) (in-parents s f q);
-      objects = λ r s f p q. none-twice (objectRows objects) (and-r (noneTwice (parentRows parents)) (noneTwice (objectRows objects)) e) r s (f .0) (in-objects r f p) (in-objects s f q);
+      parents = checked-parents parents objects (and-l (noneTwice (parentRows parents)) (noneTwice (objectRows objects)) e);
+      objects = checked-objects parents objects (and-r (noneTwice (parentRows parents)) (noneTwice (objectRows objects)) e);
     }
-  where
-    in-parents : (r : ℕ) (f : MdtFid) → isParent f (getD (map parseParent (parentRows parents)) r (noParent [])) ≡ true → has (f .0) (getD (parentRows parents) r []) ≡ true
-    in-parents r f p = sym (parent-has f (getD (parentRows parents) r [])) ∙ ap (isParent f) (sym (List·getD-map parseParent (parentRows parents) r [])) ∙ p
-
-    in-objects : (r : ℕ) (f : OstFid) → isObject f (getD (map parseObject (objectRows objects)) r (noObject [])) ≡ true → has (f .0) (getD (objectRows objects) r []) ≡ true
-    in-objects r f p = sym (object-has f (getD (objectRows objects) r [])) ∙ ap (isObject f) (sym (List·getD-map parseObject (objectRows objects) r [])) ∙ p
