@@ -382,10 +382,6 @@ pub slot-absent : (policy : ℕ) (T : Tables) (k i : ℕ) → width T k ≤ i �
 unfolding slotClass slotClassOf quietSlot slotAt width
 slot-absent policy T k i h = ap (λ s. quietSlot policy (slotClassOf T k i s)) (List·getD-eq-default (slotsOf (rowAt T k)) Hole h)
 
-pub object-absent : (policy : ℕ) (T : Tables) (k : ℕ) → length (T .objects) ≤ k → quietObject policy (objectClass T k) ≡ true
-unfolding objectClass objectClassOf quietObject objectAt
-object-absent policy T k h = ap (λ w. quietObject policy (objectClassOf T w)) (List·getD-eq-default (T .objects) (noObject []) h)
-
 -- ## Stage two
 -- tables U, made of T by holes or by the destruction of what slot (r, i) names, in which object x of row o can be put into that slot
 pub record Ready (policy : ℕ) (T U : Tables) (o r i : ℕ) (x : Object) : Type 0 where

@@ -54,12 +54,6 @@ object-found T f e = first-is (object-first T f) e
 pub object-missing : (T : Tables) (f : OstFid) → objectRow T f ≡ NoRow → (o : ℕ) → isObject f (objectAt T o) ≡ false
 object-missing T f e = first-none (object-first T f) e
 
--- the row that holds the FID is the one that is found
-pub object-here : (T : Tables) (f : OstFid) (o : ℕ) → OneObject T → isObject f (objectAt T o) ≡ true →
-    objectOf T f ≡ objectIn (objectAt T o)
-unfolding objectOf objectInRow objectAt
-object-here T f o one e = rw (first-unique (object-first T f) (first-only e (λ k t. one k o f t e)))
-
 -- a write to a row that neither held the FID nor comes to hold it
 pub object-frame : (T : Tables) (o : ℕ) (y : ObjectRow) (g : OstFid) → isObject g (objectAt T o) ≡ false → isObject g y ≡ false →
     objectOf (putObject T o y) g ≡ objectOf T g

@@ -2,26 +2,26 @@
 pub use Prim.Native.Nat.{ℕ, zero, suc, _+_, _-_, _*_, _≤_, _<_, _^_}
 pub use native.Mathlib.Omega.{arith}
 pub use native.Mathlib.Decide.{decLt, ℕ-discrete}
-pub use native.Mathlib.Nat.{suc-add, zero-add, add-assoc}
+pub use native.Mathlib.Nat.{suc-add, zero-add}
 pub use mathlib.Core.Path.{_≡_, refl, sym, ap, ap₂, subst, _∙_}
 pub use mathlib.Core.Bool.{Bool, true, false, not, cond, _&&_, _||_, true≢false}
-pub use mathlib.Core.List.{List, [], _∷_, _++_, append-nil, append-assoc, List·Memᴰ, List·Memᴰ·head, List·Memᴰ·tail, List·Memᴰ·append-cases, Memᴰ·append-left, Memᴰ·append-right, List·Memᴰ·cases-cons, List·Memᴰ·not-nil, List·Memᴰ·eq-of-singleton}
+pub use mathlib.Core.List.{List, [], _∷_, _++_, append-nil, List·Memᴰ, List·Memᴰ·head, List·Memᴰ·tail, List·Memᴰ·append-cases, Memᴰ·append-left, Memᴰ·append-right, List·Memᴰ·cases-cons, List·Memᴰ·eq-of-singleton}
 pub use mathlib.Core.Logic.{_⊎_, inl, inr}
 pub use lib.ListN.{length, getD, set, drop, replicate, length-set, length-append, length-replicate, length-drop, drop-of-length-le, List·getD-eq-default}
 pub use lib.Seq.{getD-set-same, getD-set-other, set-out, set-set, set-comm, set-getD, getD-drop, drop-cons}
 pub use lib.Dec.{eqb, ltb, leb}
-pub use borrow.Author.Tests.{eqb-true, eq-eqb, ne-eqb, not-true, ltb-true, ltb-false, lt-ltb, le-ltb, leb-true, le-leb, lt-leb}
-unfoldable pub use Rattle.fid.specs.Fid.{sameFid, zeroFid, goodFid, goodNumber, goodSequence}
+pub use borrow.Author.Tests.{eqb-true, eq-eqb, not-true, ltb-true, ltb-false, lt-ltb, le-ltb, leb-true, le-leb}
+unfoldable pub use Rattle.fid.specs.Fid.{sameFid, goodFid}
 pub use Rattle.fid.proofs.FidLaws.{Fits}
 pub use Rattle.fid.specs.declared.Fid.{Fid}
 pub use Rattle.fid.specs.declared.MdtFid.{MdtFid}
 pub use Rattle.fid.specs.declared.OstFid.{OstFid}
 pub use Rattle.layout.specs.Slot.{maxIndex}
 unfoldable pub use Rattle.layout.specs.Slot.{slotNames, allowedSlot, allowedSlots}
-pub use Rattle.layout.specs.Layout.{Layout, magicOne, holePattern, maxSlots}
+pub use Rattle.layout.specs.Layout.{Layout, maxSlots}
 unfoldable pub use Rattle.layout.specs.Layout.{headerSize, layoutSize, withHoles, knownVersion, knownPattern, fewSlots, layoutRules}
 unfoldable pub use Rattle.layout.proofs.SlotLaws.{FitSlot, FitSlots}
-pub use Rattle.layout.proofs.HeaderLaws.{FitHeader, size-most}
+pub use Rattle.layout.proofs.HeaderLaws.{size-most}
 pub use Rattle.layout.proofs.LayoutLaws.{Writable, rules-few, rules-slots, allowed-set}
 pub use Rattle.layout.specs.declared.Header.{Header}
 pub use Rattle.layout.specs.declared.Slot.{Slot}
@@ -51,7 +51,7 @@ pub use Rattle.rules.specs.declared.SlotClass.the-variants.{HOLE, MULTIP
 pub use Rattle.rules.specs.declared.ObjectClass.{ObjectClass}
 pub use Rattle.rules.specs.declared.ObjectClass.the-variants.{UNUSED, KEPT, SPARE, EMPTY, ORPHAN, CONFLICT}
 pub use Rattle.rules.specs.declared.Repair.{Repair}
-pub use Rattle.rules.specs.declared.Repair.the-variants.{OfSelf, OfMultiple, OfDangling, OfBlank, OfUnmatched, OfOwner, OfEmpty, OfOrphan}
+pub use Rattle.rules.specs.declared.Repair.the-variants.{OfBlank, OfUnmatched, OfOwner, OfEmpty}
 pub use Rattle.rules.specs.declared.Counts.{Counts}
 pub use Rattle.rules.specs.declared.Report.{Report}
 unfoldable pub use Rattle.rules.specs.Search.{rowFrom, slotFrom, placeFrom, orElse, isSomewhere, isRow}
@@ -66,7 +66,7 @@ pub use Rattle.rules.specs.Runs.{Run}
 unfoldable pub use Rattle.rules.specs.Runs.{stepTables, counts, noCounts, countOf, addCounts, halt, after, onStep, run}
 pub use Rattle.rules.specs.Calls.{Request, Follows}
 unfoldable pub use Rattle.rules.specs.Calls.{runOf, passedOn, passed, passedOf, leaves, adds, tablesAfter, passedAfter, Reached, Fair}
-pub use Rattle.rules.specs.Promises.{Distinct, HeldAlone, UncutRun, Promise}
+pub use Rattle.rules.specs.Promises.{Distinct, UncutRun, Promise}
 unfoldable pub use Rattle.rules.specs.Promises.{OwnSlot, OthersKeepClass, NotDestroyed, Settled, then, uncut, Ended}
 
 -- ## Truth values
