@@ -1,0 +1,2 @@
+pub mod Order
+unfoldable pub use Order.*
