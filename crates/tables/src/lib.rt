@@ -1,6 +1,15 @@
 // The lent tables: parent rows, object rows and the reserve.
+mod fids;
+pub mod positions;
+pub mod rows;
+mod twice;
+mod whole;
+
 use fid::MdtFid;
 use fid::OstFid;
+ghost use mathlib.Core.Path.{_≡_};
+ghost use Rattle.tables.specs.Check.{checkNumber, tablesNumber};
+ghost use Rattle.tables.specs.Answers.{startAnswer, stepsAnswer};
 
 // The uid and gid of a file or an object.
 pub struct Owner {
@@ -28,4 +37,16 @@ pub struct Position {
     pub stage: u64,
     pub row: u64,
     pub part: u64,
+}
+
+// What is said of the start: the number of a refusal, or the position.
+pub enum StartAnswer {
+    NoStart(u32),
+    StartIs(Position),
+}
+
+// What is said of the step count: the number of a refusal, or the count.
+pub enum StepsAnswer {
+    NoSteps(u32),
+    StepsAre(u64),
 }
