@@ -618,3 +618,84 @@ module _ (policy : ℕ) (reserve : List OstFid) (T : Tables) (sound : Distinct T
           multiple true d = redirect-step p
           multiple false d = slot-rests (rw (q, d))
       first-case true p q = back q (kept-case (is-place (keeper T f) r j p) (objectOf T f) refl q)
+
+-- ## Headers
+
+own-slots : (w : ParentRow) → slotsOf (withOwn w) ≡ slotsOf w
+unfolding slotsOf withOwn
+own-slots (noParent b) = refl
+own-slots (parent p) = refl
+
+own-slot : (T : Tables) (r j : ℕ) → getD (slotsOf (withOwn (rowAt T r))) j Hole ≡ slotAt T r j
+unfolding slotAt
+own-slot T r j = ap (λ l. getD l j Hole) (own-slots (rowAt T r))
+
+own-like : (w : ParentRow) → RowLike (withOwn w) w
+unfolding selfOf ownerOf isParent withOwn
+own-like (noParent b) = row-like-refl (noParent b)
+own-like (parent p) = record { self = refl; owner = refl; parent = λ f. refl }
+
+own-right : (w : ParentRow) → headerQuiet (withOwn w) ≡ true
+unfolding headerQuiet headerClass quietHeader withOwn ownHeader
+own-right (noParent b) = refl
+own-right (parent p) = header-right _ refl refl
+
+header-written : (policy : ℕ) (T : Tables) (r : ℕ) → Distinct T → Stepped policy T (place 1 r 0) (putParent T r (withOwn (rowAt T r)))
+unfolding quietAt quietPart place OthersKeepClass rowAt putParent width objectAt
+header-written policy T r sound =
+    record {
+      calm = record {
+        sound = record { parents = λ a b f p q. sound .parents a b f (back f a p) (back f b q); objects = sound .objects };
+        stays = stays-row T r w; grows = record { tall = length-set (T .parents) r w; wider = λ k. let z = widths k in omega arith; size = refl };
+        headers = λ k d. set-pointwise (T .parents) r w (noParent []) (λ v. headerQuiet v ≡ true) k (λ z. rw (← z) d) (λ z. own-right (rowAt T r)) (λ m. d);
+        parts = λ k i d. rw (others k i) d };
+      rows = λ e. absurd (omega arith); own = here (decLt r (length (T .parents))); others = λ k i n. others k i; widths = λ e. widths }
+  where
+    w : ParentRow
+    w = withOwn (rowAt T r)
+    U : Tables
+    U = putParent T r w
+    back : (f : MdtFid) (a : ℕ) → isParent f (rowAt U a) ≡ true → isParent f (rowAt T a) ≡ true
+    back f a p = sym (row-frame (isParent f) T r w (own-like (rowAt T r) .parent f) a) ∙ p
+    widths : (k : ℕ) → width U k ≡ width T k
+    widths k = row-frame (λ v. length (slotsOf v)) T r w (ap length (own-slots (rowAt T r))) k
+    others : (k i : ℕ) → slotClass U k i ≡ slotClass T k i
+    others k i = row-others T r w (own-slot T r) (λ g j t. own-like (rowAt T r)) k i
+    here : Dec (r < length (T .parents)) → headerQuiet (rowAt U r) ≡ true
+    here (yes h) = rw (getD-set-same (T .parents) r w (noParent []) h) (own-right (rowAt T r))
+    here (no m) = rw (set-out (T .parents) r w (omega arith)) (header-absent T r (omega arith))
+
+header-step : (policy : ℕ) (T : Tables) (r : ℕ) → Distinct T → (k : HeaderClass) → headerClass (rowAt T r) ≡ k → Makes policy T (place 1 r 0) (repairHeader T r k)
+unfolding repairHeader applyWrites applyWrite quietAt quietPart place headerQuiet quietHeader
+header-step policy T r sound SELF q = header-written policy T r sound
+header-step policy T r sound CLEAN-HEADER q = stepped-same policy T (place 1 r 0) sound (rw q)
+header-step policy T r sound UNUSED-PARENT q = stepped-same policy T (place 1 r 0) sound (rw q)
+
+-- ## Any step
+
+slot-any : (policy : ℕ) (reserve : List OstFid) (T : Tables) (r j : ℕ) → Distinct T → (s : Slot) → slotAt T r j ≡ s → Makes policy T (place 1 r (suc j)) (slotStep policy reserve T r j s)
+unfolding slotStep slotClass slotClassOf quietSlot quietAt quietPart place
+slot-any policy reserve T r j sound Hole q = stepped-same policy T (place 1 r (suc j)) sound (rw q)
+slot-any policy reserve T r j sound (Names f n ost) q = slot-step policy reserve T sound r j f n ost q
+
+object-any : (policy : ℕ) (T : Tables) (o m : ℕ) → Distinct T → (w : ObjectRow) → objectAt T o ≡ w → Makes policy T (place 2 o m) (objectStep policy T o w)
+unfolding objectStep quietAt place isFreeObject
+object-any policy T o m sound (noObject b) q = stepped-same policy T (place 2 o m) sound (quiet-free policy T T o (rw q))
+object-any policy T o m sound (object x) q = object-step policy T sound o m x q
+
+-- from any position, there or not
+pub step-makes : (policy : ℕ) (reserve : List OstFid) (T : Tables) (p : Position) → Distinct T → Makes policy T p (stepAt policy reserve T p)
+unfolding stepAt quietAt partStep place
+step-makes policy reserve T p sound = first-stage (eqb (p .stage) 1) refl
+  where
+    is : (n : ℕ) → p .stage ≡ n → place n (p .row) (p .part) ≡ p
+    is n e = λ i. record { stage = sym e i; row = p .row; part = p .part }
+    parts : (m : ℕ) → Makes policy T (place 1 (p .row) m) (partStep policy reserve T (p .row) m)
+    parts zero = header-step policy T (p .row) sound (headerClass (rowAt T (p .row))) refl
+    parts (suc j) = slot-any policy reserve T (p .row) j sound (slotAt T (p .row) j) refl
+    second-stage : (b : Bool) → eqb (p .stage) 1 ≡ false → eqb (p .stage) 2 ≡ b → Makes policy T p (cond b (objectStep policy T (p .row) (objectAt T (p .row))) rests)
+    second-stage true a e = subst (λ (q : Position). Makes policy T q (objectStep policy T (p .row) (objectAt T (p .row)))) (is 2 (eqb-true (p .stage) 2 e)) (object-any policy T (p .row) (p .part) sound (objectAt T (p .row)) refl)
+    second-stage false a e = stepped-same policy T p sound (rw (a, e))
+    first-stage : (b : Bool) → eqb (p .stage) 1 ≡ b → Makes policy T p (cond b (partStep policy reserve T (p .row) (p .part)) (cond (eqb (p .stage) 2) (objectStep policy T (p .row) (objectAt T (p .row))) rests))
+    first-stage true e = subst (λ (q : Position). Makes policy T q (partStep policy reserve T (p .row) (p .part))) (is 1 (eqb-true (p .stage) 1 e)) (parts (p .part))
+    first-stage false e = second-stage (eqb (p .stage) 2) e refl

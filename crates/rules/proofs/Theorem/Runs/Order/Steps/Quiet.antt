@@ -282,6 +282,10 @@ pub stays-slot : (T U : Tables) (r j : ℕ) (s : Slot) → NotDestroyed T U → 
 unfolding NotDestroyed objectAt putSlot putParent
 stays-slot T U r j s h = h
 
+pub stays-row : (T : Tables) (r : ℕ) (w : ParentRow) → NotDestroyed T (putParent T r w)
+unfolding NotDestroyed objectAt putParent
+stays-row T r w = stays-refl T
+
 -- no row and no slot goes away
 pub record Grows (T S : Tables) : Type 0 where
   pub tall : length (S .parents) ≡ length (T .parents)
@@ -317,6 +321,20 @@ pub record Calm (policy : ℕ) (T S : Tables) : Type 0 where
 
 pub same-quiet : (policy : ℕ) (T : Tables) → Distinct T → Calm policy T T
 same-quiet policy T s = record { first = record { sound = s; stays = stays-refl T; grows = grows-refl T; headers = λ k e. e; parts = λ k i e. e }; rows = λ k e. e }
+
+-- ## What is not there is quiet
+
+pub header-absent : (T : Tables) (k : ℕ) → length (T .parents) ≤ k → headerQuiet (rowAt T k) ≡ true
+unfolding rowAt headerQuiet headerClass quietHeader
+header-absent T k h = ap headerQuiet (List·getD-eq-default (T .parents) (noParent []) h)
+
+pub slot-absent : (policy : ℕ) (T : Tables) (k i : ℕ) → width T k ≤ i → quietSlot policy (slotClass T k i) ≡ true
+unfolding slotClass slotClassOf quietSlot slotAt width
+slot-absent policy T k i h = ap (λ s. quietSlot policy (slotClassOf T k i s)) (List·getD-eq-default (slotsOf (rowAt T k)) Hole h)
+
+pub object-absent : (policy : ℕ) (T : Tables) (k : ℕ) → length (T .objects) ≤ k → quietObject policy (objectClass T k) ≡ true
+unfolding objectClass objectClassOf quietObject objectAt
+object-absent policy T k h = ap (λ w. quietObject policy (objectClassOf T w)) (List·getD-eq-default (T .objects) (noObject []) h)
 
 -- ## Stage two
 -- tables U, made of T by holes or by the destruction of what slot (r, i) names, in which object x of row o can be put into that slot
