@@ -4,6 +4,7 @@ use super::rows::ENTRY_SIZE;
 use super::rows::OBJECT_SIZE;
 use super::rows::PARENT_SIZE;
 ghost use mathlib.Core.Path.{_≡_};
+ghost use mathlib.Core.Bool.{_&&_};
 ghost use lib.ListN.{length};
 ghost use Prim.Native.Nat.{_≤_};
 ghost use Rattle.tables.specs.Bytes.{objectSize, parentRows, objectRows, reserveEntries};
@@ -102,4 +103,14 @@ pub fn good_reserve(reserve: &[u8]) -> bool
         }
     }
     true
+}
+
+// Whether the rows of both tables are good.
+pub fn good_rows(parents: &[u8], objects: &[u8]) -> bool
+    ensures { λ r. ⌜ r ≡ (all (whenUsed goodSelf) (parentRows (now (parents .entry))) && all (whenUsed goodObject) (objectRows (now (objects .entry)))) ⌝ }
+{
+    if !good_parents(parents) {
+        return false;
+    }
+    good_objects(objects)
 }

@@ -34,7 +34,7 @@ pub fn row_width(row: &[u8]) -> u16
     if !rows::is_used(row) {
         return 0;
     }
-    wire::le16(rows::layout_of(row), 28)
+    layout::stripe_count(rows::layout_of(row))
 }
 
 // The number of slots of parent row r.

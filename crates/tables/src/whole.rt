@@ -4,6 +4,7 @@ use super::rows::ENTRY_SIZE;
 use super::rows::OBJECT_SIZE;
 use super::rows::PARENT_SIZE;
 ghost use mathlib.Core.Path.{_≡_};
+ghost use mathlib.Core.Bool.{_&&_};
 ghost use Prim.Native.Nat.{_/_, _≤_};
 ghost use lib.ListN.{length};
 ghost use Rattle.wire.specs.Rows.{rows};
@@ -91,4 +92,14 @@ pub fn reserve_whole(reserve: &[u8]) -> bool
     ensures { λ r. ⌜ r ≡ reserveWhole (now (reserve .entry)) ⌝ }
 {
     whole_rows(reserve, ENTRY_SIZE, MAX_RESERVE)
+}
+
+// Whether both tables are whole.
+pub fn both_whole(parents: &[u8], objects: &[u8]) -> bool
+    ensures { λ r. ⌜ r ≡ (parentsWhole (now (parents .entry)) && objectsWhole (now (objects .entry))) ⌝ }
+{
+    if !parents_whole(parents) {
+        return false;
+    }
+    objects_whole(objects)
 }

@@ -17,7 +17,7 @@ parent-count-requires c κs = search needs
 
 -- src/positions.rt:55:9
 returns : tie.Need-returns
-returns c = ?
+returns c = let a = c .before .before .before .args in one-past (now (a .parents)) [] (a .row) (a .part) (omega arith)
 
 -- src/positions.rt:57:13
 width-requires : tie.Need-width-requires
@@ -29,7 +29,7 @@ cast-result c = search needs
 
 -- src/positions.rt:49:1
 returns-2 : tie.Need-returns-2
-returns-2 c = ?
+returns-2 c = let a = c .before .before .before .before .args in one-part (now (a .parents)) [] (a .row) (a .part) (omega arith) _ (c .width .ensures)
 
 pub in-stage-one-spec : {M : Type 1} → statement M
 in-stage-one-spec =

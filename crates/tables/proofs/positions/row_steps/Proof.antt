@@ -34,7 +34,7 @@ row-at-requires c κs = omega arith
 
 -- src/positions.rt:180:29
 row-width-requires : tie.Need-row-width-requires Inv-loop μ-loop
-row-width-requires c κs = ?
+row-width-requires c κs = let d = c .before .before .before .before in (c .row-at .ensures .1, layout-at (now (d .args .parents)) _ (c .before .before .loop .r) (d .pre .0) (omega arith) (c .row-at .ensures .0))
 
 -- src/positions.rt:180:29
 cast-steps : tie.Need-cast-steps Inv-loop μ-loop
@@ -54,11 +54,13 @@ loop-less c = omega arith
 
 -- src/positions.rt:179:5
 loop-again : tie.Need-loop-again Inv-loop μ-loop
-loop-again c = ?
+loop-again c = 
+    let d = c .before .before .before in
+    (omega arith, omega arith, steps-step _ _ _ _ _ _ _ (d .loop .inv .2) (omega arith) (c .before .row-at .ensures .0) (c .row-width .ensures))
 
 -- src/positions.rt:173:1
 returns : tie.Need-returns Inv-loop μ-loop
-returns c = ?
+returns c = steps-end _ _ _ _ _ (c .before .loop .inv .2) (omega arith)
 
 pub row-steps-spec : {M : Type 1} → statement M
 row-steps-spec =

@@ -12,7 +12,7 @@ use Rattle.tables.proofs.positions.row_width.Reads as reads
 use Rattle.tables.proofs.positions.row_width.Lts as lts
 use Rattle.tables.proofs.rows.is_used.Reads as is-used-reads
 use Rattle.tables.proofs.rows.layout_of.Reads as layout-of-reads
-use Rattle.wire.proofs.le16.Reads as le16-reads
+use Rattle.layout.proofs.stripe_count.Reads as stripe-count-reads
 
 -- src/positions.rt:34:9
 is-used-requires : tie.Need-is-used-requires
@@ -30,16 +30,15 @@ layout-of-requires : tie.Need-layout-of-requires
 layout-of-requires c κs = (c .before .before .before .pre .0, facts c .room)
 
 -- src/positions.rt:37:5
-le16-requires : tie.Need-le16-requires
-le16-requires c κs = omega (arith, facts (c .before))
+stripe-count-requires : tie.Need-stripe-count-requires
+stripe-count-requires c κs = omega (arith, facts (c .before))
 
 -- src/positions.rt:30:1
 returns-2 : tie.Need-returns-2
-unfolding stripeCount
 returns-2 c = 
-    c .le16 .ensures ∙ ap stripeCount (c .before .layout-of .ensures .0)
+    c .stripe-count .ensures ∙ ap stripeCount (c .before .layout-of .ensures .0)
     ∙ slots-used (now (c .before .before .before .before .before .args .row)) (sym (c .before .before .before .is-used .ensures) ∙ not-false _ (c .before .before .if1 .left))
 
 pub row-width-spec : {M : Type 1} → statement M
 row-width-spec =
-    tie.close (tie.spec is-used-requires returns layout-of-requires le16-requires returns-2)
+    tie.close (tie.spec is-used-requires returns layout-of-requires stripe-count-requires returns-2)
