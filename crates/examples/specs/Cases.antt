@@ -1,8 +1,9 @@
 -- The starred examples of document 01, and E10: one table of tests, one claim. The tables are given by their bytes.
 use Prim.Native.Nat.{ℕ, zero, suc, _+_, _-_, _*_, _/_, _%_}
-use mathlib.Core.Path.{_≡_, refl}
-use mathlib.Core.Bool.{Bool, true, false, not, cond, _&&_, _||_}
-use mathlib.Core.List.{List, [], _∷_, _++_, map}
+use mathlib.Core.Path.{_≡_, refl, sym}
+use mathlib.Core.Bool.{Bool, true, false, true≢false, not, cond, _&&_, _||_}
+use mathlib.Core.List.{List, [], _∷_, _++_, map, List·Memᴰ, List·Memᴰ·head, List·Memᴰ·tail}
+use mathlib.Core.Logic.{_⊎_, inl, inr}
 use lib.ListN.{length, getD, set, take, drop, replicate}
 use lib.Dec.{eqb, ltb, leb}
 use Rattle.wire.specs.Numbers.{le, bytes}
@@ -17,7 +18,9 @@ use Rattle.layout.specs.declared.Slot.{Slot}
 use Rattle.layout.specs.declared.Slot.the-variants.{Hole, Names}
 use Rattle.tables.specs.Records.{Parent, ParentRow, noParent, parent, ObjectRow, noObject, object, Tables}
 use Rattle.tables.specs.Bytes.{parentSize, objectSize, isUsed, decodeOwner, encodeOwner, layoutLength, layoutBytes, decodeParent, encodeParent, parseParent, renderParent, claimFrom, claimFid, decodeObject, mark, encodeObject, parseObject, renderObject, parentRows, objectRows, parse, join, renderParents, renderObjects}
-use Rattle.tables.specs.Positions.{slotsOf, rowAt, width, isEnd, place, fromObject, fromParent, start, afterPart, next, rowSteps, countSteps}
+use Rattle.tables.specs.Positions.{slotsOf, rowAt, width, inStageOne, inStageTwo, isPosition, isEnd, place, fromObject, fromParent, start, afterPart, next, rowSteps, countSteps}
+use Rattle.tables.specs.Check.{selfFid, hasSelf, noneTwice, allDifferent}
+use Rattle.tables.specs.declared.Position.{Position}
 use Rattle.tables.specs.declared.Owner.{Owner}
 use Rattle.tables.specs.declared.Claim.{Claim}
 use Rattle.tables.specs.declared.Claim.the-variants.{Unclaimed, Claims}
@@ -30,7 +33,11 @@ use Rattle.rules.specs.Classes.{ownRight, headerClass, claimClass, keeperClass,
 use Rattle.rules.specs.Repairs.{putParent, putObject, applyWrite, applyWrites, creates, adopts, withSlots, withSlot, ownHeader, withOwn, withOwner, withClaim, destroyed, repairHeader, newObject, usable, redirectTo, redirect, makeObject, rewrite, rewriteAt, writeClaim, writeOwner, repairSlot, destroy, slotFor, ownerWrites, settle, made, grown, makeParent, destroyAt, destroyNamed, adoptBy, adopt, repairObject}
 use Rattle.rules.specs.Steps.{slotStep, partStep, objectStep, stepAt}
 use Rattle.rules.specs.Runs.{counts, noCounts, countOf, addCounts, Run, halt, after, onStep, run}
+use Rattle.rules.specs.Calls.{Request, runOf, passedOn, passed, passedOf, leaves as leavesOne, adds, tablesAfter, passedAfter, Reached, Follows, Fair}
+use Rattle.rules.specs.Promises.{Distinct, Promise}
 use Rattle.rules.specs.declared.Counts.{Counts}
+use Rattle.rules.proofs.Theorem.{promise}
+use Rattle.rules.proofs.Checked.{checked-distinct}
 
 -- ## The names of the examples
 
@@ -108,9 +115,9 @@ numbers c =
 came : ℕ → ℕ → Counts → Run → Bool
 came answer steps c x = eqb (x .report .answer) answer && eqb (x .report .steps) steps && same (numbers (x .report .counts)) (numbers c)
 
--- the bytes that a run leaves
-leaves : List (List ℕ) → List (List ℕ) → Run → Bool
-leaves ps os x = same (renderParents (x .tables)) (join ps) && same (renderObjects (x .tables)) (join os)
+-- the bytes that a run endsWith
+endsWith : List (List ℕ) → List (List ℕ) → Run → Bool
+endsWith ps os x = same (renderParents (x .tables)) (join ps) && same (renderObjects (x .tables)) (join os)
 
 class : List ℕ → Tables → ℕ → ℕ → Bool
 class c T r j = same (slotNumbers (slotClass T r j)) c
@@ -186,7 +193,7 @@ examples =
     ∷ isEnd (start (tables [] []))
     -- E4: 8 steps, one MULTIPLE, P's slot 0 names N
     ∷ came 0 8 one-multiple (go 1 (N ∷ []) E4)
-    ∷ leaves (file P (on N ∷ on B ∷ []) ∷ file Q (on A ∷ []) ∷ []) (E5-objects ++ N-made ∷ []) (go 1 (N ∷ []) E4)
+    ∷ endsWith (file P (on N ∷ on B ∷ []) ∷ file Q (on A ∷ []) ∷ []) (E5-objects ++ N-made ∷ []) (go 1 (N ∷ []) E4)
     -- E5: 22 after one step
     ∷ came 22 1 noCounts (go 1 (N ∷ []) E5)
     -- E6: 21 after one step
@@ -194,16 +201,16 @@ examples =
     -- E7: DANGLING, no change; with create and an unused object row A is made
     ∷ class (only 4) (tables E7-parents []) 0 0
     ∷ came 0 2 noCounts (go 0 [] (tables E7-parents []))
-    ∷ leaves E7-parents [] (go 0 [] (tables E7-parents []))
+    ∷ endsWith E7-parents [] (go 0 [] (tables E7-parents []))
     ∷ came 0 3 one-dangling (go 1 [] (tables E7-parents (free ∷ [])))
-    ∷ leaves E7-parents (A-made ∷ []) (go 1 [] (tables E7-parents (free ∷ [])))
+    ∷ endsWith E7-parents (A-made ∷ []) (go 1 [] (tables E7-parents (free ∷ [])))
     -- E8: 4 steps, slot 0 ends as C, A's row is unused again
     ∷ came 0 4 made-and-taken (go 3 [] E8)
-    ∷ leaves (file P (on C ∷ []) ∷ []) E8-objects (go 3 [] E8)
+    ∷ endsWith (file P (on C ∷ []) ∷ []) E8-objects (go 3 [] E8)
     -- E9: C is CONFLICT, no change
     ∷ objectIs (only 11) E8 1
     ∷ came 0 4 noCounts (go 2 [] E8)
-    ∷ leaves E7-parents E8-objects (go 2 [] E8)
+    ∷ endsWith E7-parents E8-objects (go 2 [] E8)
     -- E10: a parent of 160 slots; index 160 is CONFLICT
     ∷ came 0 2 one-orphan (go 2 [] (E10 159))
     ∷ eqb (width (go 2 [] (E10 159) .tables) 0) 160
@@ -220,9 +227,48 @@ examples =
     -- E13: SPARE, no change
     ∷ objectIs (only 8) (tables [] E13-objects) 0
     ∷ came 0 1 noCounts (go 3 [] (tables [] E13-objects))
-    ∷ leaves [] E13-objects (go 3 [] (tables [] E13-objects))
+    ∷ endsWith [] E13-objects (go 3 [] (tables [] E13-objects))
     ∷ []
 
 pub examples-hold : all examples ≡ true
-unfolding all examples fid P Q A B C N us on layoutOf file noFile holds free tables go same numbers came leaves class objectIs one-multiple one-dangling one-orphan made-and-taken E4-parents E5-objects E4 E5 N-made A-made E7-parents E8-objects E8 E11 E12 E13-objects E10 le bytes rows decodeFid encodeFid sameFid zeroFid zeroSlot slotOfNumbers decodeSlot encodeSlot decodeSlots encodeSlots slotNames headerSize decodeHeader stripeCount encodeHeader slotStart decodeLayout encodeLayout withHoles layoutSize isUsed decodeOwner encodeOwner layoutLength layoutBytes decodeParent encodeParent parseParent renderParent claimFrom claimFid decodeObject mark encodeObject parseObject renderObject parentRows objectRows parse join renderParents renderObjects slotsOf rowAt width isEnd place fromObject fromParent start afterPart next rowSteps countSteps rowFrom slotFrom placeFrom orElse isSomewhere isRow selfOf ownerOf tailOf holesIn isFreeParent isParent parentRow freeParent slotAt namesAt scan named namesElse namedElse objectAt isFreeObject isObject objectRow freeObject objectIn objectInRow objectOf sameOwner claimIn claimsParent claimsIndex inClaimed atClaimed keeperBy keeper isPlace claimIs takeable slotWay rowWay way isWay ownRight headerClass claimClass keeperClass slotClassOf slotClass unnamedClass objectClassOf objectClass only headerNumbers slotNumbers objectNumbers putParent putObject applyWrite applyWrites creates adopts withSlots withSlot ownHeader withOwn withOwner withClaim destroyed repairHeader newObject usable redirectTo redirect makeObject rewrite rewriteAt writeClaim writeOwner repairSlot destroy slotFor ownerWrites settle made grown makeParent destroyAt destroyNamed adoptBy adopt repairObject slotStep partStep objectStep stepAt counts noCounts countOf addCounts halt after onStep run
+unfolding all examples fid P Q A B C N us on layoutOf file noFile holds free tables go same numbers came endsWith class objectIs one-multiple one-dangling one-orphan made-and-taken E4-parents E5-objects E4 E5 N-made A-made E7-parents E8-objects E8 E11 E12 E13-objects E10 le bytes rows decodeFid encodeFid sameFid zeroFid zeroSlot slotOfNumbers decodeSlot encodeSlot decodeSlots encodeSlots slotNames headerSize decodeHeader stripeCount encodeHeader slotStart decodeLayout encodeLayout withHoles layoutSize isUsed decodeOwner encodeOwner layoutLength layoutBytes decodeParent encodeParent parseParent renderParent claimFrom claimFid decodeObject mark encodeObject parseObject renderObject parentRows objectRows parse join renderParents renderObjects slotsOf rowAt width isEnd place fromObject fromParent start afterPart next rowSteps countSteps rowFrom slotFrom placeFrom orElse isSomewhere isRow selfOf ownerOf tailOf holesIn isFreeParent isParent parentRow freeParent slotAt namesAt scan named namesElse namedElse objectAt isFreeObject isObject objectRow freeObject objectIn objectInRow objectOf sameOwner claimIn claimsParent claimsIndex inClaimed atClaimed keeperBy keeper isPlace claimIs takeable slotWay rowWay way isWay ownRight headerClass claimClass keeperClass slotClassOf slotClass unnamedClass objectClassOf objectClass only headerNumbers slotNumbers objectNumbers putParent putObject applyWrite applyWrites creates adopts withSlots withSlot ownHeader withOwn withOwner withClaim destroyed repairHeader newObject usable redirectTo redirect makeObject rewrite rewriteAt writeClaim writeOwner repairSlot destroy slotFor ownerWrites settle made grown makeParent destroyAt destroyNamed adoptBy adopt repairObject slotStep partStep objectStep stepAt counts noCounts countOf addCounts halt after onStep run
 examples-hold = refl
+
+-- ## A list of calls
+
+-- E8 in pieces: two steps, a refused call, three steps from the slot again, and all from the start
+asks : ℕ → ℕ → Position → Request
+asks policy steps from = record { policy = policy; reserve = []; steps = steps; from = from }
+
+calls : List Request
+calls =
+    asks 3 2 (place 1 0 0) ∷ asks 7 9 (place 1 7 7) ∷ asks 3 3 (place 1 0 1) ∷ asks 3 100 (place 1 0 0) ∷ []
+
+-- here a call is refused for its position alone
+accepted : Tables → Request → Bool
+accepted T q = isPosition T (q .from)
+
+calls-fair : Fair (λ q. q) accepted 3 [] E8 (start E8 ∷ []) calls
+unfolding asks calls accepted Fair leavesOne adds runOf passedOn passed passedOf inStageOne inStageTwo isPosition fid P Q A B C N us on layoutOf file noFile holds free tables go same numbers came endsWith class objectIs one-multiple one-dangling one-orphan made-and-taken E4-parents E5-objects E4 E5 N-made A-made E7-parents E8-objects E8 E11 E12 E13-objects E10 le bytes rows decodeFid encodeFid sameFid zeroFid zeroSlot slotOfNumbers decodeSlot encodeSlot decodeSlots encodeSlots slotNames headerSize decodeHeader stripeCount encodeHeader slotStart decodeLayout encodeLayout withHoles layoutSize isUsed decodeOwner encodeOwner layoutLength layoutBytes decodeParent encodeParent parseParent renderParent claimFrom claimFid decodeObject mark encodeObject parseObject renderObject parentRows objectRows parse join renderParents renderObjects slotsOf rowAt width isEnd place fromObject fromParent start afterPart next rowSteps countSteps rowFrom slotFrom placeFrom orElse isSomewhere isRow selfOf ownerOf tailOf holesIn isFreeParent isParent parentRow freeParent slotAt namesAt scan named namesElse namedElse objectAt isFreeObject isObject objectRow freeObject objectIn objectInRow objectOf sameOwner claimIn claimsParent claimsIndex inClaimed atClaimed keeperBy keeper isPlace claimIs takeable slotWay rowWay way isWay ownRight headerClass claimClass keeperClass slotClassOf slotClass unnamedClass objectClassOf objectClass only headerNumbers slotNumbers objectNumbers putParent putObject applyWrite applyWrites creates adopts withSlots withSlot ownHeader withOwn withOwner withClaim destroyed repairHeader newObject usable redirectTo redirect makeObject rewrite rewriteAt writeClaim writeOwner repairSlot destroy slotFor ownerWrites settle made grown makeParent destroyAt destroyNamed adoptBy adopt repairObject slotStep partStep objectStep stepAt counts noCounts countOf addCounts halt after onStep run
+calls-fair = (
+  (λ e. record { same-policy = refl; same-reserve = refl; handed = List·Memᴰ·head refl }),
+  (
+    (λ e. absurd (true≢false (sym e))),
+    (
+      (λ e. record { same-policy = refl; same-reserve = refl; handed = List·Memᴰ·tail (List·Memᴰ·tail (List·Memᴰ·head refl)) }),
+      (
+        (λ e. record { same-policy = refl; same-reserve = refl; handed = List·Memᴰ·head refl }),
+        tt,
+      ),
+    ),
+  ),
+)
+
+E8-different : allDifferent (join E7-parents) (join E8-objects) ≡ true
+unfolding fid P A C us on layoutOf file holds free E7-parents E8-objects le bytes rows decodeFid encodeFid sameFid zeroFid encodeSlot encodeSlots isUsed claimFid parentRows objectRows join selfFid hasSelf noneTwice allDifferent
+E8-different = refl
+
+-- so all that is promised of a list of calls holds of these
+calls-promise : Promise (λ q. q) accepted 3 [] E8 calls
+unfolding E8 tables
+calls-promise = promise 3 [] E8 (checked-distinct (join E7-parents) (join E8-objects) E8-different) (λ q. q) accepted calls calls-fair

@@ -16,9 +16,9 @@ pub const MAX_SLOTS: usize = 160;
 // The greatest OST index.
 pub const MAX_INDEX: u32 = 65535;
 
-const MAGIC_ONE: u32 = 0x0bd1_0bd0;
+pub const MAGIC_ONE: u32 = 0x0bd1_0bd0;
 
-const MAGIC_THREE: u32 = 0x0bd3_0bd0;
+pub const MAGIC_THREE: u32 = 0x0bd3_0bd0;
 
 const PLAIN_PATTERN: u32 = 1;
 
@@ -415,7 +415,7 @@ fn allowed_numbers(numbers: &[u64], count: usize, holes: bool) -> bool
 }
 
 // Whether the writer takes these fields, this pool name and these slots.
-fn may_write(h: Header, count: usize, pool: &[u8], numbers: &[u64]) -> bool
+pub fn may_write(h: Header, count: usize, pool: &[u8], numbers: &[u64]) -> bool
     ensures { λ r. ⌜ r ≡ writable h count (now (pool .entry)) (now (numbers .entry)) ⌝ }
 {
     if MAX_SLOTS < count {

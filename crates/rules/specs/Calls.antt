@@ -36,6 +36,12 @@ passed policy reserve (suc n) T p =
 unfoldable pub passedOf : Request → Tables → List Position
 passedOf q T = passed (q .policy) (q .reserve) (q .steps) T (q .from)
 
+-- "They share policy and reserve"; each is handed one of the positions `ps`
+pub record Follows (policy : ℕ) (reserve : List OstFid) (ps : List Position) (q : Request) : Type 0 where
+  pub same-policy : q .policy ≡ policy
+  pub same-reserve : q .reserve ≡ reserve
+  pub handed : List·Memᴰ (q .from) ps
+
 -- calls of any kind, by what they ask and by which of them the check of the input accepts, of the tables as they stand.
 -- "A refused one may have any policy, reserve and position and changes nothing"
 module _ {Call : Type 0} (request : Call → Request) (accepted : Tables → Call → Bool) where
@@ -62,13 +68,7 @@ module _ {Call : Type 0} (request : Call → Request) (accepted : Tables → Cal
       ((accepted T c ≡ true) × (runOf (request c) T .report .position ≡ place 3 0 0)) ⊎ Reached (leaves T c) cs
 
   module _ (policy : ℕ) (reserve : List OstFid) where
-    -- "They share policy and reserve"; each is handed one of the positions `ps`
-    pub record Fits (ps : List Position) (q : Request) : Type 0 where
-      pub same-policy : q .policy ≡ policy
-      pub same-reserve : q .reserve ≡ reserve
-      pub handed : List·Memᴰ (q .from) ps
-
     -- "The first is handed the start, a later one the start or a position that an earlier one passed": `ps` begins as the start alone
     unfoldable pub Fair : Tables → List Position → List Call → Type 0
     Fair T ps [] = Unit {0}
-    Fair T ps (c ∷ cs) = (accepted T c ≡ true → Fits ps (request c)) × Fair (leaves T c) (ps ++ adds T c) cs
+    Fair T ps (c ∷ cs) = (accepted T c ≡ true → Follows policy reserve ps (request c)) × Fair (leaves T c) (ps ++ adds T c) cs

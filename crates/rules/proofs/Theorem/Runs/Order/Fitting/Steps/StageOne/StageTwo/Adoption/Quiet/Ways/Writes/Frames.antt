@@ -12,7 +12,8 @@ unfoldable pub headerQuiet : ParentRow → Bool
 headerQuiet w = quietHeader (headerClass w)
 
 -- a header with the own id and sequence of its row is quiet
-pub header-right : (p : Parent) → p .layout .header .oid ≡ p .self .0 .oid → p .layout .header .seq ≡ p .self .0 .seq → headerQuiet (parent p) ≡ true
+pub header-right : (p : Parent) → p .layout .header .oid ≡ p .self .0 .oid → p .layout .header .seq ≡ p .self .0 .seq →
+    headerQuiet (parent p) ≡ true
 unfolding headerQuiet headerClass quietHeader ownRight
 header-right p i s = ap (λ b. quietHeader (cond b CLEAN-HEADER SELF)) (and-both (eq-eqb _ _ i) (eq-eqb _ _ s))
 
@@ -26,7 +27,8 @@ module _ {A : Type 0} (l : List A) (i : ℕ) (a d : A) where
       go (yes h) = rw (getD-set-same l i a d h) new
       go (no n) = rw (set-out l i a (omega arith)) old
 
-  pub set-pointwise : (P : A → Type 0) (k : ℕ) → (k ≡ i → P (getD l i d)) → (k ≡ i → P a) → ((k ≡ i → ⊥) → P (getD l k d)) → P (getD (set l i a) k d)
+  pub set-pointwise : (P : A → Type 0) (k : ℕ) → (k ≡ i → P (getD l i d)) → (k ≡ i → P a) → ((k ≡ i → ⊥) → P (getD l k d)) →
+      P (getD (set l i a) k d)
   set-pointwise P k old new other = go (ℕ-discrete k i)
     where
       go : Dec (k ≡ i) → P (getD (set l i a) k d)
@@ -46,30 +48,26 @@ pub object-first : (T : Tables) (f : OstFid) → First (λ o. isObject f (object
 unfolding objectRow
 object-first T f = first-of (length (T .objects)) (λ o. isObject f (objectAt T o)) (object-inside T f)
 
-
-
 pub object-found : (T : Tables) (f : OstFid) {o : ℕ} → objectRow T f ≡ RowIs o → isObject f (objectAt T o) ≡ true
 object-found T f e = first-is (object-first T f) e
 
 pub object-missing : (T : Tables) (f : OstFid) → objectRow T f ≡ NoRow → (o : ℕ) → isObject f (objectAt T o) ≡ false
 object-missing T f e = first-none (object-first T f) e
 
--- the row that holds the FID is the one that is found
-pub object-here : (T : Tables) (f : OstFid) (o : ℕ) → OneObject T → isObject f (objectAt T o) ≡ true → objectOf T f ≡ objectIn (objectAt T o)
-unfolding objectOf objectInRow objectAt
-object-here T f o one e = rw (first-unique (object-first T f) (first-only e (λ k t. one k o f t e)))
-
 -- a write to a row that neither held the FID nor comes to hold it
-pub object-frame : (T : Tables) (o : ℕ) (y : ObjectRow) (g : OstFid) → isObject g (objectAt T o) ≡ false → isObject g y ≡ false → objectOf (putObject T o y) g ≡ objectOf T g
+pub object-frame : (T : Tables) (o : ℕ) (y : ObjectRow) (g : OstFid) → isObject g (objectAt T o) ≡ false → isObject g y ≡ false →
+    objectOf (putObject T o y) g ≡ objectOf T g
 unfolding objectOf objectInRow objectAt putObject
 object-frame T o y g old new = ap (objectInRow (S .objects)) rows ∙ go (objectRow T g) refl
   where
     S : Tables
     S = putObject T o y
+
     rows : objectRow S g ≡ objectRow T g
     rows = first-unique (object-first S g)
         (first-ext (λ k. set-pointwise (T .objects) o y (noObject []) (λ w. isObject g w ≡ isObject g (getD (T .objects) k (noObject []))) k
-          (λ e. rw e) (λ e. new ∙ sym (rw e old)) (λ n. refl)) (object-first T g))
+        (λ e. rw e) (λ e. new ∙ sym (rw e old)) (λ n. refl)) (object-first T g))
+
     go : (a : Row) → objectRow T g ≡ a → objectInRow (S .objects) a ≡ objectInRow (T .objects) a
     go NoRow e = refl
     go (RowIs k) e = ap objectIn (set-pointwise (T .objects) o y (noObject []) (λ w. w ≡ getD (T .objects) k (noObject [])) k
@@ -77,9 +75,11 @@ object-frame T o y g old new = ap (objectInRow (S .objects)) rows ∙ go (object
 
 -- ## Slots
 -- a write to a parent row, looked at from anywhere, by a function of the row
-pub row-frame : {A : Type 0} (f : ParentRow → A) (T : Tables) (r : ℕ) (w : ParentRow) → f w ≡ f (rowAt T r) → (k : ℕ) → f (rowAt (putParent T r w) k) ≡ f (rowAt T k)
+pub row-frame : {A : Type 0} (f : ParentRow → A) (T : Tables) (r : ℕ) (w : ParentRow) → f w ≡ f (rowAt T r) → (k : ℕ) →
+    f (rowAt (putParent T r w) k) ≡ f (rowAt T k)
 unfolding rowAt putParent
-row-frame f T r w h k = set-pointwise (T .parents) r w (noParent []) (λ v. f v ≡ f (getD (T .parents) k (noParent []))) k (λ e. rw e) (λ e. rw e h) (λ n. refl)
+row-frame f T r w h k =
+    set-pointwise (T .parents) r w (noParent []) (λ v. f v ≡ f (getD (T .parents) k (noParent []))) k (λ e. rw e) (λ e. rw e h) (λ n. refl)
 
 pub row-other : (T : Tables) (r : ℕ) (w : ParentRow) (k : ℕ) → (k ≡ r → ⊥) → rowAt (putParent T r w) k ≡ rowAt T k
 unfolding rowAt putParent
@@ -129,7 +129,8 @@ unfolding slotsOf withSlot withSlots
 with-same (noParent b) j s h = absurd (omega arith)
 with-same (parent p) j s h = getD-set-same (p .layout .slots) j s Hole h
 
-with-either : (P : Slot → Type 0) (w : ParentRow) (j : ℕ) (s : Slot) → P (getD (slotsOf w) j Hole) → P s → P (getD (slotsOf (withSlot w j s)) j Hole)
+with-either : (P : Slot → Type 0) (w : ParentRow) (j : ℕ) (s : Slot) → P (getD (slotsOf w) j Hole) → P s →
+    P (getD (slotsOf (withSlot w j s)) j Hole)
 unfolding slotsOf withSlot withSlots
 with-either P (noParent b) j s old new = old
 with-either P (parent p) j s old new = set-either (p .layout .slots) j s Hole P old new
@@ -173,10 +174,12 @@ module _ (T : Tables) (r j : ℕ) (s : Slot) where
 
   pub slot-either : (P : Slot → Type 0) → P (slotAt T r j) → P s → P (slotAt (putSlot T r j s) r j)
   unfolding putSlot withSlot slotAt putParent rowAt
-  slot-either P old new = set-either (T .parents) r _ (noParent []) (λ v. P (getD (slotsOf v) j Hole)) old (with-either P (rowAt T r) j s old new)
+  slot-either P old new =
+      set-either (T .parents) r _ (noParent []) (λ v. P (getD (slotsOf v) j Hole)) old (with-either P (rowAt T r) j s old new)
 
   -- what holds of a slot after the write: of the old slot and the new one, and of every other
-  pub slot-pointwise : (P : Slot → Type 0) (k i : ℕ) → (k ≡ r → i ≡ j → P (slotAt T k i)) → (k ≡ r → i ≡ j → P s) → ((k ≡ r → i ≡ j → ⊥) → P (slotAt T k i)) → P (slotAt (putSlot T r j s) k i)
+  pub slot-pointwise : (P : Slot → Type 0) (k i : ℕ) → (k ≡ r → i ≡ j → P (slotAt T k i)) → (k ≡ r → i ≡ j → P s) →
+      ((k ≡ r → i ≡ j → ⊥) → P (slotAt T k i)) → P (slotAt (putSlot T r j s) k i)
   slot-pointwise P k i old new other = go (ℕ-discrete k r) (ℕ-discrete i j)
     where
       go : Dec (k ≡ r) → Dec (i ≡ j) → P (slotAt (putSlot T r j s) k i)
@@ -195,7 +198,8 @@ is-here r j = and-both (eq-eqb r r refl) (eq-eqb j j refl)
 
 pub is-other : (r j k i : ℕ) → (k ≡ r → i ≡ j → ⊥) → isPlace (At r j) k i ≡ false
 unfolding isPlace
-is-other r j k i n = never (eqb r k && eqb j i) (λ e. n (sym (eqb-true r k (and-l _ (eqb j i) e))) (sym (eqb-true j i (and-r (eqb r k) _ e))))
+is-other r j k i n =
+    never (eqb r k && eqb j i) (λ e. n (sym (eqb-true r k (and-l _ (eqb j i) e))) (sym (eqb-true j i (and-r (eqb r k) _ e))))
 
 pub is-place : (a : Found) (r j : ℕ) → isPlace a r j ≡ true → a ≡ At r j
 unfolding isPlace
@@ -210,15 +214,17 @@ pub record Like (T S : Tables) (r j : ℕ) (f : OstFid) : Type 0 where
   pub keeps : isPlace (keeper S f) r j ≡ isPlace (keeper T f) r j
   pub object : isPlace (keeper T f) r j ≡ true → objectOf S f ≡ objectOf T f
 
-pub class-same : (T S : Tables) (r j : ℕ) → slotAt S r j ≡ slotAt T r j → ((f : OstFid) → namesAt T f r j ≡ true → Like T S r j f) → slotClass S r j ≡ slotClass T r j
+pub class-same : (T S : Tables) (r j : ℕ) → slotAt S r j ≡ slotAt T r j → ((f : OstFid) → namesAt T f r j ≡ true → Like T S r j f) →
+    slotClass S r j ≡ slotClass T r j
 unfolding slotClass slotClassOf namesAt slotNames
 class-same T S r j es h = ap (slotClassOf S r j) es ∙ go (slotAt T r j) h
   where
     pick : (f : OstFid) (b : Bool) → (b ≡ true → objectOf S f ≡ objectOf T f)
-      → cond b (keeperClass (selfOf (rowAt T r)) (ownerOf (rowAt T r)) j (objectOf S f)) MULTIPLE
+        → cond b (keeperClass (selfOf (rowAt T r)) (ownerOf (rowAt T r)) j (objectOf S f)) MULTIPLE
         ≡ cond b (keeperClass (selfOf (rowAt T r)) (ownerOf (rowAt T r)) j (objectOf T f)) MULTIPLE
     pick f true e = rw (e refl)
     pick f false e = refl
+
     go : (s : Slot) → ((f : OstFid) → slotNames f s ≡ true → Like T S r j f) → slotClassOf S r j s ≡ slotClassOf T r j s
     go Hole k = refl
     go (Names f n i) k =

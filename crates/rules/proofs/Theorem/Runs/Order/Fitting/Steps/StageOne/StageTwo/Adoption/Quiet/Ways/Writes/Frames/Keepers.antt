@@ -30,7 +30,9 @@ unfolding rowFrom
 first-from zero i p lo hi = absent (below-or-past p i lo hi)
 first-from (suc n) i p lo hi = go (p i) refl (first-from n (suc i) p)
   where
-    go : (b : Bool) → p i ≡ b → (((k : ℕ) → k < suc i → p k ≡ false) → ((k : ℕ) → suc i + n ≤ k → p k ≡ false) → First p (rowFrom n (suc i) p)) → First p (elim b [ true ↦ RowIs i | false ↦ rowFrom n (suc i) p ])
+    go : (b : Bool) → p i ≡ b →
+        (((k : ℕ) → k < suc i → p k ≡ false) → ((k : ℕ) → suc i + n ≤ k → p k ≡ false) → First p (rowFrom n (suc i) p)) →
+        First p (elim b [ true ↦ RowIs i | false ↦ rowFrom n (suc i) p ])
     go true e ih = found e lo
     go false e ih = ih (snoc p i lo e) (λ k h. hi k (omega arith))
 
@@ -83,32 +85,41 @@ pub data FirstPlace (P : ℕ → ℕ → Bool) : Found → Type 0 where
   first : {r j : ℕ} → P r j ≡ true → ((i : ℕ) → i < j → P r i ≡ false) → ((k i : ℕ) → k < r → P k i ≡ false) → FirstPlace P (At r j)
 
 -- the first slot of one row
-data FirstIn (P : ℕ → ℕ → Bool) (r : ℕ) : Found → Type 0 where
+pub data FirstIn (P : ℕ → ℕ → Bool) (r : ℕ) : Found → Type 0 where
   not-in : ((j : ℕ) → P r j ≡ false) → FirstIn P r Nowhere
   is-in : {j : ℕ} → P r j ≡ true → ((i : ℕ) → i < j → P r i ≡ false) → FirstIn P r (At r j)
 
-slot-from : (P : ℕ → ℕ → Bool) (r n j : ℕ) → ((k : ℕ) → k < j → P r k ≡ false) → ((k : ℕ) → j + n ≤ k → P r k ≡ false) → FirstIn P r (slotFrom r n j P)
+pub slot-from : (P : ℕ → ℕ → Bool) (r n j : ℕ) → ((k : ℕ) → k < j → P r k ≡ false) → ((k : ℕ) → j + n ≤ k → P r k ≡ false) →
+    FirstIn P r (slotFrom r n j P)
 unfolding slotFrom
 slot-from P r zero j lo hi = not-in (below-or-past (P r) j lo hi)
 slot-from P r (suc n) j lo hi = go (P r j) refl (slot-from P r n (suc j))
   where
-    go : (b : Bool) → P r j ≡ b → (((k : ℕ) → k < suc j → P r k ≡ false) → ((k : ℕ) → suc j + n ≤ k → P r k ≡ false) → FirstIn P r (slotFrom r n (suc j) P)) → FirstIn P r (elim b [ true ↦ At r j | false ↦ slotFrom r n (suc j) P ])
+    go : (b : Bool) → P r j ≡ b →
+        (((k : ℕ) → k < suc j → P r k ≡ false) → ((k : ℕ) → suc j + n ≤ k → P r k ≡ false) → FirstIn P r (slotFrom r n (suc j) P)) →
+        FirstIn P r (elim b [ true ↦ At r j | false ↦ slotFrom r n (suc j) P ])
     go true e ih = is-in e lo
     go false e ih = ih (snoc (P r) j lo e) (λ k h. hi k (omega arith))
 
-place-from : (width : ℕ → ℕ) (P : ℕ → ℕ → Bool) → ((r j : ℕ) → P r j ≡ true → j < width r) → (n r : ℕ) → ((k i : ℕ) → k < r → P k i ≡ false) → ((k i : ℕ) → r + n ≤ k → P k i ≡ false) → FirstPlace P (placeFrom n r width P)
+place-from : (width : ℕ → ℕ) (P : ℕ → ℕ → Bool) → ((r j : ℕ) → P r j ≡ true → j < width r) → (n r : ℕ) →
+    ((k i : ℕ) → k < r → P k i ≡ false) → ((k i : ℕ) → r + n ≤ k → P k i ≡ false) → FirstPlace P (placeFrom n r width P)
 unfolding placeFrom
 place-from width P within zero r lo hi = nowhere (λ k i. below-or-past (λ k. P k i) r (λ k h. lo k i h) (λ k h. hi k i h) k)
 place-from width P within (suc n) r lo hi =
-    go (slot-from P r (width r) 0 (λ k h. absurd (omega arith)) (λ k h. never (P r k) (λ e. let l = within r k e in omega arith))) (place-from width P within n (suc r))
+    go (slot-from P r (width r) 0 (λ k h. absurd (omega arith)) (λ k h. never (P r k) (λ e. let l = within r k e in omega arith)))
+    (place-from width P within n (suc r))
   where
-    go : {a : Found} → FirstIn P r a → (((k i : ℕ) → k < suc r → P k i ≡ false) → ((k i : ℕ) → suc r + n ≤ k → P k i ≡ false) → FirstPlace P (placeFrom n (suc r) width P)) → FirstPlace P (elim a [ At k j ↦ At k j | Nowhere ↦ placeFrom n (suc r) width P ])
+    go : {a : Found} → FirstIn P r a →
+        (((k i : ℕ) → k < suc r → P k i ≡ false) → ((k i : ℕ) → suc r + n ≤ k → P k i ≡ false) → FirstPlace P (placeFrom n (suc r) width P)) →
+        FirstPlace P (elim a [ At k j ↦ At k j | Nowhere ↦ placeFrom n (suc r) width P ])
     go (not-in f) ih = ih (λ k i h. snoc (λ k. P k i) r (λ k h. lo k i h) (f i) k h) (λ k i h. hi k i (omega arith))
     go (is-in e f) ih = first e f lo
 
-pub first-place : (rows : ℕ) (width : ℕ → ℕ) (P : ℕ → ℕ → Bool) → ((r j : ℕ) → P r j ≡ true → (r < rows) × (j < width r)) → FirstPlace P (placeFrom rows 0 width P)
+pub first-place : (rows : ℕ) (width : ℕ → ℕ) (P : ℕ → ℕ → Bool) → ((r j : ℕ) → P r j ≡ true → (r < rows) × (j < width r)) →
+    FirstPlace P (placeFrom rows 0 width P)
 first-place rows width P inside =
-    place-from width P (λ r j e. inside r j e .1) rows 0 (λ k i h. absurd (omega arith)) (λ k i h. never (P k i) (λ e. let l = inside k i e in omega arith))
+    place-from width P (λ r j e. inside r j e .1) rows 0 (λ k i h. absurd (omega arith))
+    (λ k i h. never (P k i) (λ e. let l = inside k i e in omega arith))
 
 pub place-unique : {P : ℕ → ℕ → Bool} {a b : Found} → FirstPlace P a → FirstPlace P b → a ≡ b
 place-unique (nowhere f) (nowhere g) = refl
@@ -130,7 +141,8 @@ place-only {P} {r} e only =
     (λ s k h. never (P s k) (λ t. let q = only s k t in omega arith))
 
 -- fewer pass, and the first is among them
-place-sub : {P Q : ℕ → ℕ → Bool} {a : Found} → ((r j : ℕ) → Q r j ≡ true → P r j ≡ true) → ((r j : ℕ) → a ≡ At r j → Q r j ≡ true) → FirstPlace P a → FirstPlace Q a
+place-sub : {P Q : ℕ → ℕ → Bool} {a : Found} → ((r j : ℕ) → Q r j ≡ true → P r j ≡ true) → ((r j : ℕ) → a ≡ At r j → Q r j ≡ true) →
+    FirstPlace P a → FirstPlace Q a
 place-sub {P} {Q} sub keep (nowhere f) = nowhere (λ r j. off (Q r j) (P r j) (sub r j) (f r j))
 place-sub {P} {Q} sub keep (first {r = r} {j = j} e f f′) =
     first (keep r j refl) (λ k l. off (Q r k) (P r k) (sub r k) (f k l)) (λ s k l. off (Q s k) (P s k) (sub s k) (f′ s k l))
@@ -149,11 +161,13 @@ named-inside T f r j e = (rows (decLt r (length (T .parents))), parts (decLt j (
     parts : Dec (j < length (slotsOf (rowAt T r))) → j < length (slotsOf (rowAt T r))
     parts (yes h) = h
     parts (no n) = clash e (ap (slotNames f) (List·getD-eq-default (slotsOf (rowAt T r)) Hole (omega arith)))
+
     rows : Dec (r < length (T .parents)) → r < length (T .parents)
     rows (yes h) = h
     rows (no n) = clash e (ap (λ w. slotNames f (getD (slotsOf w) j Hole)) (List·getD-eq-default (T .parents) (noParent []) (omega arith)))
 
-pub scan-first : (T : Tables) (f : OstFid) (P : ℕ → ℕ → Bool) → ((r j : ℕ) → P r j ≡ true → namesAt T f r j ≡ true) → FirstPlace P (scan T P)
+pub scan-first : (T : Tables) (f : OstFid) (P : ℕ → ℕ → Bool) → ((r j : ℕ) → P r j ≡ true → namesAt T f r j ≡ true) →
+    FirstPlace P (scan T P)
 unfolding scan
 scan-first T f P h = first-place (length (T .parents)) (width T) P (λ r j e. named-inside T f r j (h r j e))
 
@@ -189,7 +203,8 @@ or-kept Nowhere e k = rw e (k refl)
 or-kept (At r j) e k = rw e
 
 -- one search: fewer pass, and what was found still passes
-same-found : {P Q : ℕ → ℕ → Bool} {a b : Found} → FirstPlace P a → FirstPlace Q b → ((r j : ℕ) → Q r j ≡ true → P r j ≡ true) → ((r j : ℕ) → a ≡ At r j → Q r j ≡ true) → b ≡ a
+same-found : {P Q : ℕ → ℕ → Bool} {a b : Found} → FirstPlace P a → FirstPlace Q b → ((r j : ℕ) → Q r j ≡ true → P r j ≡ true) →
+    ((r j : ℕ) → a ≡ At r j → Q r j ≡ true) → b ≡ a
 same-found f g sub keep = place-unique g (place-sub sub keep f)
 
 pub keeper-kept : (T S : Tables) (f : OstFid) (c : Claim) → Kept T S f c → keeperBy S f c ≡ keeperBy T f c
@@ -198,29 +213,42 @@ keeper-kept T S f c k = or-kept a1 third (λ e1. or-kept a2 (second e1) (λ e2. 
   where
     a1 : Found
     a1 = scan T (atClaimed T f c)
+
     a2 : Found
     a2 = scan T (inClaimed T f c)
+
     -- a place that named the FID, and still does, is in the claimed parent if it was
     in-lift : (r j : ℕ) → namesAt S f r j ≡ true → inClaimed T f c r j ≡ true → inClaimed S f c r j ≡ true
     in-lift r j n e = and-both n (k .selves r j (and-l _ (claimsParent c (rowAt T r)) e) ∙ and-r (namesAt T f r j) _ e)
+
     in-sub : (r j : ℕ) → inClaimed S f c r j ≡ true → inClaimed T f c r j ≡ true
     in-sub r j e =
         let n = k .fewer r j (and-l _ (claimsParent c (rowAt S r)) e) in
         and-both n (sym (k .selves r j n) ∙ and-r (namesAt S f r j) _ e)
+
     at-sub : (r j : ℕ) → atClaimed S f c r j ≡ true → atClaimed T f c r j ≡ true
     at-sub r j e = and-both (in-sub r j (and-l (inClaimed S f c r j) (claimsIndex c j) e)) (and-r (inClaimed S f c r j) _ e)
+
     at-lift : (r j : ℕ) → namesAt S f r j ≡ true → atClaimed T f c r j ≡ true → atClaimed S f c r j ≡ true
     at-lift r j n e = and-both (in-lift r j n (and-l (inClaimed T f c r j) (claimsIndex c j) e)) (and-r (inClaimed T f c r j) _ e)
+
     still : (r j : ℕ) → keeperBy T f c ≡ At r j → namesAt S f r j ≡ true
     still r j e = k .still r j e
+
     third : scan S (atClaimed S f c) ≡ a1
-    third = same-found (first-at T f c) (first-at S f c) at-sub (λ r j e. at-lift r j (still r j (rw e)) (found-passes (first-at T f c) r j e))
+    third =
+        same-found (first-at T f c) (first-at S f c) at-sub (λ r j e. at-lift r j (still r j (rw e)) (found-passes (first-at T f c) r j e))
+
     second : a1 ≡ Nowhere → scan S (inClaimed S f c) ≡ a2
-    second e1 = same-found (first-in T f c) (first-in S f c) in-sub (λ r j e. in-lift r j (still r j (rw (e1, e))) (found-passes (first-in T f c) r j e))
+    second e1 =
+        same-found (first-in T f c) (first-in S f c) in-sub
+        (λ r j e. in-lift r j (still r j (rw (e1, e))) (found-passes (first-in T f c) r j e))
+
     last : a1 ≡ Nowhere → a2 ≡ Nowhere → scan S (namesAt S f) ≡ scan T (namesAt T f)
     last e1 e2 = same-found (first-any T f c) (first-any S f c) (k .fewer) (λ r j e. still r j (rw (e1, e2, e)))
 
-or-cases : (P : ℕ → ℕ → Type 0) (a : Found) {b : Found} → ((r j : ℕ) → a ≡ At r j → P r j) → ((r j : ℕ) → b ≡ At r j → P r j) → (r j : ℕ) → orElse a b ≡ At r j → P r j
+or-cases : (P : ℕ → ℕ → Type 0) (a : Found) {b : Found} → ((r j : ℕ) → a ≡ At r j → P r j) → ((r j : ℕ) → b ≡ At r j → P r j) → (r j : ℕ) →
+    orElse a b ≡ At r j → P r j
 unfolding orElse
 or-cases P Nowhere h k r j e = k r j e
 or-cases P (At s i) h k r j e = h r j e
@@ -253,18 +281,23 @@ abbrev pub OneObject : Tables → Type 0
 OneObject T = (o q : ℕ) (f : OstFid) → isObject f (objectAt T o) ≡ true → isObject f (objectAt T q) ≡ true → o ≡ q
 
 -- a claimed slot that names the FID is its keeper
-pub keeper-claimed : (T : Tables) (f : OstFid) (r j : ℕ) → OneParent T → namesAt T f r j ≡ true → keeperBy T f (Claims (selfOf (rowAt T r)) j) ≡ At r j
+pub keeper-claimed : (T : Tables) (f : OstFid) (r j : ℕ) → OneParent T → namesAt T f r j ≡ true →
+    keeperBy T f (Claims (selfOf (rowAt T r)) j) ≡ At r j
 unfolding keeperBy orElse atClaimed inClaimed claimsParent claimsIndex
 keeper-claimed T f r j one e = rw here
   where
     c : Claim
     c = Claims (selfOf (rowAt T r)) j
+
     at-here : atClaimed T f c r j ≡ true
     at-here = and-both (and-both e (named-parent T f r j e)) (eq-eqb j j refl)
+
     only : (s k : ℕ) → atClaimed T f c s k ≡ true → (s ≡ r) × (k ≡ j)
     only s k t =
-        let t1 : inClaimed T f c s k ≡ true = and-l (inClaimed T f c s k) (claimsIndex c k) t in
-        ( one s r (selfOf (rowAt T r)) (and-r (namesAt T f s k) _ t1) (named-parent T f r j e)
-        , sym (eqb-true j k (and-r (inClaimed T f c s k) _ t)))
+        let t1 : inClaimed T f c s k ≡ true = and-l (inClaimed T f c s k) (claimsIndex c k) t in (
+          one s r (selfOf (rowAt T r)) (and-r (namesAt T f s k) _ t1) (named-parent T f r j e),
+          sym (eqb-true j k (and-r (inClaimed T f c s k) _ t)),
+        )
+
     here : scan T (atClaimed T f (Claims (selfOf (rowAt T r)) j)) ≡ At r j
     here = place-unique (first-at T f c) (place-only at-here only)

@@ -1,26 +1,32 @@
 -- The names that the laws of the rules share, and the tests on truth values and FIDs that they use.
-pub use Prim.Native.Nat.{ℕ, zero, suc, _+_, _-_, _*_, _≤_, _<_}
+pub use Prim.Native.Nat.{ℕ, zero, suc, _+_, _-_, _*_, _≤_, _<_, _^_}
 pub use native.Mathlib.Omega.{arith}
 pub use native.Mathlib.Decide.{decLt, ℕ-discrete}
-pub use native.Mathlib.Nat.{suc-add, zero-add, add-assoc}
+pub use native.Mathlib.Nat.{suc-add, zero-add}
 pub use mathlib.Core.Path.{_≡_, refl, sym, ap, ap₂, subst, _∙_}
 pub use mathlib.Core.Bool.{Bool, true, false, not, cond, _&&_, _||_, true≢false}
-pub use mathlib.Core.List.{List, [], _∷_, _++_, append-nil, append-assoc, List·Memᴰ, List·Memᴰ·head, List·Memᴰ·append-cases, List·Memᴰ·cases-cons, List·Memᴰ·not-nil, List·Memᴰ·eq-of-singleton}
+pub use mathlib.Core.List.{List, [], _∷_, _++_, append-nil, List·Memᴰ, List·Memᴰ·head, List·Memᴰ·tail, List·Memᴰ·append-cases, Memᴰ·append-left, Memᴰ·append-right, List·Memᴰ·cases-cons, List·Memᴰ·eq-of-singleton}
 pub use mathlib.Core.Logic.{_⊎_, inl, inr}
-pub use lib.ListN.{length, getD, set, drop, replicate, length-set, length-append, length-replicate, length-drop, List·getD-eq-default}
+pub use lib.ListN.{length, getD, set, drop, replicate, length-set, length-append, length-replicate, length-drop, drop-of-length-le, List·getD-eq-default}
 pub use lib.Seq.{getD-set-same, getD-set-other, set-out, set-set, set-comm, set-getD, getD-drop, drop-cons}
 pub use lib.Dec.{eqb, ltb, leb}
-pub use borrow.Author.Tests.{eqb-true, eq-eqb, ne-eqb, not-true, ltb-true, ltb-false, lt-ltb, le-ltb, leb-true, le-leb, lt-leb}
-unfoldable pub use Rattle.fid.specs.Fid.{sameFid, zeroFid}
+pub use borrow.Author.Tests.{eqb-true, eq-eqb, not-true, ltb-true, ltb-false, lt-ltb, le-ltb, leb-true, le-leb}
+unfoldable pub use Rattle.fid.specs.Fid.{sameFid, goodFid}
+pub use Rattle.fid.proofs.FidLaws.{Fits}
 pub use Rattle.fid.specs.declared.Fid.{Fid}
 pub use Rattle.fid.specs.declared.MdtFid.{MdtFid}
 pub use Rattle.fid.specs.declared.OstFid.{OstFid}
-unfoldable pub use Rattle.layout.specs.Slot.{slotNames}
-pub use Rattle.layout.specs.Layout.{Layout, magicOne, holePattern, maxSlots}
-unfoldable pub use Rattle.layout.specs.Layout.{layoutSize, withHoles}
+pub use Rattle.layout.specs.Slot.{maxIndex}
+unfoldable pub use Rattle.layout.specs.Slot.{slotNames, allowedSlot, allowedSlots}
+pub use Rattle.layout.specs.Layout.{Layout, maxSlots}
+unfoldable pub use Rattle.layout.specs.Layout.{headerSize, layoutSize, withHoles, knownVersion, knownPattern, fewSlots, layoutRules}
+unfoldable pub use Rattle.layout.proofs.SlotLaws.{FitSlot, FitSlots}
+pub use Rattle.layout.proofs.HeaderLaws.{size-most}
+pub use Rattle.layout.proofs.LayoutLaws.{Writable, rules-few, rules-slots, allowed-set}
 pub use Rattle.layout.specs.declared.Header.{Header}
 pub use Rattle.layout.specs.declared.Slot.{Slot}
 pub use Rattle.layout.specs.declared.Slot.the-variants.{Hole, Names}
+pub use Rattle.tables.specs.Bytes.{parentSize, objectSize}
 pub use Rattle.tables.specs.Records.{Parent, ParentRow, noParent, parent, ObjectRow, noObject, object, Tables}
 unfoldable pub use Rattle.tables.specs.Positions.{slotsOf, rowAt, width, inStageOne, inStageTwo, isEnd, isPosition, place, fromObject, fromParent, start, afterPart, next, rowSteps, countSteps}
 pub use Rattle.tables.specs.declared.Owner.{Owner}
@@ -45,7 +51,7 @@ pub use Rattle.rules.specs.declared.SlotClass.the-variants.{HOLE, MULTIP
 pub use Rattle.rules.specs.declared.ObjectClass.{ObjectClass}
 pub use Rattle.rules.specs.declared.ObjectClass.the-variants.{UNUSED, KEPT, SPARE, EMPTY, ORPHAN, CONFLICT}
 pub use Rattle.rules.specs.declared.Repair.{Repair}
-pub use Rattle.rules.specs.declared.Repair.the-variants.{OfSelf, OfMultiple, OfDangling, OfBlank, OfUnmatched, OfOwner, OfEmpty, OfOrphan}
+pub use Rattle.rules.specs.declared.Repair.the-variants.{OfBlank, OfUnmatched, OfOwner, OfEmpty}
 pub use Rattle.rules.specs.declared.Counts.{Counts}
 pub use Rattle.rules.specs.declared.Report.{Report}
 unfoldable pub use Rattle.rules.specs.Search.{rowFrom, slotFrom, placeFrom, orElse, isSomewhere, isRow}
@@ -58,9 +64,9 @@ unfoldable pub use Rattle.rules.specs.Repairs.{putParent, putObject, app
 unfoldable pub use Rattle.rules.specs.Steps.{slotStep, partStep, objectStep, stepAt}
 pub use Rattle.rules.specs.Runs.{Run}
 unfoldable pub use Rattle.rules.specs.Runs.{stepTables, counts, noCounts, countOf, addCounts, halt, after, onStep, run}
-pub use Rattle.rules.specs.Calls.{Request, Fits}
+pub use Rattle.rules.specs.Calls.{Request, Follows}
 unfoldable pub use Rattle.rules.specs.Calls.{runOf, passedOn, passed, passedOf, leaves, adds, tablesAfter, passedAfter, Reached, Fair}
-pub use Rattle.rules.specs.Promises.{Distinct, HeldAlone, UncutRun, Promise}
+pub use Rattle.rules.specs.Promises.{Distinct, UncutRun, Promise}
 unfoldable pub use Rattle.rules.specs.Promises.{OwnSlot, OthersKeepClass, NotDestroyed, Settled, then, uncut, Ended}
 
 -- ## Truth values
@@ -92,6 +98,10 @@ and-both p q = rw (p, q)
 pub or-false : (a b : Bool) → (a || b) ≡ false → (a ≡ false) × (b ≡ false)
 or-false true b e = clash refl e
 or-false false b e = (refl, e)
+
+pub or-true : (a b : Bool) → (a || b) ≡ true → (a ≡ true) ⊎ (b ≡ true)
+or-true true b e = inl refl
+or-true false b e = inr e
 
 -- ## Numbers
 

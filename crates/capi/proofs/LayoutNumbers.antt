@@ -1,0 +1,304 @@
+-- Layouts as numbers, case by case. Assumes nothing.
+use mathlib.Core.Path.{_≡_, refl, sym, ap, _∙_}
+use mathlib.Core.List.{List, [], _∷_, _++_}
+use mathlib.Core.Bool.{Bool, true, false, cond, _&&_, _||_}
+use Prim.Native.Nat.{ℕ, _+_, _≤_, _<_}
+use borrow.Author.Tests.{eq-eqb, ne-eqb, le-leb, lt-leb, eqb-true, leb-true}
+use native.Mathlib.Omega.{arith}
+use lib.Dec.{eqb, leb}
+use lib.ListN.{length, getD, set}
+use lib.Seq.{sets}
+use Rattle.wire.proofs.Both.{and-first, and-second}
+use Rattle.layout.specs.Layout.{magicOne, magicThree, headerSize, layoutSize}
+use Rattle.layout.specs.Answers.{readLayout, readNumber, readSlot, slotReadNumber, givenFrom, givenAt, writable, writeLayout, writtenNumber, leftBy, writeBytes, rewriteAnswer, rewriteBytes}
+use Rattle.fid.specs.declared.OstFid.{OstFid}
+use Rattle.layout.specs.declared.Header.{Header}
+use Rattle.layout.specs.declared.Slot.{Slot}
+use Rattle.layout.specs.declared.Slot.the-variants.{Hole, Names}
+use Rattle.layout.specs.declared.Reading.{Reading}
+use Rattle.layout.specs.declared.Reading.the-variants.{Refused, Accepted}
+use Rattle.layout.specs.declared.SlotRead.{SlotRead}
+use Rattle.layout.specs.declared.SlotRead.the-variants.{BadLayout, NoSlot, SlotIs}
+use Rattle.layout.specs.declared.Given.{Given}
+use Rattle.layout.specs.declared.Given.the-variants.{NotSlot, GivenSlot}
+use Rattle.layout.specs.declared.Written.{Written}
+use Rattle.layout.specs.declared.Written.the-variants.{BadFields, TooShort, Bytes}
+use Rattle.capi.specs.declared.layouts.HeaderGiven.{HeaderGiven}
+use Rattle.capi.specs.declared.layouts.HeaderGiven.the-variants.{NotHeader, HeaderIs}
+use Rattle.capi.specs.Out.{outAnswer, outNumbers}
+use Rattle.capi.specs.Layouts.{versionOf, headerFields, readFields, slotFields, slotReadFields, magicOf, isVersion, fieldsFit, fieldsHeader, fieldsCount, headerGiven, writeNumber, writeValues, writeAnswer, writeDest, rewriteGiven, givenLeft, rewriteNumber, rewriteLeft}
+use Rattle.capi.proofs.OutLaws.{out-refused, out-short, out-done, two-runs}
+
+-- ## Versions
+
+pub version-three : (m h : ℕ) → h ≡ headerSize m → h ≡ 48 → 3 ≡ versionOf m
+unfolding headerSize versionOf
+version-three m h e k = go (eqb m magicThree) (sym e ∙ k)
+  where
+    go : (b : Bool) → cond {A = ℕ} b 48 32 ≡ 48 → 3 ≡ cond {A = ℕ} b 3 1
+    go true q = refl
+    go false q = absurd (omega (arith, q))
+
+pub version-one : (m h : ℕ) → h ≡ headerSize m → (h ≡ 48 → ⊥) → 1 ≡ versionOf m
+unfolding headerSize versionOf
+version-one m h e k = go (eqb m magicThree) (λ q. k (e ∙ q))
+  where
+    go : (b : Bool) → (cond {A = ℕ} b 48 32 ≡ 48 → ⊥) → 1 ≡ cond {A = ℕ} b 3 1
+    go true q = absurd (q refl)
+    go false q = refl
+
+pub is-one : (v : ℕ) → v ≡ 1 → true ≡ isVersion v
+unfolding isVersion
+is-one v e = rw (eq-eqb v 1 e)
+
+pub is-three : (v : ℕ) → (v ≡ 1 → ⊥) → eqb v 3 ≡ isVersion v
+unfolding isVersion
+is-three v e = rw (ne-eqb v 1 e)
+
+pub magic-three : (v : ℕ) → v ≡ 3 → magicThree ≡ magicOf v
+unfolding magicOf
+magic-three v e = rw (eq-eqb v 3 e)
+
+pub magic-one : (v : ℕ) → (v ≡ 3 → ⊥) → magicOne ≡ magicOf v
+unfolding magicOf
+magic-one v e = rw (ne-eqb v 3 e)
+
+-- ## Reading
+
+pub header-put : (l x y : List ℕ) (h : Header) (n v s : ℕ) → v ≡ versionOf (h .magic) → s ≡ headerSize (h .magic) →
+    x ≡ sets l 0 (v ∷ h .pattern ∷ h .oid ∷ h .seq ∷ []) → y ≡ sets x 4 (h .stripe ∷ n ∷ h .generation ∷ s ∷ []) →
+    y ≡ sets l 0 (headerFields h n)
+unfolding headerFields
+header-put l x y h n v s p q e f = rw (← p, ← q) (two-runs l x y 4 (v ∷ h .pattern ∷ h .oid ∷ h .seq ∷ []) (h .stripe ∷ n ∷ h .generation ∷ s ∷ []) e f refl)
+
+module _ (R : Reading) (out : List ℕ) where
+  pub read-bad : R ≡ Refused → (13 ≡ outAnswer (readNumber R) (readFields R) out) × (out ≡ outNumbers (readNumber R) (readFields R) out)
+  unfolding readNumber
+  read-bad e = out-refused (readNumber R) (readFields R) out 13 (rw e) (λ z. omega (arith, z))
+
+  module _ (h : Header) (n : ℕ) (e : R ≡ Accepted h n) where
+    zero-number : readNumber R ≡ 0
+    unfolding readNumber
+    zero-number = rw e
+
+    eight : length (readFields R) ≡ 8
+    unfolding readFields headerFields
+    eight = rw e
+
+    pub read-short : length out < 8 → (17 ≡ outAnswer (readNumber R) (readFields R) out) × (out ≡ outNumbers (readNumber R) (readFields R) out)
+    read-short k = out-short (readNumber R) (readFields R) out zero-number (rw eight k)
+
+    pub read-done : (x : List ℕ) → 8 ≤ length out → x ≡ sets out 0 (headerFields h n) →
+        (0 ≡ outAnswer (readNumber R) (readFields R) out) × (x ≡ outNumbers (readNumber R) (readFields R) out)
+    unfolding readFields
+    read-done x k q = out-done (readNumber R) (readFields R) out x zero-number (rw eight k) (rw e q)
+
+fields-five : (s : Slot) → length (slotFields s) ≡ 5
+unfolding slotFields
+fields-five Hole = refl
+fields-five (Names f g i) = refl
+
+pub hole-put : (l x y : List ℕ) (s : Slot) → s ≡ Hole → x ≡ sets l 0 (0 ∷ 0 ∷ 0 ∷ 0 ∷ []) → y ≡ set x 4 0 → y ≡ sets l 0 (slotFields s)
+unfolding slotFields
+hole-put l x y s e p q = rw (e, q, p)
+
+pub names-put : (l x y : List ℕ) (s : Slot) (f : OstFid) (g i : ℕ) → s ≡ Names f g i → x ≡ sets l 0 (1 ∷ f .0 .seq ∷ f .0 .oid ∷ g ∷ []) → y ≡ set x 4 i →
+    y ≡ sets l 0 (slotFields s)
+unfolding slotFields
+names-put l x y s f g i e p q = rw (e, q, p)
+
+module _ (R : SlotRead) (out : List ℕ) where
+  pub slot-bad : R ≡ BadLayout → (13 ≡ outAnswer (slotReadNumber R) (slotReadFields R) out) × (out ≡ outNumbers (slotReadNumber R) (slotReadFields R) out)
+  unfolding slotReadNumber
+  slot-bad e = out-refused (slotReadNumber R) (slotReadFields R) out 13 (rw e) (λ z. omega (arith, z))
+
+  pub slot-none : R ≡ NoSlot → (16 ≡ outAnswer (slotReadNumber R) (slotReadFields R) out) × (out ≡ outNumbers (slotReadNumber R) (slotReadFields R) out)
+  unfolding slotReadNumber
+  slot-none e = out-refused (slotReadNumber R) (slotReadFields R) out 16 (rw e) (λ z. omega (arith, z))
+
+  module _ (s : Slot) (e : R ≡ SlotIs s) where
+    zero-slot : slotReadNumber R ≡ 0
+    unfolding slotReadNumber
+    zero-slot = rw e
+
+    five : length (slotReadFields R) ≡ 5
+    unfolding slotReadFields
+    five = rw e (fields-five s)
+
+    pub slot-short : length out < 5 → (17 ≡ outAnswer (slotReadNumber R) (slotReadFields R) out) × (out ≡ outNumbers (slotReadNumber R) (slotReadFields R) out)
+    slot-short k = out-short (slotReadNumber R) (slotReadFields R) out zero-slot (rw five k)
+
+    pub slot-done : (x : List ℕ) → 5 ≤ length out → x ≡ sets out 0 (slotFields s) →
+        (0 ≡ outAnswer (slotReadNumber R) (slotReadFields R) out) × (x ≡ outNumbers (slotReadNumber R) (slotReadFields R) out)
+    unfolding slotReadFields
+    slot-done x k q = out-done (slotReadNumber R) (slotReadFields R) out x zero-slot (rw five k) (rw e q)
+
+-- ## Writing
+
+module _ (l : List ℕ) where
+  pub fit-length : (length l ≡ 7 → ⊥) → false ≡ fieldsFit l
+  unfolding fieldsFit
+  fit-length h = rw (ne-eqb (length l) 7 h)
+
+  pub fit-version : length l ≡ 7 → isVersion (getD l 0 0) ≡ false → false ≡ fieldsFit l
+  unfolding fieldsFit
+  fit-version h v = rw (eq-eqb (length l) 7 h, v)
+
+  pub fit-pattern : length l ≡ 7 → isVersion (getD l 0 0) ≡ true → 0xffffffff < getD l 1 0 → false ≡ fieldsFit l
+  unfolding fieldsFit
+  fit-pattern h v p = rw (eq-eqb (length l) 7 h, v, lt-leb (getD l 1 0) 0xffffffff p)
+
+  pub fit-stripe : length l ≡ 7 → isVersion (getD l 0 0) ≡ true → getD l 1 0 ≤ 0xffffffff → 0xffffffff < getD l 4 0 → false ≡ fieldsFit l
+  unfolding fieldsFit
+  fit-stripe h v p s = rw (eq-eqb (length l) 7 h, v, le-leb (getD l 1 0) 0xffffffff p, lt-leb (getD l 4 0) 0xffffffff s)
+
+  pub fit-generation : length l ≡ 7 → isVersion (getD l 0 0) ≡ true → getD l 1 0 ≤ 0xffffffff → getD l 4 0 ≤ 0xffffffff → leb (getD l 6 0) 0xffff ≡ fieldsFit l
+  unfolding fieldsFit
+  fit-generation h v p s = rw (eq-eqb (length l) 7 h, v, le-leb (getD l 1 0) 0xffffffff p, le-leb (getD l 4 0) 0xffffffff s)
+
+-- seven numbers that fit
+pub record FitFields (l : List ℕ) : Type 0 where
+  pub seven : length l ≡ 7
+  pub pattern : getD l 1 0 ≤ 0xffffffff
+  pub stripe : getD l 4 0 ≤ 0xffffffff
+  pub generation : getD l 6 0 ≤ 0xffff
+
+pub fit-fields : (l : List ℕ) → fieldsFit l ≡ true → FitFields l
+unfolding fieldsFit
+fit-fields l f =
+    let a : Bool = eqb (length l) 7 in
+    let b : Bool = isVersion (getD l 0 0) in
+    let c : Bool = leb (getD l 1 0) 0xffffffff in
+    let d : Bool = leb (getD l 4 0) 0xffffffff in
+    let e : Bool = leb (getD l 6 0) 0xffff in
+    let abcd : (a && b && c && d) ≡ true = and-first (a && b && c && d) e f in
+    let abc : (a && b && c) ≡ true = and-first (a && b && c) d abcd in
+    let ab : (a && b) ≡ true = and-first (a && b) c abc in
+    record {
+      seven = eqb-true (length l) 7 (and-first a b ab);
+      pattern = leb-true (getD l 1 0) 0xffffffff (and-second (a && b) c abc);
+      stripe = leb-true (getD l 4 0) 0xffffffff (and-second (a && b && c) d abcd);
+      generation = leb-true (getD l 6 0) 0xffff (and-second (a && b && c && d) e f);
+    }
+
+pub header-none : (l : List ℕ) → fieldsFit l ≡ false → NotHeader ≡ headerGiven l
+unfolding headerGiven
+header-none l f = rw f
+
+pub header-is : (l : List ℕ) (m : ℕ) → fieldsFit l ≡ true → m ≡ magicOf (getD l 0 0) →
+    HeaderIs (record { magic = m; pattern = getD l 1 0; oid = getD l 2 0; seq = getD l 3 0; stripe = getD l 4 0; generation = getD l 6 0 }) ≡ headerGiven l
+unfolding headerGiven fieldsHeader
+header-is l m f e = rw (f, e)
+
+given-fits : (l : List ℕ) (b : Bool) (h : Header) → fieldsFit l ≡ b → cond b (HeaderIs (fieldsHeader l)) NotHeader ≡ HeaderIs h → (fieldsFit l ≡ true) × (fieldsHeader l ≡ h)
+given-fits l true h f e = (f, cc)
+given-fits l false h f e = let z : _≡_ {A = ℕ} 0 1 = cc in absurd (omega (arith, z))
+
+-- a header that was given is that of the fields, which fit
+pub given-is : (l : List ℕ) (h : Header) → headerGiven l ≡ HeaderIs h → (fieldsFit l ≡ true) × (fieldsHeader l ≡ h)
+unfolding headerGiven
+given-is l h e = given-fits l (fieldsFit l) h refl e
+
+given-not : (l : List ℕ) (b : Bool) → fieldsFit l ≡ b → cond b (HeaderIs (fieldsHeader l)) NotHeader ≡ NotHeader → fieldsFit l ≡ false
+given-not l true f e = let z : _≡_ {A = ℕ} 0 1 = cc in absurd (omega (arith, z))
+given-not l false f e = f
+
+pub given-none : (l : List ℕ) → headerGiven l ≡ NotHeader → fieldsFit l ≡ false
+unfolding headerGiven
+given-none l e = given-not l (fieldsFit l) refl e
+
+-- the bytes that the writer says it wrote
+pub bytes-size : (h : Header) (n : ℕ) (pool slots dest : List ℕ) (b : ℕ) → writeLayout h n pool slots dest ≡ Bytes b → b ≡ layoutSize (h .magic) n
+unfolding writeLayout
+bytes-size h n pool slots dest b e = go (writable h n pool slots) (leb (layoutSize (h .magic) n) (length dest)) e
+  where
+    go : (u v : Bool) → cond u (cond v (Bytes (layoutSize (h .magic) n)) TooShort) BadFields ≡ Bytes b → b ≡ layoutSize (h .magic) n
+    go true true q = cc
+    go true false q = let z : _≡_ {A = ℕ} 0 1 = cc in absurd (omega (arith, z))
+    go false v q = let z : _≡_ {A = ℕ} 0 1 = cc in absurd (omega (arith, z))
+
+pub count-of : (l : List ℕ) → getD l 5 0 ≡ fieldsCount l
+unfolding fieldsCount
+count-of l = refl
+
+module _ (fields pool slots dest out : List ℕ) where
+  -- what the writer leaves: the answer, the destination and the number handed out
+  abbrev pub Leaves : ℕ → List ℕ → List ℕ → Type 0
+  Leaves a d o =
+      (a ≡ writeAnswer fields pool slots dest out) × ((d ≡ writeDest fields pool slots dest out)
+      × (o ≡ outNumbers (writeNumber fields pool slots dest) (writeValues fields) out))
+
+  refused : (k : ℕ) → writeNumber fields pool slots dest ≡ k → (k ≡ 0 → ⊥) → Leaves k dest out
+  unfolding writeAnswer writeDest
+  refused k e z =
+      let r = out-refused (writeNumber fields pool slots dest) (writeValues fields) out k e z in
+      (r .0, (rw (← r .0, ne-eqb k 0 z), r .1))
+
+  pub write-none : headerGiven fields ≡ NotHeader → Leaves 13 dest out
+  unfolding writeNumber
+  write-none e = refused 13 (rw (given-none fields e)) (λ z. omega (arith, z))
+
+  module _ (h : Header) (n : ℕ) (g : headerGiven fields ≡ HeaderIs h) (c : n ≡ fieldsCount fields) where
+    number-is : writeNumber fields pool slots dest ≡ writtenNumber (writeLayout h n pool slots dest)
+    unfolding writeNumber
+    number-is = let f = given-is fields h g in rw (f .0, f .1, ← c)
+
+    pub write-refused : writable h n pool slots ≡ false → Leaves 13 dest out
+    unfolding writeLayout writtenNumber
+    write-refused w = refused 13 (number-is ∙ rw w) (λ z. omega (arith, z))
+
+    pub write-unplaced : writable h n pool slots ≡ true → length out < 1 → Leaves 17 dest out
+    unfolding writeAnswer writeDest writeValues writeLayout writtenNumber
+    write-unplaced w k = go (leb (layoutSize (h .magic) n) (length dest)) refl
+      where
+        go : (b : Bool) → leb (layoutSize (h .magic) n) (length dest) ≡ b → Leaves 17 dest out
+        go true e =
+            let z : writeNumber fields pool slots dest ≡ 0 = number-is ∙ rw (w, e) in
+            let r = out-short (writeNumber fields pool slots dest) (writeValues fields) out z k in
+            (r .0, (rw (← r .0), r .1))
+        go false e = refused 17 (number-is ∙ rw (w, e)) (λ z. omega (arith, z))
+
+    pub write-full : (d : List ℕ) → writeLayout h n pool slots dest ≡ TooShort → d ≡ writeBytes h n pool slots dest → Leaves 17 d out
+    unfolding writtenNumber writeBytes leftBy
+    write-full d w q = let e : d ≡ dest = q ∙ rw w in rw e (refused 17 (number-is ∙ rw w) (λ z. omega (arith, z)))
+
+    pub write-wrong : (d : List ℕ) → writeLayout h n pool slots dest ≡ BadFields → d ≡ writeBytes h n pool slots dest → Leaves 13 d out
+    unfolding writtenNumber writeBytes leftBy
+    write-wrong d w q = let e : d ≡ dest = q ∙ rw w in rw e (refused 13 (number-is ∙ rw w) (λ z. omega (arith, z)))
+
+    pub write-done : (b : ℕ) (d o : List ℕ) → writeLayout h n pool slots dest ≡ Bytes b → 1 ≤ length out → d ≡ writeBytes h n pool slots dest →
+        o ≡ set out 0 b → Leaves 0 d o
+    unfolding writeAnswer writeDest writtenNumber writeValues
+    write-done b d o w k p q =
+        let f = given-is fields h g in
+        let z : writeNumber fields pool slots dest ≡ 0 = number-is ∙ rw w in
+        let m : fieldsHeader fields .magic ≡ h .magic = ap (λ (x : Header). x .magic) (f .1) in
+        let v : layoutSize (fieldsHeader fields .magic) (fieldsCount fields) ≡ b = rw (m, ← c) (sym (bytes-size h n pool slots dest b w)) in
+        let r = out-done (writeNumber fields pool slots dest) (writeValues fields) out o z k (rw v q) in
+        (r .0, (rw (← r .0, f .1, ← c) p, r .1))
+
+-- ## Rewriting
+
+module _ (l : List ℕ) (j : ℕ) (slot : List ℕ) where
+  pub rewrite-uneven : (length slot ≡ 5 → ⊥) → (13 ≡ rewriteNumber l j slot) × (l ≡ rewriteLeft l j slot)
+  unfolding rewriteNumber rewriteLeft
+  rewrite-uneven h = (rw (ne-eqb (length slot) 5 h), rw (ne-eqb (length slot) 5 h))
+
+  five-is : (g : Given) → g ≡ givenFrom (getD slot 0 0) (getD slot 1 0) (getD slot 2 0) (getD slot 3 0) (getD slot 4 0) → givenAt slot 0 ≡ g
+  unfolding givenAt
+  five-is g e = sym e
+
+  pub rewrite-none : (g : Given) → length slot ≡ 5 → g ≡ givenFrom (getD slot 0 0) (getD slot 1 0) (getD slot 2 0) (getD slot 3 0) (getD slot 4 0) →
+      g ≡ NotSlot → (13 ≡ rewriteNumber l j slot) × (l ≡ rewriteLeft l j slot)
+  unfolding rewriteNumber rewriteLeft rewriteGiven givenLeft
+  rewrite-none g h e q =
+      let z : givenAt slot 0 ≡ NotSlot = five-is g e ∙ q in
+      (rw (eq-eqb (length slot) 5 h, z), rw (eq-eqb (length slot) 5 h, z))
+
+  pub rewrite-slot : (g : Given) (s : Slot) (a : ℕ) (m : List ℕ) → length slot ≡ 5 →
+      g ≡ givenFrom (getD slot 0 0) (getD slot 1 0) (getD slot 2 0) (getD slot 3 0) (getD slot 4 0) → g ≡ GivenSlot s →
+      a ≡ rewriteAnswer l j s → m ≡ rewriteBytes l j s → (a ≡ rewriteNumber l j slot) × (m ≡ rewriteLeft l j slot)
+  unfolding rewriteNumber rewriteLeft rewriteGiven givenLeft
+  rewrite-slot g s a m h e q x y =
+      let z : givenAt slot 0 ≡ GivenSlot s = five-is g e ∙ q in
+      (rw (eq-eqb (length slot) 5 h, z, x), rw (eq-eqb (length slot) 5 h, z, y))

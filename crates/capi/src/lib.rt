@@ -1,0 +1,3 @@
+// What C calls: thin exports over the public functions, on numbers and lent slices.
+pub mod layouts;
+pub mod out;
