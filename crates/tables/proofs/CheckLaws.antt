@@ -4,13 +4,16 @@ use mathlib.Core.List.{List, []}
 use mathlib.Core.Bool.{Bool, true, false, cond, _&&_}
 use Prim.Native.Nat.{ℕ, _≤_, _<_}
 use native.Mathlib.Omega.{arith}
-use borrow.Author.Tests.{le-leb, lt-leb}
+use borrow.Author.Tests.{le-leb, lt-leb, eq-eqb, ne-eqb}
 use Rattle.wire.proofs.Both.{and-first}
 use Rattle.wire.specs.Rows.{rows}
 use Rattle.tables.specs.Bytes.{parentRows, objectRows, reserveEntries, parse}
-use Rattle.tables.specs.Positions.{isPosition}
+use Rattle.tables.specs.Positions.{isPosition, start, countSteps}
 use Rattle.tables.specs.Check.{all, whenUsed, parentsWhole, objectsWhole, wholeRows, reserveWhole, tablesWhole, goodPolicy, goodLayouts, goodSelf, goodObject, goodEntry, goodFids, allDifferent, tablesNumber, checkNumber, Sound}
+use Rattle.tables.specs.Answers.{startAnswer, stepsAnswer}
 use Rattle.tables.specs.declared.Position.{Position}
+use Rattle.tables.specs.declared.StartAnswer.the-variants.{NoStart, StartIs}
+use Rattle.tables.specs.declared.StepsAnswer.the-variants.{NoSteps, StepsAre}
 
 -- ## Exactly
 
@@ -161,3 +164,26 @@ module _ (p o s : List ℕ) (policy : ℕ) (at : Position) where
                 pub check-0 : isPosition (parse p o) at ≡ true → 0 ≡ checkNumber p o s policy at
                 unfolding checkNumber tablesWhole goodPolicy goodFids
                 check-0 i = rw (w, v, le-leb _ _ k, l, f, e, d, i)
+
+-- ## Start and step count
+
+module _ (p o : List ℕ) (n : ℕ) (e : n ≡ tablesNumber p o) where
+  pub no-start : (n ≡ 0 → ⊥) → NoStart n ≡ startAnswer p o
+  unfolding startAnswer
+  no-start h = rw (← e, ne-eqb _ _ h)
+
+  pub start-is : n ≡ 0 → (x : Position) → x ≡ start (parse p o) → StartIs x ≡ startAnswer p o
+  unfolding startAnswer
+  start-is h x k = rw (← e, eq-eqb _ _ h, k)
+
+  pub no-steps : (n ≡ 0 → ⊥) → NoSteps n ≡ stepsAnswer p o
+  unfolding stepsAnswer
+  no-steps h = rw (← e, ne-eqb _ _ h)
+
+  pub steps-are : n ≡ 0 → (x : ℕ) → x ≡ countSteps (parse p o) → StepsAre x ≡ stepsAnswer p o
+  unfolding stepsAnswer
+  steps-are h x k = rw (← e, eq-eqb _ _ h, k)
+
+  pub number-sound : n ≡ 0 → Sound p o
+  unfolding Sound
+  number-sound h = sym e ∙ h

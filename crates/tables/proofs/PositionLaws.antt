@@ -13,8 +13,8 @@ use Rattle.wire.specs.Rows.{rows}
 use Rattle.wire.proofs.RowLaws.{rows-length, rows-at, rows-start, rows-step, rows-end}
 use Rattle.wire.proofs.Both.{and-first}
 use Rattle.layout.specs.Layout.{decodeLayout, stripeCount, slotStart}
-use Rattle.tables.proofs.Awaited.{length-slots}
-use Rattle.tables.specs.Records.{ParentRow, noParent, parent, ObjectRow, Tables}
+use Rattle.layout.proofs.SlotLaws.{length-slots}
+use Rattle.tables.specs.Records.{ParentRow, noParent, parent, ObjectRow, noObject, Tables}
 use Rattle.tables.specs.Bytes.{parentSize, objectSize, isUsed, layoutBytes, decodeParent, parseParent, parseObject, parentRows, objectRows, parse}
 use Rattle.tables.specs.Positions.{slotsOf, rowAt, width, inStageOne, inStageTwo, isEnd, isPosition, place, fromObject, fromParent, start, afterPart, next, rowSteps, countSteps}
 use Rattle.tables.specs.declared.Position.{Position}
@@ -44,6 +44,13 @@ module _ (p o : List ℕ) where
   parsed-row r h =
       List·getD-map parseParent (parentRows p) r []
       ∙ ap parseParent (rows-at parentSize (length p / parentSize) r p h)
+
+  pub parsed-object : (r : ℕ) → r < length o / objectSize →
+      getD (parse p o .objects) r (noObject []) ≡ parseObject (take objectSize (drop (objectSize * r) o))
+  unfolding parse objectRows parseObject isUsed
+  parsed-object r h =
+      List·getD-map parseObject (objectRows o) r []
+      ∙ ap parseObject (rows-at objectSize (length o / objectSize) r o h)
 
   pub parsed-width : (r : ℕ) → r < length p / parentSize → (n : ℕ) (row : List ℕ) → row ≡ take parentSize (drop (parentSize * r) p) →
       n ≡ length (slotsOf (parseParent row)) → n ≡ width (parse p o) r

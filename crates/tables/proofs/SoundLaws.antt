@@ -17,7 +17,7 @@ use Rattle.fid.specs.Fid.{goodFid, sameFid, zeroFid}
 use Rattle.fid.specs.declared.Fid.{Fid}
 use Rattle.layout.specs.Slot.{maxIndex}
 use Rattle.layout.specs.Layout.{acceptedLayout, stripeCount, slotStart}
-use Rattle.tables.proofs.Awaited.{LayoutFacts, accepted-facts}
+use Rattle.layout.proofs.LayoutLaws.{LayoutFacts, accepted-facts}
 use Rattle.tables.specs.Bytes.{parentSize, objectSize, entrySize, layoutRoom, isUsed, layoutLength, layoutBytes, parentRows, objectRows, reserveEntries}
 use Rattle.tables.specs.Check.{all, whenUsed, maxParents, maxObjects, maxReserve, wholeRows, isMark, usedMark, freshMark, parentsWhole, objectsWhole, reserveWhole, tablesWhole, goodLayout, goodLayouts, selfFid, goodSelf, goodIndex, claimed, goodClaim, freshClaims, goodObject, goodEntry, goodFids, hasSelf, noneTwice, allDifferent, Sound, SoundReserve}
 use Rattle.tables.proofs.AllLaws.{row-fits, part-length, all-at}
@@ -118,3 +118,97 @@ layout-of-row row n h u =
       bytes = layout-bytes row n r;
       facts = accepted-facts (layoutBytes row) a;
     }
+
+-- a fresh object has a claim
+fresh-claimed : (row : List ℕ) → freshClaims row ≡ true → getD row 45 0 ≡ 1 → sameFid (claimed row) zeroFid ≡ false
+unfolding freshClaims
+fresh-claimed row h k = not-is (sameFid (claimed row) zeroFid) (rw (eq-eqb _ _ k) at h)
+  where
+    not-is : (b : Bool) → not b ≡ true → b ≡ false
+    not-is true e = sym e
+    not-is false e = refl
+
+-- a used parent row
+pub record ParentFacts (row : List ℕ) : Type 0 where
+  pub size : length row ≡ parentSize
+  pub self : goodFid (selfFid row) ≡ true
+  pub room : layoutLength row ≤ layoutRoom
+  pub least : 32 ≤ layoutLength row
+  pub accepted : acceptedLayout (layoutBytes row) ≡ true
+  pub bytes : length (layoutBytes row) ≡ layoutLength row
+  pub layout : LayoutFacts (layoutBytes row)
+
+-- a used object row
+pub record ObjectFacts (row : List ℕ) : Type 0 where
+  pub size : length row ≡ objectSize
+  pub mark : getD row 45 0 ≤ 1
+  pub self : goodFid (selfFid row) ≡ true
+  pub index : le 4 (drop 17 row) ≤ maxIndex
+  pub claim : goodClaim row ≡ true
+  pub fresh : getD row 45 0 ≡ 1 → sameFid (claimed row) zeroFid ≡ false
+
+module _ (p o : List ℕ) (h : Sound p o) (r : ℕ) (row : List ℕ) where
+  -- a parent row, used or not: its mark and its length
+  module _ (k : r < length p / parentSize) (e : row ≡ take parentSize (drop (parentSize * r) p)) where
+    pub parent-size : length row ≡ parentSize
+    parent-size = rw e (part-length parentSize r p (omega arith))
+
+    pub parent-mark : getD row 0 0 ≤ 1
+    unfolding parentRows usedMark isMark
+    parent-mark =
+        leb-true (getD row 0 0) 1 (rw e (all-at usedMark parentSize (length p / parentSize) r p (sound-facts p o h .parents-marks) k))
+
+    pub parent-facts : isUsed row ≡ true → ParentFacts row
+    unfolding parentRows goodSelf
+    parent-facts u =
+        let l = layout-of-row row parent-size (layout-at p row r (sound-facts p o h .layouts) k e) u in
+        let s : whenUsed goodSelf row ≡ true =
+        rw e (all-at (whenUsed goodSelf) parentSize (length p / parentSize) r p (sound-facts p o h .selves) k) in
+        let f = l .facts in
+        record {
+          size = parent-size;
+          self = used-passes goodSelf row s u;
+          room = l .room;
+          least = omega (arith, l .bytes, f .size, f .head);
+          accepted = l .accepted;
+          bytes = l .bytes;
+          layout = f;
+        }
+
+  -- an object row
+  module _ (k : r < length o / objectSize) (e : row ≡ take objectSize (drop (objectSize * r) o)) where
+    pub object-size : length row ≡ objectSize
+    object-size = rw e (part-length objectSize r o (omega arith))
+
+    pub object-mark : getD row 0 0 ≤ 1
+    unfolding objectRows usedMark isMark
+    object-mark =
+        leb-true (getD row 0 0) 1 (rw e (all-at usedMark objectSize (length o / objectSize) r o (sound-facts p o h .objects-marks) k))
+
+    pub object-facts : isUsed row ≡ true → ObjectFacts row
+    unfolding objectRows goodObject goodSelf goodIndex freshMark isMark
+    object-facts u =
+        let m : whenUsed freshMark row ≡ true =
+        rw e (all-at (whenUsed freshMark) objectSize (length o / objectSize) r o (sound-facts p o h .fresh-marks) k) in
+        let g : whenUsed goodObject row ≡ true =
+        rw e (all-at (whenUsed goodObject) objectSize (length o / objectSize) r o (sound-facts p o h .objects) k) in
+        let a : Bool = goodFid (selfFid row) in
+        let b : Bool = leb (le 4 (drop 17 row)) maxIndex in
+        let t : (a && b && goodClaim row && freshClaims row) ≡ true = used-passes goodObject row g u in
+        let t₂ : (a && b && goodClaim row) ≡ true = and-first (a && b && goodClaim row) (freshClaims row) t in
+        let t₃ : (a && b) ≡ true = and-first (a && b) (goodClaim row) t₂ in
+        record {
+          size = object-size;
+          mark = leb-true (getD row 45 0) 1 (used-passes freshMark row m u);
+          self = and-first a b t₃;
+          index = leb-true (le 4 (drop 17 row)) maxIndex (and-second a b t₃);
+          claim = and-second (a && b) (goodClaim row) t₂;
+          fresh = fresh-claimed row (and-second (a && b && goodClaim row) (freshClaims row) t);
+        }
+
+-- ## The reserve
+
+pub reserve-good : (s : List ℕ) (r : ℕ) → SoundReserve s → r < length s / entrySize → goodEntry (take entrySize (drop (entrySize * r) s)) ≡ true
+unfolding SoundReserve reserveEntries
+reserve-good s r h k =
+    all-at goodEntry entrySize (length s / entrySize) r s (and-second (reserveWhole s) (all goodEntry (reserveEntries s)) h) k

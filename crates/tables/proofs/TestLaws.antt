@@ -11,8 +11,9 @@ use Rattle.wire.specs.Numbers.{le}
 use Rattle.fid.specs.Fid.{decodeFid, goodFid, goodNumber, sameFid, zeroFid}
 use Rattle.fid.specs.declared.Fid.{Fid}
 use Rattle.layout.specs.Slot.{maxIndex}
-use Rattle.tables.specs.Bytes.{parentSize, objectSize, isUsed, parentRows, objectRows}
-use Rattle.tables.specs.Check.{all, whenUsed, maxParents, maxObjects, wholeRows, parentsWhole, objectsWhole, allDifferent, noneTwice, isMark, usedMark, freshMark, selfFid, goodSelf, goodIndex, claimed, goodClaim, freshClaims, goodObject, goodEntry}
+use Rattle.layout.specs.Layout.{acceptedLayout}
+use Rattle.tables.specs.Bytes.{parentSize, objectSize, layoutRoom, layoutLength, layoutBytes, isUsed, parentRows, objectRows}
+use Rattle.tables.specs.Check.{all, whenUsed, goodLayout, maxParents, maxObjects, wholeRows, parentsWhole, objectsWhole, allDifferent, noneTwice, isMark, usedMark, freshMark, selfFid, goodSelf, goodIndex, claimed, goodClaim, freshClaims, goodObject, goodEntry}
 
 module _ (test : List ℕ → Bool) (row : List ℕ) where
   pub when-unused : isUsed row ≡ false → true ≡ whenUsed test row
@@ -22,6 +23,13 @@ module _ (test : List ℕ → Bool) (row : List ℕ) where
   pub when-used : isUsed row ≡ true → test row ≡ whenUsed test row
   unfolding whenUsed
   when-used h = rw h
+
+-- a test of two parts, the first asked first
+pub first-off : (x y : Bool) → x ≡ false → false ≡ (x && y)
+first-off x y h = rw h
+
+pub first-on : (x y : Bool) → x ≡ true → y ≡ (x && y)
+first-on x y h = rw h
 
 -- ## 11
 
@@ -64,6 +72,17 @@ module _ (l : List ℕ) where
       all (whenUsed freshMark) (objectRows l) ≡ objectsWhole l
   unfolding objectsWhole
   objects-fresh h k = rw (h, k)
+
+-- ## 13
+
+module _ (row : List ℕ) where
+  pub layout-long : layoutRoom < layoutLength row → false ≡ goodLayout row
+  unfolding goodLayout
+  layout-long h = rw (lt-leb _ _ h)
+
+  pub layout-read : layoutLength row ≤ layoutRoom → acceptedLayout (layoutBytes row) ≡ goodLayout row
+  unfolding goodLayout
+  layout-read h = rw (le-leb _ _ h)
 
 -- ## 14
 

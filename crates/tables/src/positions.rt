@@ -1,8 +1,8 @@
 // Positions: which exist, the first and the next, and the count of steps.
+use super::Position;
 use super::rows;
 use super::rows::OBJECT_SIZE;
 use super::rows::PARENT_SIZE;
-use super::Position;
 ghost use mathlib.Core.Path.{_≡_};
 ghost use mathlib.Core.List.{[], map};
 ghost use mathlib.Core.Bool.{true};
@@ -170,14 +170,14 @@ pub fn next_position(parents: &[u8], objects: &[u8], at: Position) -> Position
 }
 
 // The steps of stage one: one for each row and one for each slot.
-pub fn row_steps(parents: &[u8]) -> u64
+pub fn row_steps(parents: &[u8]) -> u32
     requires { ⌜ (goodLayouts (now parents) ≡ true) × (length (now parents) / parentSize ≤ maxParents) ⌝ }
     ensures { λ n. ⌜ n ≡ rowSteps (map parseParent (parentRows (now (parents .entry)))) ⌝ }
 {
     let n = parents.len() / PARENT_SIZE;
-    let mut steps: u64 = 0;
+    let mut steps: u32 = 0;
     for r in 0..n {
-        steps = steps + 1 + row_width(rows::row_at(parents, PARENT_SIZE, r)) as u64;
+        steps = steps + 1 + row_width(rows::row_at(parents, PARENT_SIZE, r)) as u32;
     }
     steps
 }
@@ -187,5 +187,5 @@ pub fn count_steps(parents: &[u8], objects: &[u8]) -> u64
     requires { ⌜ Sound (now parents) (now objects) ⌝ }
     ensures { λ n. ⌜ n ≡ countSteps (parse (now (parents .entry)) (now (objects .entry))) ⌝ }
 {
-    row_steps(parents) + object_count(objects) as u64
+    row_steps(parents) as u64 + object_count(objects) as u64
 }

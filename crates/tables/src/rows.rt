@@ -14,11 +14,14 @@ ghost use Rattle.tables.specs.Check.{selfFid};
 
 // The room for a layout, and where it starts: after mark, self FID, uid, gid and layout length.
 pub const LAYOUT_ROOM: usize = 3888;
+
 pub const LAYOUT_START: usize = 27;
 
 // The bytes of a parent row, of an object row and of an entry of the reserve.
 pub const PARENT_SIZE: usize = LAYOUT_START + LAYOUT_ROOM;
+
 pub const OBJECT_SIZE: usize = 46;
+
 pub const ENTRY_SIZE: usize = 16;
 
 // Row r of a table.

@@ -13,7 +13,9 @@ ghost use Rattle.tables.specs.Check.{all, whenUsed, wholeRows, usedMark,
 
 // The most rows of each table.
 pub const MAX_PARENTS: usize = 1024;
+
 pub const MAX_OBJECTS: usize = 65536;
+
 pub const MAX_RESERVE: usize = 65536;
 
 // Whether a table is whole rows, and not too many.

@@ -29,7 +29,7 @@ is-zero-requires c κs = search needs
 
 -- src/fids.rt:51:1
 returns-2 : tie.Need-returns-2
-returns-2 c = 
+returns-2 c =
     let a = c .before .before .before .before .before .args in
     ap not (c .is-zero .ensures) ∙ fresh-is (now (a .row)) (omega arith) _ (c .before .read-fid .ensures)
 

@@ -20,7 +20,7 @@ is-zero-requires c κs = search needs
 
 -- src/fids.rt:45:9
 returns : tie.Need-returns
-returns c = 
+returns c =
     let a = c .before .before .before .before .args in
     claim-zero (now (a .row)) _ (c .before .before .read-fid .ensures) (sym (c .before .is-zero .ensures) ∙ c .if1 .taken)
 
@@ -30,7 +30,7 @@ is-good-number-requires c κs = search needs
 
 -- src/fids.rt:39:1
 returns-2 : tie.Need-returns-2
-returns-2 c = 
+returns-2 c =
     let a = c .before .before .before .before .before .args in
     c .is-good-number .ensures ∙ claim-number (now (a .row)) _ (c .before .before .before .read-fid .ensures) (sym (c .before .before .is-zero .ensures) ∙ c .before .if1 .left)
 

@@ -35,7 +35,7 @@ is-good-requires c κs = search needs
 
 -- src/fids.rt:70:9
 returns-2 : tie.Need-returns-2
-returns-2 c = 
+returns-2 c =
     let a = c .before .before .before .before .before .before .args in
     object-self (now (a .row)) (ap goodFid (sym (c .before .before .self-fid .ensures)) ∙ sym (c .before .is-good .ensures) ∙ not-true _ (c .if2 .taken))
     ∙ when-used goodObject (now (a .row)) (sym (c .before .before .before .before .is-used .ensures) ∙ not-false _ (c .before .before .before .if1 .left))
@@ -46,7 +46,7 @@ le32-requires c κs = search needs
 
 -- src/fids.rt:73:9
 returns-3 : tie.Need-returns-3
-returns-3 c = 
+returns-3 c =
     let a = c .before .before .before .before .before .before .before .before .args in
     object-index (now (a .row)) (ap goodFid (sym (c .before .before .before .before .self-fid .ensures)) ∙ sym (c .before .before .before .is-good .ensures) ∙ not-false _ (c .before .before .if2 .left)) (omega arith)
     ∙ when-used goodObject (now (a .row)) (sym (c .before .before .before .before .before .before .is-used .ensures) ∙ not-false _ (c .before .before .before .before .before .if1 .left))
@@ -57,7 +57,7 @@ good-claim-requires c κs = search needs
 
 -- src/fids.rt:76:9
 returns-4 : tie.Need-returns-4
-returns-4 c = 
+returns-4 c =
     let a = c .before .before .before .before .before .before .before .before .before .before .args in
     object-claim (now (a .row)) (ap goodFid (sym (c .before .before .before .before .before .before .self-fid .ensures)) ∙ sym (c .before .before .before .before .before .is-good .ensures) ∙ not-false _ (c .before .before .before .before .if2 .left)) (omega arith)
     (sym (c .before .good-claim .ensures) ∙ not-true _ (c .if4 .taken))
@@ -69,7 +69,7 @@ fresh-claims-requires c κs = search needs
 
 -- src/fids.rt:62:1
 returns-5 : tie.Need-returns-5
-returns-5 c = 
+returns-5 c =
     let a = c .before .before .before .before .before .before .before .before .before .before .before .args in
     c .fresh-claims .ensures
     ∙ object-fresh (now (a .row)) (ap goodFid (sym (c .before .before .before .before .before .before .before .self-fid .ensures)) ∙ sym (c .before .before .before .before .before .before .is-good .ensures) ∙ not-false _ (c .before .before .before .before .before .if2 .left)) (omega arith)

@@ -33,7 +33,7 @@ good-object-requires c κs = omega arith
 
 -- src/fids.rt:87:13
 returns : tie.Need-returns Inv-loop μ-loop
-returns c = 
+returns c =
     let d = c .before .before in
     let i = d .before .before .loop .inv in
     all-fail (whenUsed goodObject) objectSize _ _ _ _ _ (i .1) (omega arith) (d .row-at .ensures .0) (sym (c .before .good-object .ensures) ∙ not-true _ (c .if1 .taken))
@@ -48,7 +48,7 @@ loop-less c = omega arith
 
 -- src/fids.rt:85:5
 loop-again : tie.Need-loop-again Inv-loop μ-loop
-loop-again c = 
+loop-again c =
     let d = c .before .before in
     let i = d .before .before .loop .inv in
     (omega arith, all-pass (whenUsed goodObject) objectSize _ _ _ _ _ (i .1) (omega arith) (d .row-at .ensures .0) (sym (c .before .good-object .ensures) ∙ not-false _ (c .if1 .left)))

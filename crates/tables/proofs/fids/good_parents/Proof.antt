@@ -33,7 +33,7 @@ good-parent-requires c κs = omega arith
 
 -- src/fids.rt:32:13
 returns : tie.Need-returns Inv-loop μ-loop
-returns c = 
+returns c =
     let d = c .before .before in
     let i = d .before .before .loop .inv in
     all-fail (whenUsed goodSelf) parentSize _ _ _ _ _ (i .1) (omega arith) (d .row-at .ensures .0) (sym (c .before .good-parent .ensures) ∙ not-true _ (c .if1 .taken))
@@ -48,7 +48,7 @@ loop-less c = omega arith
 
 -- src/fids.rt:30:5
 loop-again : tie.Need-loop-again Inv-loop μ-loop
-loop-again c = 
+loop-again c =
     let d = c .before .before in
     let i = d .before .before .loop .inv in
     (omega arith, all-pass (whenUsed goodSelf) parentSize _ _ _ _ _ (i .1) (omega arith) (d .row-at .ensures .0) (sym (c .before .good-parent .ensures) ∙ not-false _ (c .if1 .left)))

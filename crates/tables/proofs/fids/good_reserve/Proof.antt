@@ -40,7 +40,7 @@ is-good-requires c κs = omega arith
 -- src/fids.rt:101:13
 returns : tie.Need-returns Inv-loop μ-loop
 unfolding goodEntry
-returns c = 
+returns c =
     let d = c .before .before .before in
     let i = d .before .before .loop .inv in
     all-fail goodEntry entrySize _ _ _ _ _ (i .1) (omega arith) (d .row-at .ensures .0)
@@ -57,11 +57,13 @@ loop-less c = omega arith
 -- src/fids.rt:98:5
 loop-again : tie.Need-loop-again Inv-loop μ-loop
 unfolding goodEntry
-loop-again c = 
+loop-again c =
     let d = c .before .before .before in
-    let i = d .before .before .loop .inv in
-    (omega arith, all-pass goodEntry entrySize _ _ _ _ _ (i .1) (omega arith) (d .row-at .ensures .0)
-    (ap goodFid (sym (c .before .before .read-fid .ensures)) ∙ sym (c .before .is-good .ensures) ∙ not-false _ (c .if1 .left)))
+    let i = d .before .before .loop .inv in (
+      omega arith,
+      all-pass goodEntry entrySize _ _ _ _ _ (i .1) (omega arith) (d .row-at .ensures .0)
+          (ap goodFid (sym (c .before .before .read-fid .ensures)) ∙ sym (c .before .is-good .ensures) ∙ not-false _ (c .if1 .left)),
+    )
 
 -- src/fids.rt:94:1
 returns-2 : tie.Need-returns-2 Inv-loop μ-loop

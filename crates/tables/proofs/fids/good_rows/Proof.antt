@@ -1,3 +1,9 @@
+use mathlib.Core.Path.{_≡_, refl, sym, ap, _∙_}
+use borrow.Author.Tests.{not-true, not-false}
+use denote.Ref.{now}
+use Rattle.tables.proofs.TestLaws.{first-off, first-on}
+use Rattle.tables.specs.Bytes.{parentRows, objectRows}
+use Rattle.tables.specs.Check.{all, whenUsed, goodSelf, goodObject}
 use borrow.Author.Needs.{needs}
 use Rattle.tables.proofs.fids.good_rows.Statement.{statement}
 use Rattle.tables.proofs.fids.good_rows.Tie as tie
@@ -12,7 +18,9 @@ good-parents-requires c κs = search needs
 
 -- src/fids.rt:113:9
 returns : tie.Need-returns
-returns c = ?
+returns c =
+    let a = c .before .before .before .before .args in
+    first-off (all (whenUsed goodSelf) (parentRows (now (a .parents)))) (all (whenUsed goodObject) (objectRows (now (a .objects)))) (sym (c .before .good-parents .ensures) ∙ not-true _ (c .if1 .taken))
 
 -- src/fids.rt:115:5
 good-objects-requires : tie.Need-good-objects-requires
@@ -20,7 +28,9 @@ good-objects-requires c κs = search needs
 
 -- src/fids.rt:109:1
 returns-2 : tie.Need-returns-2
-returns-2 c = ?
+returns-2 c =
+    let a = c .before .before .before .before .before .args in
+    c .good-objects .ensures ∙ first-on (all (whenUsed goodSelf) (parentRows (now (a .parents)))) (all (whenUsed goodObject) (objectRows (now (a .objects)))) (sym (c .before .before .good-parents .ensures) ∙ not-false _ (c .before .if1 .left))
 
 pub good-rows-spec : {M : Type 1} → statement M
 good-rows-spec = tie.close (tie.spec good-parents-requires returns good-objects-requires returns-2)

@@ -31,7 +31,7 @@ from-parent-requires c κs = search needs
 
 -- src/positions.rt:148:9
 returns : tie.Need-returns
-returns c = 
+returns c =
     let a = c .before .before .before .before .before .args in
     c .from-parent .ensures
     ∙ part-past (parse (now (a .parents)) (now (a .objects))) (a .row) (a .part) _
@@ -44,7 +44,7 @@ add-t7 c = search needs
 -- src/positions.rt:142:1
 returns-2 : tie.Need-returns-2
 unfolding place
-returns-2 c = 
+returns-2 c =
     let a = c .before .before .before .before .args in
     part-next (parse (now (a .parents)) (now (a .objects))) (a .row) (a .part) _
     (c .before .width .ensures ∙ width-alone (now (a .parents)) (now (a .objects)) (a .row)) (omega arith)

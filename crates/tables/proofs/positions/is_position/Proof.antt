@@ -19,7 +19,7 @@ in-stage-one-requires c κs = sound-facts _ _ (c .before .before .before .before
 
 -- src/positions.rt:88:9
 returns : tie.Need-returns
-returns c = 
+returns c =
     let a = c .before .before .before .before .before .args in
     c .in-stage-one .ensures ∙ one-alone (now (a .parents)) (now (a .objects)) (a .at .row) (a .at .part)
     ∙ position-one (parse (now (a .parents)) (now (a .objects))) (a .at) (omega arith)
@@ -30,7 +30,7 @@ in-stage-two-requires c κs = search needs
 
 -- src/positions.rt:91:9
 returns-2 : tie.Need-returns-2
-returns-2 c = 
+returns-2 c =
     let a = c .before .before .before .before .before .before .before .args in
     c .in-stage-two .ensures ∙ two-alone (now (a .parents)) (now (a .objects)) (a .at .row) (a .at .part)
     ∙ position-two (parse (now (a .parents)) (now (a .objects))) (a .at) (omega arith)
@@ -41,7 +41,7 @@ is-end-requires c κs = search needs
 
 -- src/positions.rt:83:1
 returns-3 : tie.Need-returns-3
-returns-3 c = 
+returns-3 c =
     let a = c .before .before .before .before .before .before .before .args in
     c .is-end .ensures ∙ position-end (parse (now (a .parents)) (now (a .objects))) (a .at) (λ e. omega arith) (λ e. omega arith)
 

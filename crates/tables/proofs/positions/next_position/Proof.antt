@@ -15,25 +15,30 @@ use Rattle.tables.proofs.positions.from_object.Reads as from-object-rea
 
 -- src/positions.rt:163:9
 after-part-requires : tie.Need-after-part-requires
-after-part-requires c κs = 
+after-part-requires c κs =
     let d = c .before .before .before .before in
-    let a = d .args in
-    (sound-facts _ _ (d .pre .0) .layouts, one-row (now (a .parents)) (now (a .objects)) (a .at .row) (a .at .part)
-    (position-one (parse (now (a .parents)) (now (a .objects))) (a .at) (omega arith) ∙ d .pre .1))
+    let a = d .args in (
+      sound-facts _ _ (d .pre .0) .layouts,
+      one-row (now (a .parents)) (now (a .objects)) (a .at .row) (a .at .part)
+          (position-one (parse (now (a .parents)) (now (a .objects))) (a .at) (omega arith) ∙ d .pre .1),
+    )
 
 -- src/positions.rt:163:9
 returns : tie.Need-returns
-returns c = 
+returns c =
     let a = c .before .before .before .before .before .args in
     c .after-part .ensures ∙ next-one (parse (now (a .parents)) (now (a .objects))) (a .at) (omega arith)
 
 -- src/positions.rt:167:37
 add-from-object : tie.Need-add-from-object
-add-from-object c = 
+add-from-object c =
     let d = c .before .before .before .before .before .before in
     let a = d .args in
-    omega (arith, two-row (now (a .parents)) (now (a .objects)) (a .at .row) (a .at .part)
-    (position-two (parse (now (a .parents)) (now (a .objects))) (a .at) (omega arith) ∙ d .pre .1))
+    omega (
+      arith,
+      two-row (now (a .parents)) (now (a .objects)) (a .at .row) (a .at .part)
+          (position-two (parse (now (a .parents)) (now (a .objects))) (a .at) (omega arith) ∙ d .pre .1),
+    )
 
 -- src/positions.rt:167:9
 from-object-requires : tie.Need-from-object-requires
@@ -41,7 +46,7 @@ from-object-requires c κs = search needs
 
 -- src/positions.rt:167:9
 returns-2 : tie.Need-returns-2
-returns-2 c = 
+returns-2 c =
     let a = c .before .before .before .before .before .before .before .args in
     c .from-object .ensures ∙ object-alone (now (a .parents)) (now (a .objects)) _ ∙ next-two (parse (now (a .parents)) (now (a .objects))) (a .at) (omega arith)
 
@@ -51,7 +56,7 @@ end-requires c κs = search needs
 
 -- src/positions.rt:158:1
 returns-3 : tie.Need-returns-3
-returns-3 c = 
+returns-3 c =
     let a = c .before .before .before .before .before .before .before .args in
     c .end .ensures ∙ next-end (parse (now (a .parents)) (now (a .objects))) (a .at) (λ e. omega arith) (λ e. omega arith)
 

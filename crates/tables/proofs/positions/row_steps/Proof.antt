@@ -54,7 +54,7 @@ loop-less c = omega arith
 
 -- src/positions.rt:179:5
 loop-again : tie.Need-loop-again Inv-loop μ-loop
-loop-again c = 
+loop-again c =
     let d = c .before .before .before in
     (omega arith, omega arith, steps-step _ _ _ _ _ _ _ (d .loop .inv .2) (omega arith) (c .before .row-at .ensures .0) (c .row-width .ensures))
 

@@ -35,7 +35,7 @@ stripe-count-requires c κs = omega (arith, facts (c .before))
 
 -- src/positions.rt:30:1
 returns-2 : tie.Need-returns-2
-returns-2 c = 
+returns-2 c =
     c .stripe-count .ensures ∙ ap stripeCount (c .before .layout-of .ensures .0)
     ∙ slots-used (now (c .before .before .before .before .before .args .row)) (sym (c .before .before .before .is-used .ensures) ∙ not-false _ (c .before .before .if1 .left))
 

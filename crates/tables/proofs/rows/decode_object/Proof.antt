@@ -36,7 +36,7 @@ shared-slice-read-fresh c = search needs
 
 -- src/rows.rt:89:1
 returns : tie.Need-returns
-returns c = 
+returns c =
     let a = c .before .before .before .before .before .before .before .args in
     object-is (now (a .row)) _ _ _ _ _ (c .before .before .before .before .before .read-fid .ensures) (c .before .before .before .before .le32 .ensures)
     (c .before .before .before .owner-at .ensures) (c .before .before .read-fid2 .ensures) (c .before .claim-from .ensures)

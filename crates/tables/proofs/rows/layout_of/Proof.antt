@@ -37,7 +37,7 @@ part-result-end c = search needs
 
 -- src/rows.rt:132:1
 returns : tie.Need-returns
-returns c = 
+returns c =
     let d = c .before .before .before in
     let e = layout-part (now (d .args .row)) _ (c .before .layout-len .ensures) in
     (e, ap (λ (l : List ℕ). length l) e ∙ layout-bytes (now (d .args .row)) (d .pre .0) (d .pre .1))

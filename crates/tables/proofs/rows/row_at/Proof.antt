@@ -33,7 +33,7 @@ part-result-end c = search needs
 
 -- src/rows.rt:25:1
 returns : tie.Need-returns
-returns c = 
+returns c =
     let a = c .before .args in
     let e = part-is (a .size) (a .size * a .r) (now (a .table)) in
     (e, ap (λ (l : List ℕ). length l) e ∙ part-length (a .size) (a .r) (now (a .table)) (search needs))

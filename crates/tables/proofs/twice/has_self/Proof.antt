@@ -37,7 +37,7 @@ has-fid-requires c κs = omega arith
 
 -- src/twice.rt:40:13
 returns : tie.Need-returns Inv-loop μ-loop
-returns c = 
+returns c =
     let d = c .before .before in
     has-hit _ _ _ _ _ _ _ (d .before .before .loop .inv) (omega arith) (d .row-at .ensures .0) (sym (c .before .has-fid .ensures) ∙ c .if1 .taken) ∙ has-from _ _ _ _ _
 
@@ -51,7 +51,7 @@ loop-less c = omega arith
 
 -- src/twice.rt:38:5
 loop-again : tie.Need-loop-again Inv-loop μ-loop
-loop-again c = 
+loop-again c =
     let d = c .before .before in
     has-pass _ _ _ _ _ _ _ (d .before .before .loop .inv) (omega arith) (d .row-at .ensures .0) (sym (c .before .has-fid .ensures) ∙ c .if1 .left)
 

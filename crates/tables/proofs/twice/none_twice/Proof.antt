@@ -54,7 +54,7 @@ has-self-requires c κs = omega arith
 
 -- src/twice.rt:56:17
 returns : tie.Need-returns Inv-loop μ-loop
-returns c = 
+returns c =
     let d = c .before .before .before .before .before in
     none-fail _ _ _ _ _ _ (d .before .before .loop .inv .1) (omega arith) (d .row-at .ensures .0) (sym (c .before .before .before .before .is-used .ensures) ∙ c .before .before .before .if1 .taken)
     _ (c .before .before .self-fid .ensures) (sym (c .before .has-self .ensures) ∙ c .if2 .taken)
@@ -69,12 +69,15 @@ loop-less c = omega arith
 
 -- src/twice.rt:52:5
 loop-again : tie.Need-loop-again Inv-loop μ-loop
-loop-again c = 
+loop-again c =
     let d = c .before .before in
     let i = d .before .before .loop .inv in
     ⊎-elim
-    (λ w. (omega arith, none-pass _ _ _ _ _ _ (i .1) (omega arith) (d .row-at .ensures .0) (sym (c .before .is-used .ensures) ∙ w .0 .taken)
-    _ (w .1 .ensures) (sym (w .2 .ensures) ∙ w .3 .left)))
+    (λ w. (
+      omega arith,
+      none-pass _ _ _ _ _ _ (i .1) (omega arith) (d .row-at .ensures .0) (sym (c .before .is-used .ensures) ∙ w .0 .taken)
+          _ (w .1 .ensures) (sym (w .2 .ensures) ∙ w .3 .left),
+    ))
     (λ w. (omega arith, none-unused _ _ _ _ _ _ (i .1) (omega arith) (d .row-at .ensures .0) (sym (c .before .is-used .ensures) ∙ w .left)))
     (c .if1 .came)
 

@@ -1,3 +1,8 @@
+use mathlib.Core.Path.{_≡_, refl, sym, ap, _∙_}
+use borrow.Author.Tests.{not-true, not-false}
+use denote.Ref.{now}
+use Rattle.tables.proofs.TestLaws.{first-off, first-on}
+use Rattle.tables.specs.Check.{parentsWhole, objectsWhole}
 use borrow.Author.Needs.{needs}
 use Rattle.tables.proofs.whole.both_whole.Statement.{statement}
 use Rattle.tables.proofs.whole.both_whole.Tie as tie
@@ -12,7 +17,7 @@ parents-whole-requires c κs = search needs
 
 -- src/whole.rt:102:9
 returns : tie.Need-returns
-returns c = ?
+returns c = let a = c .before .before .before .before .args in first-off (parentsWhole (now (a .parents))) (objectsWhole (now (a .objects))) (sym (c .before .parents-whole .ensures) ∙ not-true _ (c .if1 .taken))
 
 -- src/whole.rt:104:5
 objects-whole-requires : tie.Need-objects-whole-requires
@@ -20,7 +25,7 @@ objects-whole-requires c κs = search needs
 
 -- src/whole.rt:98:1
 returns-2 : tie.Need-returns-2
-returns-2 c = ?
+returns-2 c = let a = c .before .before .before .before .before .args in c .objects-whole .ensures ∙ first-on (parentsWhole (now (a .parents))) (objectsWhole (now (a .objects))) (sym (c .before .before .parents-whole .ensures) ∙ not-false _ (c .before .if1 .left))
 
 pub both-whole-spec : {M : Type 1} → statement M
 both-whole-spec =

@@ -33,7 +33,7 @@ fresh-mark-requires c κs = omega arith
 
 -- src/whole.rt:63:13
 returns : tie.Need-returns Inv-loop μ-loop
-returns c = 
+returns c =
     let d = c .before .before in
     let i = d .before .before .loop .inv in
     all-fail (whenUsed freshMark) objectSize _ _ _ _ _ (i .1) (omega arith) (d .row-at .ensures .0) (sym (c .before .fresh-mark .ensures) ∙ not-true _ (c .if1 .taken))
@@ -48,7 +48,7 @@ loop-less c = omega arith
 
 -- src/whole.rt:61:5
 loop-again : tie.Need-loop-again Inv-loop μ-loop
-loop-again c = 
+loop-again c =
     let d = c .before .before in
     let i = d .before .before .loop .inv in
     (omega arith, all-pass (whenUsed freshMark) objectSize _ _ _ _ _ (i .1) (omega arith) (d .row-at .ensures .0) (sym (c .before .fresh-mark .ensures) ∙ not-false _ (c .if1 .left)))

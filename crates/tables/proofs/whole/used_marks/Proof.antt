@@ -38,7 +38,7 @@ shared-slice-read-if1 c = omega arith
 
 -- src/whole.rt:39:13
 returns : tie.Need-returns Inv-loop μ-loop
-returns c = 
+returns c =
     let d = c .before .before in
     all-fail usedMark _ _ _ _ _ _ (d .before .before .loop .inv .1) (omega arith) (d .row-at .ensures .0) (mark-bad (now (d .row-at .result)) (c .if1 .taken))
 
@@ -52,7 +52,7 @@ loop-less c = omega arith
 
 -- src/whole.rt:36:5
 loop-again : tie.Need-loop-again Inv-loop μ-loop
-loop-again c = 
+loop-again c =
     let d = c .before .before in
     (omega arith, all-pass usedMark _ _ _ _ _ _ (d .before .before .loop .inv .1) (omega arith) (d .row-at .ensures .0) (mark-good (now (d .row-at .result)) (c .if1 .left)))
 
