@@ -28,6 +28,10 @@ parentSize = 27 + layoutRoom
 abbrev pub objectSize : ℕ
 objectSize = 46
 
+-- "Reserve: a list of good OST FIDs, 16 bytes each"
+abbrev pub entrySize : ℕ
+entrySize = 16
+
 -- "used mark 1 byte (0 or 1)"
 unfoldable pub isUsed : List ℕ → Bool
 isUsed row = eqb (getD row 0 0) 1
@@ -124,9 +128,11 @@ renderParents T = join (map renderParent (T .parents))
 unfoldable pub renderObjects : Tables → List ℕ
 renderObjects T = join (map renderObject (T .objects))
 
--- "Reserve: a list of good OST FIDs, 16 bytes each"
+unfoldable pub reserveEntries : List ℕ → List (List ℕ)
+reserveEntries l = rows entrySize (length l / entrySize) l
+
 unfoldable pub reserveFid : List ℕ → OstFid
 reserveFid entry = record { 0 = decodeFid entry }
 
 unfoldable pub parseReserve : List ℕ → List OstFid
-parseReserve l = map reserveFid (rows 16 (length l / 16) l)
+parseReserve l = map reserveFid (reserveEntries l)

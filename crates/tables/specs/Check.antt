@@ -6,12 +6,11 @@ use mathlib.Core.Bool.{Bool, true, false, cond, not, _&&_, _||_}
 use lib.ListN.{length, getD, drop}
 use lib.Dec.{leb, ltb, eqb}
 use Rattle.wire.specs.Numbers.{le}
-use Rattle.wire.specs.Rows.{rows}
 use Rattle.fid.specs.Fid.{decodeFid, goodFid, goodNumber, sameFid, zeroFid}
 use Rattle.fid.specs.declared.Fid.{Fid}
 use Rattle.layout.specs.Slot.{maxIndex}
 use Rattle.layout.specs.Layout.{acceptedLayout}
-use Rattle.tables.specs.Bytes.{parentSize, objectSize, layoutRoom, isUsed, layoutLength, layoutBytes, parentRows, objectRows, parse}
+use Rattle.tables.specs.Bytes.{parentSize, objectSize, entrySize, layoutRoom, isUsed, layoutLength, layoutBytes, parentRows, objectRows, reserveEntries, parse}
 use Rattle.tables.specs.Positions.{isPosition}
 use Rattle.tables.specs.declared.Position.{Position}
 
@@ -55,7 +54,7 @@ unfoldable pub objectsWhole : List ℕ → Bool
 objectsWhole l = wholeRows objectSize maxObjects l && all usedMark (objectRows l) && all (whenUsed freshMark) (objectRows l)
 
 unfoldable pub reserveWhole : List ℕ → Bool
-reserveWhole l = wholeRows 16 maxReserve l
+reserveWhole l = wholeRows entrySize maxReserve l
 
 unfoldable pub tablesWhole : List ℕ → List ℕ → List ℕ → Bool
 tablesWhole parents objects reserve = parentsWhole parents && objectsWhole objects && reserveWhole reserve
@@ -107,7 +106,7 @@ goodEntry entry = goodFid (decodeFid entry)
 unfoldable pub goodFids : List ℕ → List ℕ → List ℕ → Bool
 goodFids parents objects reserve =
     all (whenUsed goodSelf) (parentRows parents) && all (whenUsed goodObject) (objectRows objects)
-    && all goodEntry (rows 16 (length reserve / 16) reserve)
+    && all goodEntry (reserveEntries reserve)
 
 -- ## 15: "a FID twice among used parents, or twice among used objects"
 
@@ -145,4 +144,4 @@ unfoldable pub Sound : List ℕ → List ℕ → Type 0
 Sound parents objects = tablesNumber parents objects ≡ 0
 
 unfoldable pub SoundReserve : List ℕ → Type 0
-SoundReserve reserve = (reserveWhole reserve && all goodEntry (rows 16 (length reserve / 16) reserve)) ≡ true
+SoundReserve reserve = (reserveWhole reserve && all goodEntry (reserveEntries reserve)) ≡ true

@@ -104,6 +104,13 @@ pub bytes-drop : (k : ℕ) (l : List ℕ) → Bytes l → Bytes (drop k l)
 unfolding Bytes
 bytes-drop k l h i = rw getD-drop (h (k + i))
 
+pub bytes-take : (n : ℕ) (l : List ℕ) → Bytes l → Bytes (take n l)
+unfolding Bytes
+bytes-take zero l h i = omega arith
+bytes-take (suc n) [] h i = omega arith
+bytes-take (suc n) (b ∷ l) h zero = h 0
+bytes-take (suc n) (b ∷ l) h (suc i) = bytes-take n l (bytes-tail b l h) i
+
 -- a number of n bytes is one of the first n
 pub le-append : (n : ℕ) (p q : List ℕ) → n ≤ length p → le n (p ++ q) ≡ le n p
 unfolding le

@@ -1,0 +1,87 @@
+use mathlib.Core.Path.{_≡_, refl, sym, ap, _∙_}
+use borrow.Author.Tests.{not-true, not-false}
+use denote.Ref.{now}
+use Rattle.tables.proofs.CheckLaws.{tables-11, tables-13, tables-14, tables-15, tables-0}
+use borrow.Author.Needs.{needs}
+use Rattle.tables.proofs.check_tables.Statement.{statement}
+use Rattle.tables.proofs.check_tables.Tie as tie
+use Rattle.tables.proofs.check_tables.Reads as reads
+use Rattle.tables.proofs.check_tables.Lts as lts
+use Rattle.tables.proofs.fids.good_rows.Reads as good-rows-reads
+use Rattle.tables.proofs.layouts.good_layouts.Reads as good-layouts-reads
+use Rattle.tables.proofs.twice.all_different.Reads as all-different-reads
+use Rattle.tables.proofs.whole.both_whole.Reads as both-whole-reads
+
+-- src/lib.rt:62:9
+both-whole-requires : tie.Need-both-whole-requires
+both-whole-requires c κs = search needs
+
+-- src/lib.rt:63:9
+returns : tie.Need-returns
+returns c =
+    let a = c .before .before .before .before .args in
+    tables-11 (now (a .parents)) (now (a .objects))
+    (sym (c .before .both-whole .ensures) ∙ not-true _ (c .if1 .taken))
+
+-- src/lib.rt:65:9
+good-layouts-requires : tie.Need-good-layouts-requires
+good-layouts-requires c κs = search needs
+
+-- src/lib.rt:66:9
+returns-2 : tie.Need-returns-2
+returns-2 c =
+    let a = c .before .before .before .before .before .before .args in
+    tables-13 (now (a .parents)) (now (a .objects))
+    (sym (c .before .before .before .both-whole .ensures) ∙ not-false _ (c .before .before .if1 .left))
+    (sym (c .before .good-layouts .ensures) ∙ not-true _ (c .if2 .taken))
+
+-- src/lib.rt:68:9
+good-rows-requires : tie.Need-good-rows-requires
+good-rows-requires c κs = search needs
+
+-- src/lib.rt:69:9
+returns-3 : tie.Need-returns-3
+returns-3 c =
+    let a = c .before .before .before .before .before .before .before .before .args in
+    tables-14 (now (a .parents)) (now (a .objects))
+    (sym (c .before .before .before .before .before .both-whole .ensures) ∙ not-false _ (c .before .before .before .before .if1 .left))
+    (sym (c .before .before .before .good-layouts .ensures) ∙ not-false _ (c .before .before .if2 .left))
+    (sym (c .before .good-rows .ensures) ∙ not-true _ (c .if3 .taken))
+
+-- src/lib.rt:71:9
+all-different-requires : tie.Need-all-different-requires
+all-different-requires c κs = search needs
+
+-- src/lib.rt:72:9
+returns-4 : tie.Need-returns-4
+returns-4 c =
+    let a = c .before .before .before .before .before .before .before .before .before .before .args in
+    tables-15 (now (a .parents)) (now (a .objects))
+    (sym (c .before .before .before .before .before .before .before .both-whole .ensures) ∙ not-false _ (c .before .before .before .before .before .before .if1 .left))
+    (sym (c .before .before .before .before .before .good-layouts .ensures) ∙ not-false _ (c .before .before .before .before .if2 .left))
+    (sym (c .before .before .before .good-rows .ensures) ∙ not-false _ (c .before .before .if3 .left))
+    (sym (c .before .all-different .ensures) ∙ not-true _ (c .if4 .taken))
+
+-- src/lib.rt:59:1
+returns-5 : tie.Need-returns-5
+returns-5 c =
+    let a = c .before .before .before .before .before .before .before .before .before .before .args in
+    tables-0 (now (a .parents)) (now (a .objects))
+    (sym (c .before .before .before .before .before .before .before .both-whole .ensures) ∙ not-false _ (c .before .before .before .before .before .before .if1 .left))
+    (sym (c .before .before .before .before .before .good-layouts .ensures) ∙ not-false _ (c .before .before .before .before .if2 .left))
+    (sym (c .before .before .before .good-rows .ensures) ∙ not-false _ (c .before .before .if3 .left))
+    (sym (c .before .all-different .ensures) ∙ not-false _ (c .if4 .left))
+
+pub check-tables-spec : {M : Type 1} → statement M
+check-tables-spec =
+    tie.close
+    (tie.spec
+    both-whole-requires
+    returns
+    good-layouts-requires
+    returns-2
+    good-rows-requires
+    returns-3
+    all-different-requires
+    returns-4
+    returns-5)

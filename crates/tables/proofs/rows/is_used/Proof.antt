@@ -1,0 +1,19 @@
+use mathlib.Core.Path.{refl}
+use Rattle.tables.specs.Bytes.{isUsed}
+use borrow.Author.Needs.{needs}
+use Rattle.tables.proofs.rows.is_used.Statement.{statement}
+use Rattle.tables.proofs.rows.is_used.Tie as tie
+use Rattle.tables.proofs.rows.is_used.Reads as reads
+use Rattle.tables.proofs.rows.is_used.Lts as lts
+
+-- src/rows.rt:39:5
+shared-slice-read-result : tie.Need-shared-slice-read-result
+shared-slice-read-result c = search needs
+
+-- src/rows.rt:35:1
+returns : tie.Need-returns
+unfolding isUsed
+returns c = refl
+
+pub is-used-spec : {M : Type 1} → statement M
+is-used-spec = tie.close (tie.spec shared-slice-read-result returns)

@@ -1,0 +1,116 @@
+// 14: "bad FID, object index or claim, or fresh without claim".
+use super::rows;
+use super::rows::ENTRY_SIZE;
+use super::rows::OBJECT_SIZE;
+use super::rows::PARENT_SIZE;
+ghost use mathlib.Core.Path.{_≡_};
+ghost use mathlib.Core.Bool.{_&&_};
+ghost use lib.ListN.{length};
+ghost use Prim.Native.Nat.{_≤_};
+ghost use Rattle.tables.specs.Bytes.{objectSize, parentRows, objectRows, reserveEntries};
+ghost use Rattle.tables.specs.Check.{all, whenUsed, goodSelf, goodClaim, freshClaims, goodObject, goodEntry};
+
+// The greatest OST index.
+pub const MAX_INDEX: u32 = 65535;
+
+// Whether the self FID of a parent row is good, where it is examined.
+pub fn good_parent(row: &[u8]) -> bool
+    requires { ⌜ 17 ≤ length (now row) ⌝ }
+    ensures { λ r. ⌜ r ≡ whenUsed goodSelf (now (row .entry)) ⌝ }
+{
+    if !rows::is_used(row) {
+        return true;
+    }
+    fid::is_good(rows::self_fid(row))
+}
+
+pub fn good_parents(parents: &[u8]) -> bool
+    ensures { λ r. ⌜ r ≡ all (whenUsed goodSelf) (parentRows (now (parents .entry))) ⌝ }
+{
+    let n = parents.len() / PARENT_SIZE;
+    for r in 0..n {
+        if !good_parent(rows::row_at(parents, PARENT_SIZE, r)) {
+            return false;
+        }
+    }
+    true
+}
+
+// No claim, or one of a good sequence and id, at any index.
+pub fn good_claim(row: &[u8]) -> bool
+    requires { ⌜ length (now row) ≡ objectSize ⌝ }
+    ensures { λ r. ⌜ r ≡ goodClaim (now (row .entry)) ⌝ }
+{
+    let f = fid::read_fid(row, 29);
+    if rows::is_zero(f) {
+        return true;
+    }
+    fid::is_good_number(f)
+}
+
+// A fresh object has a claim.
+pub fn fresh_claims(row: &[u8]) -> bool
+    requires { ⌜ length (now row) ≡ objectSize ⌝ }
+    ensures { λ r. ⌜ r ≡ freshClaims (now (row .entry)) ⌝ }
+{
+    if row[45] != 1 {
+        return true;
+    }
+    !rows::is_zero(fid::read_fid(row, 29))
+}
+
+// Whether an object row's self FID, index and claim are good, where they are examined.
+pub fn good_object(row: &[u8]) -> bool
+    requires { ⌜ length (now row) ≡ objectSize ⌝ }
+    ensures { λ r. ⌜ r ≡ whenUsed goodObject (now (row .entry)) ⌝ }
+{
+    if !rows::is_used(row) {
+        return true;
+    }
+    if !fid::is_good(rows::self_fid(row)) {
+        return false;
+    }
+    if MAX_INDEX < wire::le32(row, 17) {
+        return false;
+    }
+    if !good_claim(row) {
+        return false;
+    }
+    fresh_claims(row)
+}
+
+pub fn good_objects(objects: &[u8]) -> bool
+    ensures { λ r. ⌜ r ≡ all (whenUsed goodObject) (objectRows (now (objects .entry))) ⌝ }
+{
+    let n = objects.len() / OBJECT_SIZE;
+    for r in 0..n {
+        if !good_object(rows::row_at(objects, OBJECT_SIZE, r)) {
+            return false;
+        }
+    }
+    true
+}
+
+// Whether every entry of the reserve is a good FID.
+pub fn good_reserve(reserve: &[u8]) -> bool
+    ensures { λ r. ⌜ r ≡ all goodEntry (reserveEntries (now (reserve .entry))) ⌝ }
+{
+    let n = reserve.len() / ENTRY_SIZE;
+    for r in 0..n {
+        let entry = rows::row_at(reserve, ENTRY_SIZE, r);
+        if !fid::is_good(fid::read_fid(entry, 0)) {
+            return false;
+        }
+    }
+    true
+}
+
+// Whether the rows of both tables are good.
+pub fn good_rows(parents: &[u8], objects: &[u8]) -> bool
+    ensures { λ r. ⌜ r ≡ (all (whenUsed goodSelf) (parentRows (now (parents .entry))) && all (whenUsed goodObject) (objectRows (now (objects .entry)))) ⌝ }
+{
+    if !good_parents(parents) {
+        return false;
+    }
+    good_objects(objects)
+}
