@@ -21,8 +21,8 @@ pub run-destroys-nothing : (policy : ℕ) (reserve : List OstFid) (n : ℕ) (T :
 run-destroys-nothing policy reserve n T p sound = run-makes policy reserve n T p sound .stays
 
 -- a run leaves tables that fit their rows, if they did and the reserve is good: they can be written as bytes and read back
-pub run-fits : (policy : ℕ) (reserve : List OstFid) (n : ℕ) (T : Tables) (p : Position) → Distinct T → FitReserve reserve → FitRows T →
-    FitRows (run policy reserve n T p .tables)
+pub run-fits : (policy : ℕ) (reserve : List OstFid) (n : ℕ) (T : Tables) (p : Position) → Distinct T → FitReserve reserve → FitTables T →
+    FitTables (run policy reserve n T p .tables)
 run-fits policy reserve n T p sound = run-makes policy reserve n T p sound .fits
 
 -- no FID comes to stand twice

@@ -10,7 +10,7 @@ module _ (policy : ℕ) (reserve : List OstFid) where
     ended : isEnd p ≡ true → OneStep n T p (halt T p 0) (p ∷ [])
     stuck : (a : ℕ) → isEnd p ≡ false → stepAt policy reserve T p ≡ stops a → OneStep n T p (halt T p a) (p ∷ [])
     moved : (c : Counts) (S : Tables) → isEnd p ≡ false → (Distinct T → Stepped policy T p S) →
-        (FitReserve reserve → FitRows T → FitRows S) →
+        (FitReserve reserve → FitTables T → FitTables S) →
         OneStep n T p (after c (run policy reserve n S (next S p))) (p ∷ passed policy reserve n S (next S p))
 
   pub one-step : (n : ℕ) (T : Tables) (p : Position) → OneStep n T p (run policy reserve (suc n) T p) (passed policy reserve (suc n) T p)
@@ -38,7 +38,7 @@ module _ (policy : ℕ) (reserve : List OstFid) where
     pub exists : Exists T p → Exists (x .tables) (x .report .position)
     pub later : Exists T p → p ≼ x .report .position
     pub passes : Exists T p → (z : Position) → List·Memᴰ z l → Exists (x .tables) z × z ≼ x .report .position
-    pub fits : FitReserve reserve → FitRows T → FitRows (x .tables)
+    pub fits : FitReserve reserve → FitTables T → FitTables (x .tables)
     pub last : List·Memᴰ (x .report .position) l
     pub done : Exists T p → Done policy T p → Done policy (x .tables) (x .report .position)
 
@@ -58,7 +58,7 @@ module _ (policy : ℕ) (reserve : List OstFid) where
       }
 
   ran-moved : (T : Tables) (p : Position) (S : Tables) (c : Counts) (x : Run) (l : List Position) → isEnd p ≡ false → Stepped policy T p S →
-      (FitReserve reserve → FitRows T → FitRows S) → Ran S (next S p) x l → Ran T p (after c x) (p ∷ l)
+      (FitReserve reserve → FitTables T → FitTables S) → Ran S (next S p) x l → Ran T p (after c x) (p ∷ l)
   unfolding after
   ran-moved T p S c x l e h fits r =
       record {

@@ -18,15 +18,18 @@ pub use Rattle.fid.specs.declared.MdtFid.{MdtFid}
 pub use Rattle.fid.specs.declared.OstFid.{OstFid}
 pub use Rattle.layout.specs.Slot.{maxIndex}
 unfoldable pub use Rattle.layout.specs.Slot.{slotNames, allowedSlot, allowedSlots}
-pub use Rattle.layout.specs.Layout.{Layout, maxSlots}
-unfoldable pub use Rattle.layout.specs.Layout.{headerSize, layoutSize, withHoles, knownVersion, knownPattern, fewSlots, layoutRules}
+pub use Rattle.layout.specs.Layout.{Layout, magicOne, holePattern, maxSlots}
+unfoldable pub use Rattle.layout.specs.Layout.{encodeLayout, headerSize, layoutSize, withHoles, knownVersion, knownPattern, fewSlots, layoutRules}
 unfoldable pub use Rattle.layout.proofs.SlotLaws.{FitSlot, FitSlots}
 pub use Rattle.layout.proofs.HeaderLaws.{size-most}
-pub use Rattle.layout.proofs.LayoutLaws.{Writable, rules-few, rules-slots, allowed-set}
+pub use Rattle.layout.proofs.LayoutLaws.{Writable, rules-few, rules-slots, allowed-set, length-layout}
 pub use Rattle.layout.specs.declared.Header.{Header}
 pub use Rattle.layout.specs.declared.Slot.{Slot}
 pub use Rattle.layout.specs.declared.Slot.the-variants.{Hole, Names}
-pub use Rattle.tables.specs.Bytes.{parentSize, objectSize}
+pub use Rattle.tables.specs.Bytes.{layoutRoom, parentSize, objectSize}
+pub use Rattle.tables.proofs.FitLaws.{FitOwner, FitFile, FitThing}
+unfoldable pub use Rattle.tables.proofs.FitLaws.{FitParent, FitClaim, hasClaim, FitObject}
+pub use Rattle.tables.proofs.ParseLaws.{FitTables}
 pub use Rattle.tables.specs.Records.{Parent, ParentRow, noParent, parent, ObjectRow, noObject, object, Tables}
 unfoldable pub use Rattle.tables.specs.Positions.{slotsOf, rowAt, width, inStageOne, inStageTwo, isEnd, isPosition, place, fromObject, fromParent, start, afterPart, next, rowSteps, countSteps}
 pub use Rattle.tables.specs.declared.Owner.{Owner}
