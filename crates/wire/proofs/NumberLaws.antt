@@ -10,10 +10,7 @@ use native.Mathlib.Nat.{mod-eq-of-lt, not-suc-le-zero}
 use lib.Seq.{drop-drop, getD-drop, sets}
 use Rattle.wire.proofs.Splice.{sets-at}
 use Rattle.wire.specs.Numbers.{le, bytes}
-
--- every element is a byte
-pub Bytes : List ℕ → Type 0
-Bytes l = (i : ℕ) → getD l i 0 < 256
+unfoldable pub use Rattle.wire.specs.Numbers.{Bytes}
 
 pub le-nil : (n : ℕ) → le n [] ≡ 0
 unfolding le
