@@ -1,3 +1,3 @@
 pub mod Written
 pub mod EveryRun
--- pub mod Lists
+pub mod Lists
