@@ -1,8 +1,8 @@
 -- Every run call on bytes: the rules' run on the records, or refused with nothing changed. Assumes nothing.
-use Prim.Native.Nat.{ℕ, _+_, _*_, _≤_}
+use Prim.Native.Nat.{ℕ, zero, suc, _+_, _*_, _≤_}
 use native.Mathlib.Omega.{arith}
 use mathlib.Core.Path.{_≡_, refl, sym, ap, subst, _∙_}
-use mathlib.Core.Bool.{Bool, true, false, cond}
+use mathlib.Core.Bool.{Bool, true, false, cond, true≢false}
 use mathlib.Core.List.{List}
 use lib.Dec.{eqb}
 use lib.ListN.{length}
@@ -11,19 +11,23 @@ use Rattle.wire.specs.Numbers.{Bytes}
 use Rattle.tables.specs.Records.{Tables}
 use Rattle.tables.specs.Bytes.{parentSize, objectSize, parseReserve, renderParents, renderObjects}
 use Rattle.tables.specs.Check.{Sound}
-use Rattle.tables.specs.Positions.{isPosition}
+use Rattle.tables.specs.Positions.{isPosition, isEnd, place, next}
 use Rattle.tables.specs.declared.Position.{Position}
 use Rattle.tables.proofs.FitsSound.{parents-length, objects-length}
-use Rattle.rules.specs.Runs.{counts, noCounts, addCounts, Run, run}
+use Rattle.fid.specs.declared.OstFid.{OstFid}
+use Rattle.rules.specs.Runs.{counts, noCounts, addCounts, Run, halt, after, run}
+use Rattle.rules.specs.declared.Counts.{Counts}
 use Rattle.rules.specs.Calls.{Request, runOf}
-use Rattle.rules.specs.Promises.{NotDestroyed, then as thenRecords}
+use Rattle.rules.specs.Promises.{Distinct, NotDestroyed, then as thenRecords}
 use Rattle.rules.proofs.Theorem.{run-destroys-nothing, a-then-b}
-use Rattle.rules.proofs.Theorem.Runs.{run-makes}
-use Rattle.rules.proofs.Theorem.Runs.Order.{exists-is, is-exists}
+use Rattle.rules.proofs.Theorem.Runs.{OneStep, ended, stuck, moved, one-step, run-makes}
+use Rattle.rules.proofs.Theorem.Runs.Order.{exists-is, is-exists, is-end}
+use Rattle.rules.proofs.Theorem.Runs.Order.Fitting.Steps.{step-makes}
 use Rattle.rules.proofs.Theorem.Runs.Order.Fitting.Steps.StageOne.StageTwo.Adoption.Quiet.{stays-refl}
+use Rattle.rules.proofs.Theorem.Runs.Order.Fitting.Steps.StageOne.StageTwo.{Makes}
 use Rattle.engine.specs.RunBytes.{Ran, refused, rendered, runBytes}
-use Rattle.theorems.specs.Calls.{Lent, tablesOf, RunCall, call, number, Accepted, ran, left, leaves}
-use Rattle.theorems.specs.Promises.{then, EveryCall}
+use Rattle.theorems.specs.Calls.{Lent, tablesOf, RunCall, call, number, Accepted, ran, left, leaves, AtEnd}
+use Rattle.theorems.specs.Promises.{then, Answered, end-reached, used-up, stopped, EveryCall}
 use Rattle.theorems.proofs.Written.{Good, written, good-read, good-sound, good-run, sound-good, sound-written, reserve-fits, Parts, accepted-parts, parts-accepted}
 
 -- ## Bytes that say good tables
@@ -86,6 +90,35 @@ module _ (t : Lent) (c : RunCall) where
         bytes = ap left (ran-accepted (says-read s) h);
       }
 
+-- ## What comes back
+
+not-end : (x : Run) → isEnd (x .report .position) ≡ false → AtEnd (rendered x) → ⊥
+unfolding AtEnd rendered isEnd place
+not-end x n e = true≢false (sym (ap isEnd e) ∙ n)
+
+answered-after : (c : Counts) (n : ℕ) (x : Run) → Answered n (rendered x) → Answered (suc n) (rendered (after c x))
+unfolding after rendered AtEnd
+answered-after c n x (end-reached a b l) = end-reached a b (omega arith)
+answered-after c n x (used-up a b l) = used-up a b (omega arith)
+answered-after c n x (stopped a b d l) = stopped a b d (omega arith)
+
+run-answered : (policy : ℕ) (reserve : List OstFid) (n : ℕ) (T : Tables) (p : Position) → Distinct T → Answered n (rendered (run policy reserve n T p))
+unfolding run halt rendered AtEnd
+run-answered policy reserve zero T p s = go (isEnd p) refl
+  where
+    go : (b : Bool) → isEnd p ≡ b → Answered 0 (rendered (halt T p (cond b 0 1)))
+    go true e = end-reached (is-end p e) refl (omega arith)
+    go false e = used-up (not-end (halt T p 1) e) refl refl
+run-answered policy reserve (suc n) T p s = go (λ S. run-answered policy reserve n S (next S p)) (one-step policy reserve n T p)
+  where
+    go : {x : Run} {l : List Position} → ((S : Tables) → Distinct S → Answered n (rendered (run policy reserve n S (next S p)))) →
+        OneStep policy reserve n T p x l → Answered (suc n) (rendered x)
+    go ih (ended e) = end-reached (is-end p e) refl (omega arith)
+    go ih (stuck a e d) =
+        let k = subst (Makes policy T p) d (step-makes policy reserve T p s) in
+        stopped (not-end (halt T p a) e) (k .0) (k .1) (omega arith)
+    go ih (moved c S e makes fits) = answered-after c n (run policy reserve n S (next S p)) (ih S (makes s .calm .sound))
+
 -- ## What holds of every call
 
 same-length : {t u : Lent} {T S : Tables} → Says t T → Says u S → length (S .parents) ≡ length (T .parents) → length (S .objects) ≡ length (T .objects) →
@@ -144,12 +177,22 @@ module _ (t : Lent) (c : RunCall) (a : Bytes (t .parents)) (b : Bytes (t .object
         ∙ then-rendered x y ∙ ap (then (rendered x)) (sym w)
         ∙ ap (λ (z : Ran). then z (ran (leaves t c) (call (c .policy) (c .reserve) n (z .report .position)))) (sym r)
 
+    accepted-idle : c .steps ≡ 0 → leaves t c ≡ t
+    unfolding run halt
+    accepted-idle z =
+        now .bytes
+        ∙ ap (λ (n : ℕ). written (run (c .policy) (parseReserve (c .reserve)) n T (c .from) .tables)) z ∙ sym (before .bytes)
+
     accepted-call : EveryCall t c
+    unfolding request runOf
     accepted-call =
         let v = run-makes (c .policy) (parseReserve (c .reserve)) (c .steps) T (c .from) (before .good .distinct) in
         let l = same-length before now (v .grows .tall) (v .grows .size) in
         record {
           refusal = λ n. absurd (n h);
+          answered = λ k. subst (Answered (c .steps)) (sym (ran-accepted t c refl h))
+              (run-answered (c .policy) (parseReserve (c .reserve)) (c .steps) T (c .from) (before .good .distinct));
+          idle = accepted-idle;
           keeps-data = subst (NotDestroyed T) (sym (says-read now))
               (run-destroys-nothing (c .policy) (parseReserve (c .reserve)) (c .steps) T (c .from) (before .good .distinct));
           sound = λ s. says-sound now;
@@ -177,6 +220,8 @@ module _ (t : Lent) (c : RunCall) (a : Bytes (t .parents)) (b : Bytes (t .object
         let q : leaves t c ≡ t = leaves-refused t c n in
         record {
           refusal = ran-refused t c;
+          answered = λ h. absurd (n h);
+          idle = λ z. q;
           keeps-data = subst (λ (u : Lent). NotDestroyed (tablesOf t) (tablesOf u)) (sym q) (stays-refl (tablesOf t));
           sound = λ s. subst (λ (u : Lent). Sound (u .parents) (u .objects)) (sym q) s;
           parents-length = ap (λ (u : Lent). length (u .parents)) q;

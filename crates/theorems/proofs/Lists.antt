@@ -141,7 +141,7 @@ module _ (policy : ℕ) (reserve : List ℕ) (entries : Bytes reserve) where
     unfolding leaves left rendered written
     leaves-is n = ap left (from-start n)
 
-    pub uncut-on-bytes : UncutRun policy reserve t
+    uncut-on-bytes : UncutRun policy reserve t
     unfolding AtEnd Ended rendered
     uncut-on-bytes =
         let u = uncut-run policy R T (says .good .distinct) in
@@ -151,11 +151,11 @@ module _ (policy : ℕ) (reserve : List ℕ) (entries : Bytes reserve) where
           answer = rw uncut-is (u .answer);
         }
 
-    -- demand 3
-    pub demand-three : (cs : List RunCall) → Fair policy reserve t (start T ∷ []) cs → DemandThree policy reserve t cs
+    demand : (cs : List RunCall) → Fair policy reserve t (start T ∷ []) cs → DemandThree policy reserve t cs
     unfolding AtEnd Ended rendered uncutRecords tablesOf runOf request
-    demand-three cs f =
+    demand cs f =
         record {
+          uncut-run = uncut-on-bytes;
           steps = p .steps;
           tables = m .says .bytes ∙ ap written (p .tables) ∙ sym (leaves-is (p .steps));
           ended = λ r. let e = p .ended (m .reached r) in (ap (λ (x : Ran). x .report .position) uncut-is ∙ e .0, m .says .bytes ∙ ap written (e .1) ∙ sym (leaves-is (countSteps T)));
@@ -203,6 +203,11 @@ module _ (policy : ℕ) (reserve : List ℕ) (entries : Bytes reserve) where
             let x : ran u (call policy reserve n q) ≡ rendered (run policy R n S q) = ran-accepted u (call policy reserve n q) (says-read (m .says)) (handed q l n) in
             rw (x, uncut-is)
             (record { parents = ap renderParents (e .0); objects = ap renderObjects (e .0); position = e .1; answer = e .2 })
+
+-- demand 3: one statement about a whole list of run calls
+pub demand-three : (policy : ℕ) (reserve : List ℕ) (t : Lent) (cs : List RunCall) → Begins policy reserve t →
+    Fair policy reserve t (start (tablesOf t) ∷ []) cs → DemandThree policy reserve t cs
+demand-three policy reserve t cs b f = demand policy reserve (b .entries) t b cs f
 
 -- ## That the uncut run is accepted asks no more than that the tables pass
 

@@ -1,5 +1,5 @@
 -- What is promised of run calls on the lent bytes: of every call, and of a whole list of them.
-use Prim.Native.Nat.{ℕ, _+_, _≤_}
+use Prim.Native.Nat.{ℕ, _+_, _≤_, _<_}
 use mathlib.Core.Path.{_≡_}
 use mathlib.Core.Bool.{true}
 use mathlib.Core.List.{List, [], _∷_, List·Memᴰ}
@@ -31,9 +31,18 @@ then x y =
       objects = y .objects;
     }
 
+-- what comes back of a call that isn't refused and may take `most` steps: "the end comes before 1, and 1 before 21 to 23"
+pub data Answered (most : ℕ) (x : Ran) : Type 0 where
+  end-reached : AtEnd x → x .report .answer ≡ 0 → x .report .steps ≤ most → Answered most x
+  used-up : (AtEnd x → ⊥) → x .report .answer ≡ 1 → x .report .steps ≡ most → Answered most x
+  stopped : (AtEnd x → ⊥) → 21 ≤ x .report .answer → x .report .answer ≤ 23 → x .report .steps < most → Answered most x
+
 pub record EveryCall (t : Lent) (c : RunCall) : Type 0 where
   -- "A refused one .. changes nothing": it gives the check's number, no steps, no counts, and leaves the position
   pub refusal : (Accepted t c → ⊥) → ran t c ≡ refused (number t c) (t .parents) (t .objects) (c .from)
+  pub answered : Accepted t c → Answered (c .steps) (ran t c)
+  -- "Zero steps changes nothing"
+  pub idle : c .steps ≡ 0 → leaves t c ≡ t
   -- "the row of each object that wasn't fresh before it is still used, has the same FID and isn't fresh"
   pub keeps-data : NotDestroyed (tablesOf t) (tablesOf (leaves t c))
   -- tables that pass the check are left so, and no table changes its length
@@ -73,6 +82,7 @@ pub record SameEnd (x y : Ran) : Type 0 where
 
 -- what holds after the calls `cs`, which began with tables t and share policy and reserve
 pub record DemandThree (policy : ℕ) (reserve : List ℕ) (t : Lent) (cs : List RunCall) : Type 0 where
+  pub uncut-run : UncutRun policy reserve t
   -- the tables are the uncut run's after some number of its steps
   pub steps : ℕ
   pub tables : after t cs ≡ leaves t (fromStart policy reserve t steps)
