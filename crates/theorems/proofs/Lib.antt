@@ -1,0 +1,4 @@
+pub mod Written
+pub mod EveryRun
+pub mod Lists
+pub mod Example
