@@ -94,6 +94,11 @@ impl<Thing: Ord + std::fmt::Debug> Coverage<Thing> {
         }
     }
 
+    /// How many things were met in all.
+    pub fn total(&self) -> u64 {
+        self.counts.values().sum()
+    }
+
     /// The counts in a line; of very many things only how many there are, and the least count.
     fn line(&self) -> String {
         let mut line = format!("{}:", self.title);

@@ -125,9 +125,11 @@ fn layouts_are_read_and_written_alike() {
         compare_write(&layout, &mut random, &mut seen);
     }
     println!(
-        "{LAYOUTS} layouts in {:.1} s",
+        "{} layouts in {:.1} s",
+        seen.changes.total(),
         started.elapsed().as_secs_f64()
     );
+    assert!(seen.changes.total() >= 500_000);
     seen.require();
 }
 
