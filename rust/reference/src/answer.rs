@@ -2,8 +2,16 @@
 
 /// Done; of a run, the end is reached.
 pub const DONE: u32 = 0;
+/// A table is not whole rows or too long, or a mark is neither 0 nor 1.
+pub const BAD_TABLE: u32 = 11;
+/// The policy is above 3.
+pub const BAD_POLICY: u32 = 12;
 /// A layout, or a slot of one, is against the rules.
 pub const BAD_LAYOUT: u32 = 13;
+/// A FID, an object's OST index or a claim is bad, or a fresh object has no claim.
+pub const BAD_FID: u32 = 14;
+/// A FID stands twice among the used parents, or twice among the used objects.
+pub const FID_TWICE: u32 = 15;
 /// There is no such slot or position.
 pub const NO_POSITION: u32 = 16;
 /// What is to be handed out does not fit.

@@ -5,7 +5,10 @@
 //! compare the two.
 
 pub mod answer;
+pub mod check;
 pub mod fid;
 pub mod interface;
 pub mod layout;
+pub mod position;
+pub mod tables;
 mod take;
