@@ -10,6 +10,8 @@
 //! the call, reads and writes within the counts, and a slice that is lent by `&mut` overlaps
 //! no other.
 
+mod check;
 mod layout;
 
+pub use check::{check, start, steps};
 pub use layout::{layout_read, layout_slot, layout_write, slot_rewrite};
