@@ -1,6 +1,8 @@
 //! What the differential tests share: random numbers that can be repeated, and counts of what
 //! a test has met.
 
+pub mod tables;
+
 use std::collections::BTreeMap;
 
 /// The seed of every test, unless the environment variable `DIFFTEST_SEED` has another.
@@ -51,7 +53,23 @@ impl Random {
 
     /// Bytes of any value.
     pub fn bytes(&mut self, count: usize) -> Vec<u8> {
-        (0..count).map(|_| self.any() as u8).collect()
+        let mut bytes = vec![0; count];
+        self.fill(&mut bytes);
+        bytes
+    }
+
+    /// Fills some bytes with any values.
+    pub fn fill(&mut self, bytes: &mut [u8]) {
+        for part in bytes.chunks_mut(8) {
+            part.copy_from_slice(&self.any().to_le_bytes()[..part.len()]);
+        }
+    }
+
+    /// The items in another order.
+    pub fn shuffle<Item>(&mut self, items: &mut [Item]) {
+        for last in (1..items.len()).rev() {
+            items.swap(last, self.below(last + 1));
+        }
     }
 
     /// Numbers of any value.
