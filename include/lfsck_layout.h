@@ -22,9 +22,36 @@ extern "C" {
 /* Answers. */
 enum {
     LFSCK_OK = 0,           /* done */
+    LFSCK_BAD_TABLE = 11,   /* a table is not whole rows or too long, or a mark is not 0 or 1 */
+    LFSCK_BAD_POLICY = 12,  /* the policy is above 3 */
     LFSCK_BAD_LAYOUT = 13,  /* a layout or a slot is against the rules */
-    LFSCK_NO_POSITION = 16, /* there is no such slot */
+    LFSCK_BAD_FID = 14,     /* a bad FID, object index or claim, or fresh without claim */
+    LFSCK_FID_TWICE = 15,   /* a FID twice among used parents, or twice among used objects */
+    LFSCK_NO_POSITION = 16, /* there is no such position or slot */
     LFSCK_NO_ROOM = 17      /* too few places for what is handed out */
+};
+
+/* Tables: bytes of a row or an entry, and the most of them. */
+enum {
+    LFSCK_PARENT_BYTES = 3915,
+    LFSCK_OBJECT_BYTES = 46,
+    LFSCK_RESERVE_BYTES = 16,
+    LFSCK_PARENTS_MAX = 1024,
+    LFSCK_OBJECTS_MAX = 65536,
+    LFSCK_RESERVE_MAX = 65536
+};
+
+/* What a policy allows, beside the repairs that are always made; add them for both. */
+enum {
+    LFSCK_CREATE = 1, /* make objects for slots that have none of their own */
+    LFSCK_ADOPT = 2   /* put objects that no slot names in their places, destroy empty ones */
+};
+
+/* The stages of a position. */
+enum {
+    LFSCK_STAGE_PARENTS = 1, /* part 0 is a row's header, j + 1 its slot j */
+    LFSCK_STAGE_OBJECTS = 2, /* part is 0 */
+    LFSCK_STAGE_END = 3      /* row and part are 0 */
 };
 
 /* Layouts. */
@@ -44,10 +71,53 @@ enum {
 
 /* How many numbers describe a thing. */
 enum {
-    LFSCK_READ_FIELDS = 8,  /* a header that was read */
-    LFSCK_WRITE_FIELDS = 7, /* a header to be written */
-    LFSCK_SLOT_NUMBERS = 5  /* a slot */
+    LFSCK_READ_FIELDS = 8,     /* a header that was read */
+    LFSCK_WRITE_FIELDS = 7,    /* a header to be written */
+    LFSCK_SLOT_NUMBERS = 5,    /* a slot */
+    LFSCK_POSITION_NUMBERS = 3 /* a position: stage, row, part */
 };
+
+/*
+ * Checks whether a run may be made with this input. Nothing is written.
+ *
+ *   parents, objects, reserve  the tables
+ *   policy                     0 to 3
+ *   stage, row, part           the position
+ *
+ * LFSCK_OK, or the lowest of LFSCK_BAD_TABLE to LFSCK_NO_POSITION that applies to any of it.
+ */
+uint32_t lfsck_check(const uint8_t *parents, size_t parents_bytes,
+                     const uint8_t *objects, size_t objects_bytes,
+                     const uint8_t *reserve, size_t reserve_bytes,
+                     uint64_t policy, uint64_t stage, uint64_t row, uint64_t part);
+
+/*
+ * Where a run over these tables begins.
+ *
+ *   parents, objects  the tables
+ *   position          3 numbers, written: stage, row, part
+ *
+ * LFSCK_OK          the position is in the first 3 numbers
+ * LFSCK_BAD_TABLE, LFSCK_BAD_LAYOUT, LFSCK_BAD_FID, LFSCK_FID_TWICE
+ *                   the tables do not pass the check
+ * LFSCK_NO_ROOM     fewer than 3 numbers
+ */
+uint32_t lfsck_start(const uint8_t *parents, size_t parents_bytes,
+                     const uint8_t *objects, size_t objects_bytes,
+                     uint64_t *position, size_t position_count);
+
+/*
+ * How many steps an uncut run over these tables takes: one for each parent row, slot and
+ * object row.
+ *
+ *   parents, objects  the tables
+ *   out               1 number, written
+ *
+ * The answers are those of lfsck_start, LFSCK_NO_ROOM where out has no place.
+ */
+uint32_t lfsck_steps(const uint8_t *parents, size_t parents_bytes,
+                     const uint8_t *objects, size_t objects_bytes,
+                     uint64_t *out, size_t out_count);
 
 /*
  * A header is version (1 or 3), pattern, own id, own sequence, stripe size, stripe count and
