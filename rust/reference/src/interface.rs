@@ -3,9 +3,11 @@
 //! Every function answers a number of [`crate::answer`] and, where it refuses, writes nothing.
 
 mod check;
+mod class;
 mod layout;
 
 pub use check::{check, start, steps};
+pub use class::class;
 pub use layout::{
     layout_of_numbers, layout_read, layout_slot, layout_write, numbers_of_slot, slot_of_numbers,
     slot_rewrite,

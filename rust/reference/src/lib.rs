@@ -6,9 +6,11 @@
 
 pub mod answer;
 pub mod check;
+pub mod class;
 pub mod fid;
 pub mod interface;
 pub mod layout;
 pub mod position;
+pub mod site;
 pub mod tables;
 mod take;
