@@ -11,7 +11,9 @@
 //! no other.
 
 mod check;
+mod class;
 mod layout;
 
 pub use check::{check, start, steps};
+pub use class::class;
 pub use layout::{layout_read, layout_slot, layout_write, slot_rewrite};
