@@ -50,16 +50,13 @@ pub fn random_tables(shape: Shape, random: &mut Random) -> Tables {
     let mut fids = OBJECTS[..shape.fids].to_vec();
     random.shuffle(&mut files);
     random.shuffle(&mut fids);
-    let parents = random.below(shape.parents + 1);
-    let objects = random.below(shape.objects + 1);
-    Tables {
-        parents: (0..parents)
-            .map(|_| draw(&mut files, random).map(|fid| random_parent(fid, shape, random)))
-            .collect(),
-        objects: (0..objects)
-            .map(|_| draw(&mut fids, random).map(|fid| random_object(fid, shape, random)))
-            .collect(),
-    }
+    let parents: Vec<Option<Parent>> = (0..random.below(shape.parents + 1))
+        .map(|_| draw(&mut files, random).map(|fid| random_parent(fid, shape, random)))
+        .collect();
+    let objects = (0..random.below(shape.objects + 1))
+        .map(|_| draw(&mut fids, random).map(|fid| random_object(fid, &parents, shape, random)))
+        .collect();
+    Tables { parents, objects }
 }
 
 /// A FID for a row, no other row's; or none, for an unused row.
@@ -104,11 +101,13 @@ fn random_slot(holes_allowed: bool, shape: Shape, random: &mut Random) -> Option
     })
 }
 
-fn random_object(fid: Fid, shape: Shape, random: &mut Random) -> Object {
-    let claim = (!random.one_in(4)).then(|| Claim {
-        parent: random.pick(&FILES[..shape.files]),
-        index: random_index(shape, random),
-    });
+fn random_object(
+    fid: Fid,
+    parents: &[Option<Parent>],
+    shape: Shape,
+    random: &mut Random,
+) -> Object {
+    let claim = random_claim(fid, parents, shape, random);
     Object {
         fid,
         ost: random_ost(random),
@@ -116,6 +115,42 @@ fn random_object(fid: Fid, shape: Shape, random: &mut Random) -> Object {
         claim,
         fresh: claim.is_some() && random.one_in(3),
     }
+}
+
+/// No claim, one on a slot that names the object, one on any slot, or one out of the blue.
+fn random_claim(
+    fid: Fid,
+    parents: &[Option<Parent>],
+    shape: Shape,
+    random: &mut Random,
+) -> Option<Claim> {
+    let claims = |wanted: fn(Stripe, Fid) -> bool| {
+        let mut claims = Vec::new();
+        for parent in parents.iter().flatten() {
+            for (index, slot) in parent.layout.slots.iter().enumerate() {
+                if slot.is_some_and(|stripe| wanted(stripe, fid)) {
+                    claims.push(Claim {
+                        parent: parent.fid,
+                        index: index as u32,
+                    });
+                }
+            }
+        }
+        claims
+    };
+    let among = match random.below(8) {
+        0 | 1 => return None,
+        2 | 3 => claims(|stripe, fid| stripe.object == fid),
+        4 | 5 => claims(|stripe, fid| stripe.object != fid),
+        _ => Vec::new(),
+    };
+    if among.is_empty() {
+        return Some(Claim {
+            parent: random.pick(&FILES[..shape.files]),
+            index: random_index(shape, random),
+        });
+    }
+    Some(random.pick(&among))
 }
 
 /// An index that a slot can have, or now and then one at or past the bounds.
