@@ -71,10 +71,29 @@ enum {
 
 /* How many numbers describe a thing. */
 enum {
-    LFSCK_READ_FIELDS = 8,     /* a header that was read */
-    LFSCK_WRITE_FIELDS = 7,    /* a header to be written */
-    LFSCK_SLOT_NUMBERS = 5,    /* a slot */
-    LFSCK_POSITION_NUMBERS = 3 /* a position: stage, row, part */
+    LFSCK_READ_FIELDS = 8,      /* a header that was read */
+    LFSCK_WRITE_FIELDS = 7,     /* a header to be written */
+    LFSCK_SLOT_NUMBERS = 5,     /* a slot */
+    LFSCK_POSITION_NUMBERS = 3, /* a position: stage, row, part */
+    LFSCK_CLASS_NUMBERS = 4     /* a class and what it carries */
+};
+
+/* The classes of a header, a slot and an object. */
+enum {
+    LFSCK_CLEAN = 0,     /* a header or a slot with nothing to mend */
+    LFSCK_SELF = 1,      /* a header whose own id or sequence is not the file's */
+    LFSCK_HOLE = 2,      /* a zero slot */
+    LFSCK_MULTIPLE = 3,  /* a slot that is not the keeper of its object */
+    LFSCK_DANGLING = 4,  /* a keeper whose object is absent */
+    LFSCK_BLANK = 5,     /* a keeper whose object claims nothing */
+    LFSCK_UNMATCHED = 6, /* a keeper whose object claims another slot */
+    LFSCK_OWNER = 7,     /* a keeper whose object has another owner */
+    LFSCK_SPARE = 8,     /* an object that no slot names, without claim */
+    LFSCK_EMPTY = 9,     /* a fresh object that no slot names */
+    LFSCK_ORPHAN = 10,   /* an object that no slot names; its claimed place can be had */
+    LFSCK_CONFLICT = 11, /* an object that no slot names; its claimed place cannot be had */
+    LFSCK_KEPT = 12,     /* an object that a slot names */
+    LFSCK_UNUSED = 13    /* an unused row */
 };
 
 /*
@@ -117,6 +136,25 @@ uint32_t lfsck_start(const uint8_t *parents, size_t parents_bytes,
  */
 uint32_t lfsck_steps(const uint8_t *parents, size_t parents_bytes,
                      const uint8_t *objects, size_t objects_bytes,
+                     uint64_t *out, size_t out_count);
+
+/*
+ * The class at a position, in the tables as they stand.
+ *
+ *   parents, objects  the tables
+ *   stage, row, part  the position; the end has no class
+ *   out               4 numbers, written: the class; then, where it is LFSCK_UNMATCHED, the
+ *                     sequence, id and index that the object claims, else zeros
+ *
+ * LFSCK_OK           the class is in the first 4 numbers
+ * LFSCK_BAD_TABLE, LFSCK_BAD_LAYOUT, LFSCK_BAD_FID, LFSCK_FID_TWICE
+ *                    the tables do not pass the check
+ * LFSCK_NO_POSITION  there is no such position, or it is the end
+ * LFSCK_NO_ROOM      fewer than 4 numbers
+ */
+uint32_t lfsck_class(const uint8_t *parents, size_t parents_bytes,
+                     const uint8_t *objects, size_t objects_bytes,
+                     uint64_t stage, uint64_t row, uint64_t part,
                      uint64_t *out, size_t out_count);
 
 /*
