@@ -5,6 +5,7 @@
 mod check;
 mod class;
 mod layout;
+mod run;
 
 pub use check::{check, start, steps};
 pub use class::class;
@@ -12,6 +13,7 @@ pub use layout::{
     layout_of_numbers, layout_read, layout_slot, layout_write, numbers_of_slot, slot_of_numbers,
     slot_rewrite,
 };
+pub use run::run;
 
 use crate::answer::{DONE, NO_ROOM};
 

@@ -11,6 +11,8 @@ pub mod fid;
 pub mod interface;
 pub mod layout;
 pub mod position;
+pub mod run;
 pub mod site;
+pub mod step;
 pub mod tables;
 mod take;

@@ -45,6 +45,16 @@ impl Position {
         Position::all(tables).next().unwrap_or(Position::End)
     }
 
+    /// The position after this one.
+    pub fn next(self, tables: &Tables) -> Position {
+        match self {
+            Position::Header { row } => slot_or_next_row(row, 0, tables),
+            Position::Slot { row, slot } => slot_or_next_row(row, slot + 1, tables),
+            Position::Object { row } => object_or_end(row + 1, tables),
+            Position::End => Position::End,
+        }
+    }
+
     /// The position that stage, row and part stand for, if these tables have it.
     pub fn of_numbers([stage, row, part]: [u64; 3], tables: &Tables) -> Option<Position> {
         let (row, part) = (usize::try_from(row).ok()?, usize::try_from(part).ok()?);
@@ -68,6 +78,24 @@ impl Position {
             Position::Object { row } => [2, row as u64, 0],
             Position::End => [3, 0, 0],
         }
+    }
+}
+
+fn slot_or_next_row(row: usize, slot: usize, tables: &Tables) -> Position {
+    if slot < slot_count(&tables.parents[row]) {
+        Position::Slot { row, slot }
+    } else if row + 1 < tables.parents.len() {
+        Position::Header { row: row + 1 }
+    } else {
+        object_or_end(0, tables)
+    }
+}
+
+fn object_or_end(row: usize, tables: &Tables) -> Position {
+    if row < tables.objects.len() {
+        Position::Object { row }
+    } else {
+        Position::End
     }
 }
 

@@ -4,7 +4,7 @@ use std::collections::{BTreeMap, BTreeSet};
 
 use crate::fid::Fid;
 use crate::layout::Stripe;
-use crate::tables::{Claim, Object, Parent, Tables};
+use crate::tables::{Claim, OBJECT_BYTES, Object, PARENT_BYTES, Parent, Tables};
 
 /// A slot of a parent row. Places are in scan order: parent row, then slot.
 #[derive(Clone, Copy, Debug, PartialEq, Eq, PartialOrd, Ord)]
@@ -33,33 +33,84 @@ pub struct Site {
     parent_rows: BTreeMap<Fid, usize>,
     object_rows: BTreeMap<Fid, usize>,
     named_by: BTreeMap<Fid, BTreeSet<Place>>,
+    written_parents: BTreeSet<usize>,
+    written_objects: BTreeSet<usize>,
 }
 
 impl Site {
     /// A site with these tables.
     pub fn new(tables: Tables) -> Site {
         let mut site = Site {
+            tables: Tables {
+                parents: vec![None; tables.parents.len()],
+                objects: vec![None; tables.objects.len()],
+            },
             parent_rows: BTreeMap::new(),
             object_rows: BTreeMap::new(),
             named_by: BTreeMap::new(),
-            tables,
+            written_parents: BTreeSet::new(),
+            written_objects: BTreeSet::new(),
         };
-        for (row, parent) in site.tables.parents.iter().enumerate() {
-            let Some(parent) = parent else { continue };
-            site.parent_rows.insert(parent.fid, row);
-            for (slot, stripe) in parent.layout.slots.iter().enumerate() {
-                if let Some(stripe) = stripe {
-                    let places = site.named_by.entry(stripe.object).or_default();
-                    places.insert(Place { row, slot });
+        for (row, parent) in tables.parents.into_iter().enumerate() {
+            if let Some(parent) = parent {
+                site.put_parent(row, parent);
+            }
+        }
+        for (row, object) in tables.objects.into_iter().enumerate() {
+            site.put_object(row, object);
+        }
+        site.written_parents.clear();
+        site.written_objects.clear();
+        site
+    }
+
+    /// Puts a file in a row, in place of the one that stands there.
+    pub fn put_parent(&mut self, row: usize, parent: Parent) {
+        if let Some(before) = self.tables.parents[row].take() {
+            self.parent_rows.remove(&before.fid);
+            for (place, stripe) in named_in(row, &before) {
+                if let Some(places) = self.named_by.get_mut(&stripe.object) {
+                    places.remove(&place);
                 }
             }
         }
-        for (row, object) in site.tables.objects.iter().enumerate() {
-            if let Some(object) = object {
-                site.object_rows.insert(object.fid, row);
+        for (place, stripe) in named_in(row, &parent) {
+            self.named_by
+                .entry(stripe.object)
+                .or_default()
+                .insert(place);
+        }
+        self.parent_rows.insert(parent.fid, row);
+        self.tables.parents[row] = Some(parent);
+        self.written_parents.insert(row);
+    }
+
+    /// Puts an object in a row, or nothing, in place of the one that stands there.
+    pub fn put_object(&mut self, row: usize, object: Option<Object>) {
+        if let Some(before) = self.tables.objects[row].take() {
+            self.object_rows.remove(&before.fid);
+        }
+        if let Some(object) = object {
+            self.object_rows.insert(object.fid, row);
+        }
+        self.tables.objects[row] = object;
+        self.written_objects.insert(row);
+    }
+
+    /// Writes the rows that something was put in. A row without object becomes zero.
+    pub fn write_back(&self, parents: &mut [u8], objects: &mut [u8]) {
+        for &row in &self.written_parents {
+            if let Some(parent) = self.parent(row) {
+                parent.write(&mut parents[PARENT_BYTES * row..][..PARENT_BYTES]);
             }
         }
-        site
+        for &row in &self.written_objects {
+            let bytes = &mut objects[OBJECT_BYTES * row..][..OBJECT_BYTES];
+            match self.object(row) {
+                Some(object) => object.write(bytes),
+                None => bytes.fill(0),
+            }
+        }
     }
 
     /// The tables as they stand.
@@ -129,4 +180,10 @@ impl Site {
             index: place.slot as u32,
         })
     }
+}
+
+/// The slots of a file that name an object.
+fn named_in(row: usize, parent: &Parent) -> impl Iterator<Item = (Place, Stripe)> + '_ {
+    let slots = parent.layout.slots.iter().enumerate();
+    slots.filter_map(move |(slot, stripe)| Some((Place { row, slot }, (*stripe)?)))
 }
