@@ -50,13 +50,18 @@ pub fn random_tables(shape: Shape, random: &mut Random) -> Tables {
     let mut fids = OBJECTS[..shape.fids].to_vec();
     random.shuffle(&mut files);
     random.shuffle(&mut fids);
-    let parents: Vec<Option<Parent>> = (0..random.below(shape.parents + 1))
+    let parents: Vec<Option<Parent>> = (0..row_count(shape.parents, random))
         .map(|_| draw(&mut files, random).map(|fid| random_parent(fid, shape, random)))
         .collect();
-    let objects = (0..random.below(shape.objects + 1))
+    let objects = (0..row_count(shape.objects, random))
         .map(|_| draw(&mut fids, random).map(|fid| random_object(fid, &parents, shape, random)))
         .collect();
     Tables { parents, objects }
+}
+
+/// Rather many than few.
+fn row_count(most: usize, random: &mut Random) -> usize {
+    random.below(most + 1).max(random.below(most + 1))
 }
 
 /// A FID for a row, no other row's; or none, for an unused row.
