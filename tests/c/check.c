@@ -155,5 +155,5 @@ int main(void)
     test_policy_and_position();
     test_start_and_steps();
     test_no_rows();
-    return report();
+    return report_all();
 }

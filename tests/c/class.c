@@ -73,5 +73,5 @@ int main(void)
     test_classes();
     test_unmatched();
     test_refusals();
-    return report();
+    return report_all();
 }

@@ -153,5 +153,5 @@ int main(void)
     test_slot();
     test_write();
     test_rewrite();
-    return report();
+    return report_all();
 }

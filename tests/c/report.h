@@ -17,7 +17,7 @@ static void check(const char *name, int holds)
 }
 
 /* What main returns: 0 where nothing failed. */
-static int report(void)
+static int report_all(void)
 {
     printf("%d passed, %d failed\n", passed, failed);
     return failed != 0;
