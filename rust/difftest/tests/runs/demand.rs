@@ -238,7 +238,7 @@ impl<'a> List<'a> {
         assert!(state == whole.state && position == whole.position);
     }
 
-    /// A run of a steps and then one of b equals one of a + b, and nobody keeps what they do.
+    /// A run of a steps and then one of b equals one of a + b. The list goes on without them.
     pub fn check_sum(&self, side: &mut Side, from: Vec<u64>, a: u64, b: u64) {
         let first = side.call(&self.state, &self.scenario.call(from.clone(), a));
         let second = side.call(&first.state, &self.scenario.call(first.position.clone(), b));

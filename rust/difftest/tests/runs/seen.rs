@@ -1,10 +1,10 @@
 //! What the comparison of runs is to meet.
 
 use crate::demand::{Scenario, Uncut};
-use crate::side::Outcome;
+use crate::side::{Outcome, State};
 use difftest::Coverage;
 use reference::check::{Faults, read_reserve, read_tables};
-use reference::class::{Way, way_to};
+use reference::class::{Class, Way, way_to};
 use reference::fid::Fid;
 use reference::position::Position;
 use reference::site::Site;
@@ -198,9 +198,9 @@ impl Seen {
 fn is_redirect(site: &Site, at: &[u64]) -> bool {
     let numbers = at.try_into().expect("three numbers");
     let position = Position::of_numbers(numbers, site.tables()).expect("a position");
-    reference::class::Class::at(site, position) == Some(reference::class::Class::Multiple)
+    Class::at(site, position) == Some(Class::Multiple)
 }
 
-fn site_of(state: &crate::side::State) -> Site {
+fn site_of(state: &State) -> Site {
     Site::new(read_tables(&state.parents, &state.objects).0)
 }
