@@ -269,7 +269,8 @@ mod tests {
             return;
         }
         let at = row * size + random.below(fields);
-        table[at] = random.pick(&[0, 1, 2, 32, 255, random.any() as u8]);
+        let any = random.any() as u8;
+        table[at] = random.pick(&[0, 1, 2, 32, 255, any]);
     }
 
     #[test]

@@ -78,7 +78,10 @@ impl Position {
                 None => format!("slot {} of parent row {}", place.slot, place.row),
             },
             Position::Object(row) => match site.objects.get(row).and_then(Option::as_ref) {
-                Some(object) => format!("object {}", object.fid),
+                Some(object) => match object.claim {
+                    Some(claim) => format!("object {}, which claims {claim}", object.fid),
+                    None => format!("object {}", object.fid),
+                },
                 None => format!("the unused object row {row}"),
             },
             Position::End => "the end".to_string(),

@@ -27,7 +27,7 @@ struct Pace {
 const SLICE: Duration = Duration::from_secs(1);
 const CHECKS: u32 = 5;
 /// The first slice.
-const FIRST_STEPS: u64 = 1000;
+const FIRST_STEPS: u64 = 200;
 
 impl Pace {
     /// The steps for the next slice, after one that took this long.
@@ -130,7 +130,7 @@ mod tests {
             let site = Site::new(&tables);
             let start = Position::all(&site).next().unwrap_or(Position::End);
             let policy = random.below(4) as u64;
-            let most = random.pick(&[0, 1, 500, 1001, u64::MAX]);
+            let most = random.pick(&[0, 1, 150, 401, u64::MAX]);
             let mut watched = tables.clone();
             let whole = run(&mut tables, policy, most, start.to_numbers());
             let mut told = Vec::new();
