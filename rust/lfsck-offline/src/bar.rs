@@ -1,13 +1,17 @@
 //! A progress bar, on a terminal alone.
 
 use std::io::{self, IsTerminal, Write};
+use std::time::{Duration, Instant};
 
 /// The cells of the bar.
 const CELLS: u64 = 40;
+/// Work that is done sooner needs no bar.
+const PATIENCE: Duration = Duration::from_millis(500);
 
 /// A bar for a number of steps.
 pub struct Bar {
     total: u64,
+    started: Instant,
     drawn: bool,
 }
 
@@ -16,12 +20,16 @@ impl Bar {
     pub fn on_terminal(total: u64) -> Option<Bar> {
         io::stderr().is_terminal().then_some(Bar {
             total,
+            started: Instant::now(),
             drawn: false,
         })
     }
 
     /// Shows that so many steps are done.
     pub fn show(&mut self, done: u64) {
+        if self.started.elapsed() < PATIENCE {
+            return;
+        }
         self.drawn = true;
         let _ = write!(io::stderr(), "\r{}", line(done, self.total));
     }

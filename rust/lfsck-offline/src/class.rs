@@ -55,7 +55,7 @@ pub const NAMES: [&str; 14] = [
 ];
 
 /// What each class means, at its number.
-const MEANINGS: [&str; 14] = [
+pub const MEANINGS: [&str; 14] = [
     "nothing to mend",
     "the layout's own FID is not the file's",
     "a slot without object",

@@ -4,7 +4,7 @@ use std::path::Path;
 
 use crate::answers::require_sound;
 use crate::case::Case;
-use crate::class::{Class, NAMES};
+use crate::class::{Class, MEANINGS, NAMES};
 use crate::finding::Finding;
 use crate::json::Json;
 use crate::outcome::{Failure, Outcome};
@@ -97,10 +97,9 @@ fn repair(finding: &Finding) -> String {
 
 fn summary(counts: &Counts) -> String {
     let mut text = String::from("Summary:\n");
-    for (name, count) in NAMES.iter().zip(counts) {
-        if *count > 0 {
-            text += &format!("  {name:<9} {count:>7}\n");
-        }
+    let named = NAMES.iter().zip(MEANINGS).zip(counts);
+    for ((name, meaning), count) in named.filter(|(_, count)| **count > 0) {
+        text += &format!("  {name:<9} {count:>7}  {meaning}\n");
     }
     text
 }
