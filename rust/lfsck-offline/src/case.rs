@@ -190,7 +190,9 @@ impl Case {
     fn save(&self, changes: &[Change]) -> Result<(), Failure> {
         let unfinished = format!("{JOURNAL}{NEW}");
         let journal = journal::encode(changes);
-        self.disk.write(&unfinished, &journal, JOURNAL)?;
+        // Nobody may read it who may not read the tables.
+        self.disk
+            .write(&unfinished, &journal, Table::Parents.file())?;
         self.disk.rename(&unfinished, JOURNAL)?;
         let replaced = self.disk.sync().and_then(|()| self.replace(changes));
         replaced.map_err(|failure| Failure {

@@ -25,9 +25,9 @@ struct Pace {
 
 /// A slice takes about so long, and about so many times its check.
 const SLICE: Duration = Duration::from_secs(1);
-const CHECKS: u32 = 5;
-/// The first slice.
-const FIRST_STEPS: u64 = 200;
+const CHECKS: u32 = 3;
+/// A slice has at most so many times the steps of the last one: later steps may take longer.
+const GROWTH: f64 = 4.0;
 
 impl Pace {
     /// The steps for the next slice, after one that took this long.
@@ -35,7 +35,7 @@ impl Pace {
         let work = took.saturating_sub(self.check).max(took / 100);
         let wanted = SLICE.max(self.check * CHECKS);
         let factor = wanted.as_secs_f64() / work.as_secs_f64().max(1e-6);
-        let steps = self.steps as f64 * factor.clamp(0.1, 10.0);
+        let steps = self.steps as f64 * factor.clamp(1.0 / GROWTH, GROWTH);
         (steps as u64).max(1)
     }
 }
@@ -62,20 +62,21 @@ pub fn run(tables: &mut Tables, policy: u64, most: u64, position: [u64; 3]) -> R
     }
 }
 
-/// Runs in slices and tells after each how many steps are done. A run of a steps and then one
-/// of b equals one of a + b, so nobody can tell the difference.
+/// Runs in slices, the first of so many steps, and tells after each how many are done. A run of
+/// a steps and then one of b equals one of a + b, so nobody can tell the difference.
 pub fn run_watched(
     tables: &mut Tables,
     policy: u64,
     most: u64,
     position: [u64; 3],
+    first: u64,
     mut watch: impl FnMut(u64),
 ) -> Run {
     let started = Instant::now();
     let mut whole = run(tables, policy, 0, position);
     let mut pace = Pace {
         check: started.elapsed(),
-        steps: FIRST_STEPS,
+        steps: first,
     };
     while whole.answer == 1 && whole.steps < most {
         let started = Instant::now();
@@ -134,9 +135,14 @@ mod tests {
             let mut watched = tables.clone();
             let whole = run(&mut tables, policy, most, start.to_numbers());
             let mut told = Vec::new();
-            let sliced = run_watched(&mut watched, policy, most, start.to_numbers(), |steps| {
-                told.push(steps);
-            });
+            let sliced = run_watched(
+                &mut watched,
+                policy,
+                most,
+                start.to_numbers(),
+                50,
+                |steps| told.push(steps),
+            );
             assert_eq!(sliced, whole);
             assert_eq!(watched, tables);
             assert!(told.is_sorted());
@@ -146,14 +152,14 @@ mod tests {
     }
 
     #[test]
-    fn a_slice_is_a_second_or_five_checks() {
+    fn a_slice_is_a_second_or_three_checks() {
         let second = Duration::from_secs(1);
         let pace = |check, steps| Pace { check, steps };
         assert_eq!(pace(Duration::ZERO, 1000).next(second), 1000);
         assert_eq!(pace(Duration::ZERO, 1000).next(second / 2), 2000);
-        assert_eq!(pace(Duration::ZERO, 1000).next(second / 1000), 10_000);
-        assert_eq!(pace(second, 1000).next(2 * second), 5000);
-        assert_eq!(pace(second, 1000).next(101 * second), 100);
+        assert_eq!(pace(Duration::ZERO, 1000).next(second / 1000), 4000);
+        assert_eq!(pace(second, 1000).next(2 * second), 3000);
+        assert_eq!(pace(second, 1000).next(101 * second), 250);
         assert_eq!(pace(Duration::ZERO, 1).next(50 * second), 1);
     }
 }

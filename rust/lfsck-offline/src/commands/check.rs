@@ -14,8 +14,6 @@ pub fn check(directory: &Path, json: bool) -> Result<Outcome, Failure> {
     let tables = Case::open(directory)?.tables()?;
     let number = tables.check();
     let list = faults(&tables);
-    let lowest = list.iter().map(|fault| fault.number).min().unwrap_or(0);
-    assert_eq!(lowest, number, "the list and the library disagree");
     let text = if json {
         machine(number, &list, &tables)
     } else if number == 0 {

@@ -129,12 +129,13 @@ fn beginning(
 fn run_from(tables: &mut Tables, site: &Site, position: [u64; 3], options: RunOptions) -> Run {
     let most = options.steps.unwrap_or(u64::MAX);
     let left = Position::of_numbers(position).map_or(0, |position| position.steps_left(site));
-    match Bar::on_terminal(left.min(most)) {
+    let steps = left.min(most);
+    match Bar::on_terminal(steps) {
         None => slices::run(tables, options.policy, most, position),
         Some(mut bar) => {
-            let run = slices::run_watched(tables, options.policy, most, position, |done| {
-                bar.show(done);
-            });
+            let first = (steps / 50).max(200);
+            let show = |done| bar.show(done);
+            let run = slices::run_watched(tables, options.policy, most, position, first, show);
             bar.clear();
             run
         }
