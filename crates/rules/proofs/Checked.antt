@@ -15,7 +15,8 @@ use Rattle.tables.specs.Positions.{rowAt}
 use Rattle.tables.specs.Check.{selfFid, hasSelf, noneTwice, allDifferent}
 use Rattle.rules.specs.Rows.{isParent, objectAt, isObject}
 use Rattle.rules.specs.Promises.{Distinct}
-use Rattle.rules.proofs.Theorem.{clash, and-l, and-r, fid-true, OneParent, OneObject}
+use Rattle.rules.proofs.Tests.{clash, and-l, and-r, fid-true}
+use Rattle.rules.proofs.Searches.{OneParent, OneObject}
 
 -- a used row with this self FID
 has : Fid → List ℕ → Bool

@@ -1,3 +1,5 @@
+pub mod Tests
+pub mod Searches
 pub mod Theorem
 pub mod Looks
 pub mod Checked

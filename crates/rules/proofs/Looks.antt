@@ -1,7 +1,25 @@
 -- The keeper as code looks for it: at the claimed slot, then through the claimed parent, then in scan order.
-use Rattle.rules.proofs.Theorem.{ℕ, suc, _<_, _+_, _≤_, arith, _≡_, refl, sym, ap, _∙_, Bool, true, false, cond, _&&_, clash, never, off, and-l, and-r, and-both, eqb, eqb-true, eq-eqb, length}
-use Rattle.rules.proofs.Theorem.{Tables, OstFid, MdtFid, Claim, Unclaimed, Claims, Found, At, Nowhere, Row, RowIs, NoRow, rowAt, width, isParent, parentRow, namesAt, scan, slotFrom, orElse, claimsParent, claimsIndex, inClaimed, atClaimed, keeperBy}
-use Rattle.rules.proofs.Theorem.{First, absent, found, FirstPlace, nowhere, first, place-only, FirstIn, not-in, is-in, slot-from, place-unique, scan-first, named-inside, OneParent, parent-first}
+use Prim.Native.Nat.{ℕ, suc, _+_, _≤_, _<_}
+use native.Mathlib.Omega.{arith}
+use mathlib.Core.Path.{_≡_, refl, sym}
+use mathlib.Core.Bool.{Bool, true, false, cond, _&&_}
+use lib.Dec.{eqb}
+use borrow.Author.Tests.{eqb-true, eq-eqb}
+use Rattle.fid.specs.declared.MdtFid.{MdtFid}
+use Rattle.fid.specs.declared.OstFid.{OstFid}
+use Rattle.tables.specs.Records.{Tables}
+use Rattle.tables.specs.Positions.{rowAt, width}
+use Rattle.tables.specs.declared.Claim.{Claim}
+use Rattle.tables.specs.declared.Claim.the-variants.{Unclaimed, Claims}
+use Rattle.rules.specs.declared.Row.{Row}
+use Rattle.rules.specs.declared.Row.the-variants.{RowIs, NoRow}
+use Rattle.rules.specs.declared.Found.{Found}
+use Rattle.rules.specs.declared.Found.the-variants.{At, Nowhere}
+use Rattle.rules.specs.Search.{slotFrom, orElse}
+use Rattle.rules.specs.Rows.{isParent, parentRow, namesAt, scan}
+use Rattle.rules.specs.Keeper.{claimsParent, claimsIndex, inClaimed, atClaimed, keeperBy}
+use Rattle.rules.proofs.Tests.{clash, never, and-l, and-r, and-both}
+use Rattle.rules.proofs.Searches.{First, absent, found, FirstPlace, nowhere, first, place-only, FirstIn, not-in, is-in, slot-from, place-unique, scan-first, named-inside, OneParent, parent-first}
 
 -- the claimed slot, if it names the object
 unfoldable pub lookAt : Tables → OstFid → ℕ → Row → Found

@@ -1,6 +1,6 @@
 -- What is read of the tables after one write: objects, rows, slots, and the class of a slot.
-pub mod Keepers
-unfoldable pub use Keepers.*
+pub mod Base
+unfoldable pub use Base.*
 
 -- the header has nothing to be repaired
 unfoldable pub quietHeader : HeaderClass → Bool

@@ -1,6 +1,28 @@
 -- What a search finds: the first that passes. Then the keeper of a FID, and what it depends on.
-pub mod Base
-unfoldable pub use Base.*
+use Prim.Native.Nat.{ℕ, zero, suc, _+_, _≤_, _<_}
+use native.Mathlib.Omega.{arith}
+use native.Mathlib.Decide.{decLt}
+use mathlib.Core.Path.{_≡_, refl, sym, ap, ap₂, _∙_}
+use mathlib.Core.Bool.{Bool, true, false, _&&_}
+use mathlib.Core.List.{[]}
+use lib.ListN.{length, getD, List·getD-eq-default}
+use borrow.Author.Tests.{eqb-true, eq-eqb}
+use Rattle.fid.specs.declared.MdtFid.{MdtFid}
+use Rattle.fid.specs.declared.OstFid.{OstFid}
+use Rattle.layout.specs.Slot.{slotNames}
+use Rattle.layout.specs.declared.Slot.the-variants.{Hole, Names}
+use Rattle.tables.specs.Records.{ParentRow, noParent, parent, Tables}
+use Rattle.tables.specs.Positions.{slotsOf, rowAt, width}
+use Rattle.tables.specs.declared.Claim.{Claim}
+use Rattle.tables.specs.declared.Claim.the-variants.{Claims}
+use Rattle.rules.specs.declared.Row.{Row}
+use Rattle.rules.specs.declared.Row.the-variants.{RowIs, NoRow}
+use Rattle.rules.specs.declared.Found.{Found}
+use Rattle.rules.specs.declared.Found.the-variants.{At, Nowhere}
+use Rattle.rules.specs.Search.{rowFrom, slotFrom, placeFrom, orElse}
+use Rattle.rules.specs.Rows.{selfOf, isParent, parentRow, slotAt, namesAt, scan, objectAt, isObject}
+use Rattle.rules.specs.Keeper.{claimsParent, claimsIndex, inClaimed, atClaimed, keeperBy}
+use Rattle.rules.proofs.Tests.{clash, off, never, and-l, and-r, and-both, Compare, is-less, is-same, is-more, compareℕ, fid-refl}
 
 -- ## Rows
 
@@ -170,6 +192,15 @@ pub scan-first : (T : Tables) (f : OstFid) (P : ℕ → ℕ → Bool) → ((r j 
     FirstPlace P (scan T P)
 unfolding scan
 scan-first T f P h = first-place (length (T .parents)) (width T) P (λ r j e. named-inside T f r j (h r j e))
+
+-- the row of a file is the first with its FID
+pub parent-first : (T : Tables) (f : MdtFid) → First (λ r. isParent f (rowAt T r)) (parentRow T f)
+unfolding parentRow rowAt isParent
+parent-first T f = first-of (length (T .parents)) (λ r. isParent f (rowAt T r)) (λ k e. go k e (decLt k (length (T .parents))))
+  where
+    go : (k : ℕ) → isParent f (rowAt T k) ≡ true → Dec (k < length (T .parents)) → k < length (T .parents)
+    go k e (yes h) = h
+    go k e (no n) = clash e (ap (isParent f) (List·getD-eq-default (T .parents) (noParent []) (omega arith)))
 
 -- ## The keeper
 

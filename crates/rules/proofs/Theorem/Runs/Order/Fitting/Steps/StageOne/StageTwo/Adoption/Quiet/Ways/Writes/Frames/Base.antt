@@ -1,4 +1,4 @@
--- The names that the laws of the rules share, and the tests on truth values and FIDs that they use.
+-- The names that the laws of the rules share.
 pub use Prim.Native.Nat.{ℕ, zero, suc, _+_, _-_, _*_, _≤_, _<_, _^_}
 pub use native.Mathlib.Omega.{arith}
 pub use native.Mathlib.Decide.{decLt, ℕ-discrete}
@@ -71,84 +71,5 @@ pub use Rattle.rules.specs.Calls.{Request, Follows}
 unfoldable pub use Rattle.rules.specs.Calls.{runOf, passedOn, passed, passedOf, leaves, adds, tablesAfter, passedAfter, Reached, Fair}
 pub use Rattle.rules.specs.Promises.{Distinct, UncutRun, Promise}
 unfoldable pub use Rattle.rules.specs.Promises.{OwnSlot, OthersKeepClass, NotDestroyed, Settled, then, uncut, Ended}
-
--- ## Truth values
-
-pub clash : {X : Type 0} {b : Bool} → b ≡ true → b ≡ false → X
-clash p q = absurd (true≢false (sym p ∙ q))
-
--- a test that holds only where another does fails where that fails
-pub off : (a b : Bool) → (a ≡ true → b ≡ true) → b ≡ false → a ≡ false
-off true b h q = clash (h refl) q
-off false b h q = refl
-
--- a test that leads to nothing fails
-pub never : (a : Bool) → (a ≡ true → ⊥) → a ≡ false
-never true h = absurd (h refl)
-never false h = refl
-
-pub and-l : (a b : Bool) → (a && b) ≡ true → a ≡ true
-and-l true b e = refl
-and-l false b e = e
-
-pub and-r : (a b : Bool) → (a && b) ≡ true → b ≡ true
-and-r true b e = e
-and-r false b e = clash e refl
-
-pub and-both : {a b : Bool} → a ≡ true → b ≡ true → (a && b) ≡ true
-and-both p q = rw (p, q)
-
-pub or-false : (a b : Bool) → (a || b) ≡ false → (a ≡ false) × (b ≡ false)
-or-false true b e = clash refl e
-or-false false b e = (refl, e)
-
-pub or-true : (a b : Bool) → (a || b) ≡ true → (a ≡ true) ⊎ (b ≡ true)
-or-true true b e = inl refl
-or-true false b e = inr e
-
--- ## Numbers
-
-pub data Compare (a b : ℕ) : Type 0 where
-  is-less : a < b → Compare a b
-  is-same : a ≡ b → Compare a b
-  is-more : b < a → Compare a b
-
-pub compareℕ : (a b : ℕ) → Compare a b
-compareℕ a b = go (decLt a b) (decLt b a)
-  where
-    go : Dec (a < b) → Dec (b < a) → Compare a b
-    go (yes h) d = is-less h
-    go (no n) (yes h) = is-more h
-    go (no n) (no m) = is-same (omega arith)
-
--- ## FIDs and owners
-
-pub fid-true : (a b : Fid) → sameFid a b ≡ true → a ≡ b
-unfolding sameFid
-fid-true a b e =
-    let t : (eqb (a .seq) (b .seq) && eqb (a .oid) (b .oid)) ≡ true = and-l _ (eqb (a .ver) (b .ver)) e in
-    let p = eqb-true (a .seq) (b .seq) (and-l _ (eqb (a .oid) (b .oid)) t) in
-    let q = eqb-true (a .oid) (b .oid) (and-r (eqb (a .seq) (b .seq)) _ t) in
-    let s = eqb-true (a .ver) (b .ver) (and-r (eqb (a .seq) (b .seq) && eqb (a .oid) (b .oid)) _ e) in
-    λ i. record { seq = p i; oid = q i; ver = s i }
-
-pub fid-refl : (a : Fid) → sameFid a a ≡ true
-unfolding sameFid
-fid-refl a = rw (eq-eqb (a .seq) (a .seq) refl, eq-eqb (a .oid) (a .oid) refl, eq-eqb (a .ver) (a .ver) refl)
-
-pub ost-true : (f g : OstFid) → sameFid (f .0) (g .0) ≡ true → f ≡ g
-ost-true f g e = let p = fid-true (f .0) (g .0) e in λ i. record { 0 = p i }
-
-pub mdt-true : (f g : MdtFid) → sameFid (f .0) (g .0) ≡ true → f ≡ g
-mdt-true f g e = let p = fid-true (f .0) (g .0) e in λ i. record { 0 = p i }
-
-pub owner-refl : (a : Owner) → sameOwner a a ≡ true
-unfolding sameOwner
-owner-refl a = and-both (eq-eqb (a .uid) (a .uid) refl) (eq-eqb (a .gid) (a .gid) refl)
-
-pub owner-true : (a b : Owner) → sameOwner a b ≡ true → a ≡ b
-unfolding sameOwner
-owner-true a b e =
-    let p = eqb-true (a .uid) (b .uid) (and-l _ (eqb (a .gid) (b .gid)) e) in
-    let q = eqb-true (a .gid) (b .gid) (and-r (eqb (a .uid) (b .uid)) _ e) in
-    λ i. record { uid = p i; gid = q i }
+pub use Rattle.rules.proofs.Tests.{clash, off, never, and-l, and-r, and-both, or-false, or-true, Compare, compareℕ, fid-true, fid-refl, ost-true, mdt-true, owner-refl, owner-true, is-less, is-same, is-more}
+pub use Rattle.rules.proofs.Searches.{parent-first, First, first-of, from-row-is, first-unique, first-only, first-ext, first-is, first-none, FirstPlace, FirstIn, slot-from, first-place, place-unique, place-only, found-passes, named-inside, scan-first, Kept, keeper-kept, keeper-names, OneParent, OneObject, keeper-claimed, absent, found, nowhere, first, not-in, is-in}
