@@ -2,9 +2,8 @@
 pub use Prim.Native.Nat.{ℕ, zero, suc, _+_, _-_, _*_, _≤_, _<_, _^_}
 pub use native.Mathlib.Omega.{arith}
 pub use native.Mathlib.Decide.{decLt, ℕ-discrete}
-pub use native.Mathlib.Nat.{suc-add, zero-add}
 pub use mathlib.Core.Path.{_≡_, refl, sym, ap, ap₂, subst, _∙_}
-pub use mathlib.Core.Bool.{Bool, true, false, not, cond, _&&_, _||_, true≢false}
+pub use mathlib.Core.Bool.{Bool, true, false, not, cond, _&&_, _||_}
 pub use mathlib.Core.List.{List, [], _∷_, _++_, append-nil, List·Memᴰ, List·Memᴰ·head, List·Memᴰ·tail, List·Memᴰ·append-cases, Memᴰ·append-left, Memᴰ·append-right, List·Memᴰ·cases-cons, List·Memᴰ·eq-of-singleton}
 pub use mathlib.Core.Logic.{_⊎_, inl, inr}
 pub use lib.ListN.{length, getD, set, drop, replicate, length-set, length-append, length-replicate, length-drop, drop-of-length-le, List·getD-eq-default}
@@ -22,11 +21,11 @@ pub use Rattle.layout.specs.Layout.{Layout, magicOne, holePattern, maxSlots}
 unfoldable pub use Rattle.layout.specs.Layout.{encodeLayout, headerSize, layoutSize, withHoles, knownVersion, knownPattern, fewSlots, layoutRules}
 unfoldable pub use Rattle.layout.proofs.SlotLaws.{FitSlot, FitSlots}
 pub use Rattle.layout.proofs.HeaderLaws.{size-most}
-pub use Rattle.layout.proofs.LayoutLaws.{Writable, rules-few, rules-slots, allowed-set, length-layout}
+pub use Rattle.layout.proofs.LayoutLaws.{rules-few, rules-slots, allowed-set, length-layout}
 pub use Rattle.layout.specs.declared.Header.{Header}
 pub use Rattle.layout.specs.declared.Slot.{Slot}
 pub use Rattle.layout.specs.declared.Slot.the-variants.{Hole, Names}
-pub use Rattle.tables.specs.Bytes.{layoutRoom, parentSize, objectSize}
+pub use Rattle.tables.specs.Bytes.{layoutRoom, parentSize}
 pub use Rattle.tables.proofs.FitLaws.{FitOwner, FitFile, FitThing}
 unfoldable pub use Rattle.tables.proofs.FitLaws.{FitParent, FitClaim, hasClaim, FitObject}
 pub use Rattle.tables.proofs.ParseLaws.{FitTables}
@@ -57,19 +56,22 @@ pub use Rattle.rules.specs.declared.Repair.{Repair}
 pub use Rattle.rules.specs.declared.Repair.the-variants.{OfBlank, OfUnmatched, OfOwner, OfEmpty}
 pub use Rattle.rules.specs.declared.Counts.{Counts}
 pub use Rattle.rules.specs.declared.Report.{Report}
-unfoldable pub use Rattle.rules.specs.Search.{rowFrom, slotFrom, placeFrom, orElse, isSomewhere, isRow}
+unfoldable pub use Rattle.rules.specs.Search.{isSomewhere, isRow}
 unfoldable pub use Rattle.rules.specs.Rows.{selfOf, ownerOf, tailOf, holesIn, isFreeParent, isParent, parentRow, freeParent, slotAt, namesAt, scan, named, namesElse, namedElse, objectAt, isFreeObject, isObject, objectRow, freeObject, objectIn, objectInRow, objectOf, sameOwner}
-unfoldable pub use Rattle.rules.specs.Keeper.{claimIn, claimsParent, claimsIndex, inClaimed, atClaimed, keeperBy, keeper, isPlace}
+unfoldable pub use Rattle.rules.specs.Keeper.{claimIn, claimsParent, keeperBy, keeper, isPlace}
 unfoldable pub use Rattle.rules.specs.Places.{claimIs, takeable, slotWay, rowWay, way, isWay}
 unfoldable pub use Rattle.rules.specs.Classes.{ownRight, headerClass, claimClass, keeperClass, slotClassOf, slotClass, unnamedClass, objectClassOf, objectClass}
-pub use Rattle.rules.specs.Repairs.{Write, writeParent, writeObject, Step, rests, repairs, stops}
+pub use Rattle.rules.specs.Repairs.{Write, writeObject, Step, rests, repairs, stops}
 unfoldable pub use Rattle.rules.specs.Repairs.{putParent, putObject, applyWrite, applyWrites, creates, adopts, withSlots, withSlot, ownHeader, withOwn, withOwner, withClaim, destroyed, repairHeader, newObject, usable, redirectTo, redirect, makeObject, rewrite, rewriteAt, writeClaim, writeOwner, repairSlot, destroy, slotFor, ownerWrites, settle, made, grown, makeParent, destroyAt, destroyNamed, adoptBy, adopt, repairObject}
 unfoldable pub use Rattle.rules.specs.Steps.{slotStep, partStep, objectStep, stepAt}
 pub use Rattle.rules.specs.Runs.{Run}
-unfoldable pub use Rattle.rules.specs.Runs.{stepTables, counts, noCounts, countOf, addCounts, halt, after, onStep, run}
+unfoldable pub use Rattle.rules.specs.Runs.{stepTables, counts, noCounts, countOf, halt, after, onStep, run}
 pub use Rattle.rules.specs.Calls.{Request, Follows}
 unfoldable pub use Rattle.rules.specs.Calls.{runOf, passedOn, passed, passedOf, leaves, adds, tablesAfter, passedAfter, Reached, Fair}
 pub use Rattle.rules.specs.Promises.{Distinct, UncutRun, Promise}
 unfoldable pub use Rattle.rules.specs.Promises.{OwnSlot, OthersKeepClass, NotDestroyed, Settled, then, uncut, Ended}
-pub use Rattle.rules.proofs.Tests.{clash, off, never, and-l, and-r, and-both, or-false, or-true, Compare, compareℕ, fid-true, fid-refl, ost-true, mdt-true, owner-refl, owner-true, is-less, is-same, is-more}
-pub use Rattle.rules.proofs.Searches.{parent-first, First, first-of, from-row-is, first-unique, first-only, first-ext, first-is, first-none, FirstPlace, FirstIn, slot-from, first-place, place-unique, place-only, found-passes, named-inside, scan-first, Kept, keeper-kept, keeper-names, OneParent, OneObject, keeper-claimed, absent, found, nowhere, first, not-in, is-in}
+pub use Rattle.rules.proofs.Tests.{clash, never, and-l, and-r, and-both, or-false, or-true, Compare, compareℕ, fid-refl, ost-true, mdt-true, owner-refl, owner-true, is-less, is-same, is-more}
+pub use Rattle.rules.proofs.Searches.{parent-first, First, first-of, from-row-is, first-unique, first-only, first-ext, first-is, first-none, FirstPlace, named-inside, scan-first, Kept, keeper-kept, keeper-names, OneParent, OneObject, keeper-claimed, absent, found, nowhere, first}
+pub use Rattle.rules.proofs.Lists.{set-either, set-pointwise}
+pub use Rattle.rules.proofs.Fits.{FitFid, FitReserve, FitWrites, FitStep, fit-writes, fit-append}
+pub use Rattle.rules.proofs.RunLaws.{run-then, Final, at-the-end, at-a-stop, final-more, final-same}
