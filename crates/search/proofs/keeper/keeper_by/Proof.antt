@@ -1,3 +1,16 @@
+use mathlib.Core.Path.{_≡_, refl, sym, ap, _∙_}
+use native.Mathlib.Omega.{arith}
+use denote.Ref.{now}
+use mathlib.Core.List.{List, []}
+use Prim.Native.Nat.{ℕ, _+_, _-_, _*_, _/_, _≤_, _<_}
+use lib.ListN.{length, take, drop}
+use Rattle.tables.specs.Bytes.{parentSize, parse}
+use Rattle.rules.specs.Rows.{parentRow}
+use Rattle.rules.specs.declared.Row.the-variants.{RowIs, NoRow}
+use Rattle.rules.proofs.Checked.{checked-parents}
+use Rattle.rules.proofs.Looks.{keeper-unclaimed}
+use Rattle.search.proofs.ParsedRows.{parent-inside}
+use Rattle.search.proofs.KeeperLaws.{keeper-absent, keeper-claimed, keeper-near}
 use borrow.Author.Needs.{needs}
 use Rattle.search.proofs.keeper.keeper_by.Statement.{statement}
 use Rattle.search.proofs.keeper.keeper_by.Tie as tie
@@ -40,29 +53,46 @@ enum-known-row c = search needs
 cast-i : tie.Need-cast-i
 cast-i c = search needs
 
+-- the claimed parent's row, and that it lies in the table
+row-is : (c : tie.After-known-told2) → parentRow (parse (now (c .before .before .before .before .before .before .before .before .args .parents)) []) (c .before .before .before .before .before .claim .given .0 .0) ≡ RowIs (c .before .row .given .0 .0)
+row-is c = cc
+
+inside : (c : tie.After-known-told2) → c .before .row .given .0 .0 < length (now (c .before .before .before .before .before .before .before .before .args .parents)) / parentSize
+inside c = parent-inside (now (c .before .before .before .before .before .before .before .before .args .parents)) [] (c .before .before .before .before .before .claim .given .0 .0) _ (row-is c)
+
 -- src/keeper.rt:59:24
 names-at-requires : tie.Need-names-at-requires
-names-at-requires c κs = ?
+names-at-requires c κs = (c .before .before .before .before .before .before .before .before .pre .0, inside c)
 
 -- src/keeper.rt:60:25
 returns : tie.Need-returns
-returns c = ?
+returns c =
+    let a = c .before .before .before .before .before .before .before .before .before .before .args in
+    let v = c .before .before .before .before .before .before .before .claim .given .0 in
+    cc (keeper-claimed (parse (now (a .parents)) []) (a .f) (v .0) (v .1 .0) (checked-parents (now (a .parents)) [] (c .before .before .before .before .before .before .before .before .before .before .pre .1)) _ (row-is (c .before .before)) (sym (c .before .names-at .ensures) ∙ c .if1 .taken))
 
 -- src/keeper.rt:62:21
 keeper-in-requires : tie.Need-keeper-in-requires
-keeper-in-requires c κs = ?
+keeper-in-requires c κs = (c .before .before .before .before .before .before .before .before .before .before .pre .0, inside (c .before .before))
 
 -- src/keeper.rt:47:1
 returns-2 : tie.Need-returns-2
-returns-2 c = ?
+returns-2 c = let a = c .before .before .before .before .args in cc (keeper-unclaimed (parse (now (a .parents)) []) (a .f))
 
 -- src/keeper.rt:47:1
 returns-3 : tie.Need-returns-3
-returns-3 c = ?
+returns-3 c =
+    let a = c .before .before .before .before .before .before .before .before .args in
+    let v = c .before .before .before .before .before .claim .given .0 in
+    let e : parentRow (parse (now (a .parents)) []) (v .0) ≡ NoRow = cc in
+    cc (keeper-absent (parse (now (a .parents)) []) (a .f) (v .0) (v .1 .0) (checked-parents (now (a .parents)) [] (c .before .before .before .before .before .before .before .before .pre .1)) e)
 
 -- src/keeper.rt:47:1
 returns-4 : tie.Need-returns-4
-returns-4 c = ?
+returns-4 c =
+    let a = c .before .before .before .before .before .before .before .before .before .before .before .args in
+    let v = c .before .before .before .before .before .before .before .before .claim .given .0 in
+    cc (keeper-near (parse (now (a .parents)) []) (a .f) (v .0) (v .1 .0) (checked-parents (now (a .parents)) [] (c .before .before .before .before .before .before .before .before .before .before .before .pre .1)) _ (row-is (c .before .before .before)) (sym (c .before .before .names-at .ensures) ∙ c .before .if1 .left) _ (c .keeper-in .ensures))
 
 pub keeper-by-spec : {M : Type 1} → statement M
 keeper-by-spec =

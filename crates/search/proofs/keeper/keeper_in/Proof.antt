@@ -1,3 +1,5 @@
+use mathlib.Core.Path.{_≡_, refl, sym, ap, _∙_}
+use Rattle.search.proofs.KeeperLaws.{or-found, or-other}
 use borrow.Author.Needs.{needs}
 use Rattle.search.proofs.keeper.keeper_in.Statement.{statement}
 use Rattle.search.proofs.keeper.keeper_in.Tie as tie
@@ -24,11 +26,11 @@ first-naming-requires c κs = search needs
 
 -- src/keeper.rt:34:1
 returns : tie.Need-returns
-returns c = ?
+returns c = or-found _ _ _ _ (cc)
 
 -- src/keeper.rt:34:1
 returns-2 : tie.Need-returns-2
-returns-2 c = ?
+returns-2 c = or-other _ _ _ (cc) (c .first-naming .ensures)
 
 pub keeper-in-spec : {M : Type 1} → statement M
 keeper-in-spec =

@@ -1,3 +1,11 @@
+use mathlib.Core.Path.{_≡_, refl, sym, ap, _∙_}
+use native.Mathlib.Omega.{arith}
+use denote.Ref.{now}
+use mathlib.Core.List.{List, []}
+use Rattle.rules.specs.declared.Lookup.{Lookup}
+use Rattle.rules.specs.declared.Lookup.the-variants.{Present}
+use Rattle.tables.specs.declared.Object.{Object}
+use Rattle.search.proofs.ParsedRows.{object-inside, lookup-missing, lookup-present}
 use borrow.Author.Needs.{needs}
 use Rattle.search.proofs.objects.lookup.Statement.{statement}
 use Rattle.search.proofs.objects.lookup.Tie as tie
@@ -21,7 +29,10 @@ enum-known-found c = search needs
 
 -- src/objects.rt:35:17
 row-at-requires : tie.Need-row-at-requires
-row-at-requires c κs = ?
+row-at-requires c κs =
+    let a = c .before .before .before .before .before .args in
+    let h = object-inside [] (now (a .objects)) (a .f) (c .before .found .given .0 .0) (cc) in
+    omega arith
 
 -- src/objects.rt:36:29
 decode-object-requires : tie.Need-decode-object-requires
@@ -29,11 +40,14 @@ decode-object-requires c κs = search needs
 
 -- src/objects.rt:28:1
 returns : tie.Need-returns
-returns c = ?
+returns c = let a = c .before .before .before .before .args in lookup-missing (now (a .objects)) (a .f) (cc)
 
 -- src/objects.rt:28:1
 returns-2 : tie.Need-returns-2
-returns-2 c = ?
+returns-2 c =
+    let a = c .before .before .before .before .before .before .before .args in
+    ap (λ (x : Object). Present x) (c .decode-object .ensures)
+    ∙ lookup-present (now (a .objects)) (a .f) (c .before .before .before .found .given .0 .0) _ (cc) (c .before .row-at .ensures .0)
 
 pub lookup-spec : {M : Type 1} → statement M
 lookup-spec =

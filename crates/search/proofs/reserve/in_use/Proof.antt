@@ -1,3 +1,6 @@
+use mathlib.Core.Path.{_≡_, refl, sym, ap, _∙_}
+use denote.Ref.{now}
+use Rattle.search.proofs.ReserveLaws.{used-row, used-slot}
 use borrow.Author.Needs.{needs}
 use Rattle.search.proofs.reserve.in_use.Statement.{statement}
 use Rattle.search.proofs.reserve.in_use.Tie as tie
@@ -17,7 +20,9 @@ is-row-requires c κs = search needs
 
 -- src/reserve.rt:33:9
 returns : tie.Need-returns
-returns c = ?
+returns c =
+    let a = c .before .before .before .before .before .args in
+    used-row (now (a .parents)) (now (a .objects)) (a .f) _ _ (c .before .before .object-row .ensures) (c .before .is-row .ensures) (c .if1 .taken)
 
 -- src/reserve.rt:35:5
 named-requires : tie.Need-named-requires
@@ -25,7 +30,9 @@ named-requires c κs = search needs
 
 -- src/reserve.rt:28:1
 returns-2 : tie.Need-returns-2
-returns-2 c = ?
+returns-2 c =
+    let a = c .before .before .before .before .before .before .args in
+    used-slot (now (a .parents)) (now (a .objects)) (a .f) _ _ (c .before .before .before .object-row .ensures) (c .before .before .is-row .ensures) (c .before .if1 .left) _ (c .named .ensures)
 
 pub in-use-spec : {M : Type 1} → statement M
 in-use-spec =
