@@ -1,0 +1,50 @@
+use borrow.Author.Needs.{needs}
+use Rattle.classify.proofs.headers.holes_in.Statement.{statement}
+use Rattle.classify.proofs.headers.holes_in.Tie as tie
+use Rattle.classify.proofs.headers.holes_in.Reads as reads
+use Rattle.classify.proofs.headers.holes_in.Lts as lts
+use Rattle.layout.proofs.read_header.Reads as read-header-reads
+use Rattle.layout.proofs.with_holes.Reads as with-holes-reads
+use Rattle.tables.proofs.rows.is_used.Reads as is-used-reads
+use Rattle.tables.proofs.rows.layout_of.Reads as layout-of-reads
+use Rattle.tables.proofs.rows.row_at.Reads as row-at-reads
+
+-- src/headers.rt:52:9
+row-at-requires : tie.Need-row-at-requires
+row-at-requires c κs = search needs
+
+-- src/headers.rt:53:9
+is-used-requires : tie.Need-is-used-requires
+is-used-requires c κs = search needs
+
+-- src/headers.rt:54:9
+returns : tie.Need-returns
+returns c = ?
+
+-- src/headers.rt:56:44
+layout-of-requires : tie.Need-layout-of-requires
+layout-of-requires c κs = ?
+
+-- src/headers.rt:56:24
+read-header-requires : tie.Need-read-header-requires
+read-header-requires c κs = ?
+
+-- src/headers.rt:56:5
+with-holes-requires : tie.Need-with-holes-requires
+with-holes-requires c κs = search needs
+
+-- src/headers.rt:48:1
+returns-2 : tie.Need-returns-2
+returns-2 c = ?
+
+pub holes-in-spec : {M : Type 1} → statement M
+holes-in-spec =
+    tie.close
+    (tie.spec
+    row-at-requires
+    is-used-requires
+    returns
+    layout-of-requires
+    read-header-requires
+    with-holes-requires
+    returns-2)

@@ -1,0 +1,34 @@
+use borrow.Author.Needs.{needs}
+use Rattle.classify.proofs.places.slot_way.Statement.{statement}
+use Rattle.classify.proofs.places.slot_way.Tie as tie
+use Rattle.classify.proofs.places.slot_way.Reads as reads
+use Rattle.classify.proofs.places.slot_way.Lts as lts
+use Rattle.classify.proofs.places.takeable.Reads as takeable-reads
+
+-- src/places.rt:65:23
+enum-told : tie.Need-enum-told
+enum-told c = search needs
+
+-- src/places.rt:66:21
+enum-known-s : tie.Need-enum-known-s
+enum-known-s c = search needs
+
+-- src/places.rt:67:16
+takeable-requires : tie.Need-takeable-requires
+takeable-requires c κs = search needs
+
+-- src/places.rt:60:1
+returns : tie.Need-returns
+returns c = ?
+
+-- src/places.rt:60:1
+returns-2 : tie.Need-returns-2
+returns-2 c = ?
+
+-- src/places.rt:60:1
+returns-3 : tie.Need-returns-3
+returns-3 c = ?
+
+pub slot-way-spec : {M : Type 1} → statement M
+slot-way-spec =
+    tie.close (tie.spec enum-told enum-known-s takeable-requires returns returns-2 returns-3)
