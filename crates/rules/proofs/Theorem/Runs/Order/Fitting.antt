@@ -1,90 +1,6 @@
--- Tables that can be written as bytes and read back: field widths, row sizes, and the rules of the check, on records.
--- Every write of a step fits its row.
+-- Every write of a step fits its row: tables that can be written as bytes and read back stay so.
 pub mod Steps
 unfoldable pub use Steps.*
-
--- ## What fits
-
-pub record FitFid (f : Fid) : Type 0 where
-  pub good : goodFid f ≡ true
-  pub fits : Fits f
-
-pub record FitOwner (w : Owner) : Type 0 where
-  pub uid : w .uid < 2 ^ 32
-  pub gid : w .gid < 2 ^ 32
-
--- "any index is allowed" that fits its field
-abbrev pub FitClaim : Claim → Type 0
-FitClaim Unclaimed = Unit {0}
-FitClaim (Claims f i) = FitFid (f .0) × (i < 2 ^ 32)
-
--- the row is full: 27 bytes of fields, the layout and the bytes past it
-pub record FitParent (p : Parent) : Type 0 where
-  pub self : FitFid (p .self .0)
-  pub owner : FitOwner (p .owner)
-  pub layout : Writable (p .layout)
-  pub room : 27 + layoutSize (p .layout .header .magic) (length (p .layout .slots)) + length (p .tail) ≡ parentSize
-
-abbrev pub FitParentRow : ParentRow → Type 0
-FitParentRow (noParent b) = 1 + length b ≡ parentSize
-FitParentRow (parent p) = FitParent p
-
-pub record FitObject (x : Object) : Type 0 where
-  pub fid : FitFid (x .fid .0)
-  pub ost : x .ost ≤ maxIndex
-  pub owner : FitOwner (x .owner)
-  pub claim : FitClaim (x .claim)
-  pub fresh : x .fresh ≡ true → x .claim ≡ Unclaimed → ⊥
-
-abbrev pub FitObjectRow : ObjectRow → Type 0
-FitObjectRow (noObject b) = 1 + length b ≡ objectSize
-FitObjectRow (object x) = FitObject x
-
-pub record FitRows (T : Tables) : Type 0 where
-  pub parents : (r : ℕ) → r < length (T .parents) → FitParentRow (rowAt T r)
-  pub objects : (o : ℕ) → o < length (T .objects) → FitObjectRow (objectAt T o)
-
-abbrev pub FitReserve : List OstFid → Type 0
-FitReserve reserve = (f : OstFid) → List·Memᴰ f reserve → FitFid (f .0)
-
--- ## Writes
-
-abbrev pub FitWrite : Write → Type 0
-FitWrite (writeParent r w) = FitParentRow w
-FitWrite (writeObject o w) = FitObjectRow w
-
-abbrev pub FitWrites : List Write → Type 0
-FitWrites [] = Unit {0}
-FitWrites (w ∷ ws) = FitWrite w × FitWrites ws
-
-abbrev pub FitStep : Step → Type 0
-FitStep rests = Unit {0}
-FitStep (repairs c ws) = FitWrites ws
-FitStep (stops a) = Unit {0}
-
-fit-write : (T : Tables) (w : Write) → FitRows T → FitWrite w → FitRows (applyWrite T w)
-unfolding applyWrite putParent putObject rowAt objectAt
-fit-write T (writeParent r w) f h =
-    record {
-      objects = f .objects;
-      parents = λ k l. let m : k < length (T .parents) = rw (← length-set (T .parents) r w) l in
-          set-pointwise (T .parents) r w (noParent []) FitParentRow k (λ e. rw (← e) (f .parents k m)) (λ e. h) (λ n. f .parents k m);
-    }
-fit-write T (writeObject o w) f h =
-    record {
-      parents = f .parents;
-      objects = λ k l. let m : k < length (T .objects) = rw (← length-set (T .objects) o w) l in
-          set-pointwise (T .objects) o w (noObject []) FitObjectRow k (λ e. rw (← e) (f .objects k m)) (λ e. h) (λ n. f .objects k m);
-    }
-
-pub fit-writes : (T : Tables) (ws : List Write) → FitRows T → FitWrites ws → FitRows (applyWrites ws T)
-unfolding applyWrites
-fit-writes T [] f h = f
-fit-writes T (w ∷ ws) f h = fit-writes (applyWrite T w) ws (fit-write T w f (h .0)) (h .1)
-
-fit-append : (a b : List Write) → FitWrites a → FitWrites b → FitWrites (a ++ b)
-fit-append [] b f g = g
-fit-append (w ∷ a) b f g = (f .0, fit-append a b (f .1) g)
 
 -- ## Slots
 
@@ -135,14 +51,17 @@ rules-from h l m r few allowed =
 -- ## Rows
 
 -- a used row whose slots and tail change
-fit-slots : (p : Parent) (ss : List Slot) (t : List ℕ) → FitParent p → FitSlots ss → length ss ≤ maxSlots →
+fit-slots : (p : Parent) (ss : List Slot) (t : List ℕ) → FitFile p → FitSlots ss → length ss ≤ maxSlots →
     allowedSlots (withHoles (p .layout .header)) ss ≡ true →
-    24 * length ss + length t ≡ 24 * length (p .layout .slots) + length (p .tail) → FitParentRow (withSlots (parent p) ss t)
-unfolding withSlots layoutSize
+    24 * length ss + length t ≡ 24 * length (p .layout .slots) + length (p .tail) → FitParent (withSlots (parent p) ss t)
+unfolding FitParent withSlots layoutSize
 fit-slots p ss t f s few allowed e =
     let l = f .layout in
+    let m = length-layout (p .layout) (l .pool) in
+    let n = length-layout (record { header = p .layout .header; pool = p .layout .pool; slots = ss }) (l .pool) in
     record {
-      self = f .self;
+      fits = f .fits;
+      good = f .good;
       owner = f .owner;
       room = let z = f .room in omega arith;
       layout =
@@ -150,9 +69,9 @@ fit-slots p ss t f s few allowed e =
     }
 
 -- one slot of a row, which names an object
-fit-slot : (w : ParentRow) (j : ℕ) (f : OstFid) (n i : ℕ) → FitParentRow w → FitFid (f .0) → n < 2 ^ 32 → i ≤ maxIndex →
-    FitParentRow (withSlot w j (Names f n i))
-unfolding withSlot slotsOf tailOf withSlots allowedSlot FitSlot
+fit-slot : (w : ParentRow) (j : ℕ) (f : OstFid) (n i : ℕ) → FitParent w → FitFid (f .0) → n < 2 ^ 32 → i ≤ maxIndex →
+    FitParent (withSlot w j (Names f n i))
+unfolding FitParent withSlot slotsOf tailOf withSlots allowedSlot FitSlot
 fit-slot (noParent b) j f n i h g m k = h
 fit-slot (parent p) j f n i h g m k =
     let s : Slot = Names f n i in
@@ -163,22 +82,25 @@ fit-slot (parent p) j f n i h g m k =
     (allowed-set (withHoles (p .layout .header)) l j s (rules-slots (p .layout .header) l (h .layout .rules)) (and-both (g .good) (le-leb i maxIndex k)))
     (rw e)
 
-fit-owner : (w : ParentRow) → FitParentRow w → FitOwner (ownerOf w)
-unfolding ownerOf
+fit-owner : (w : ParentRow) → FitParent w → FitOwner (ownerOf w)
+unfolding FitParent ownerOf
 fit-owner (noParent b) f = record { uid = omega arith; gid = omega arith }
 fit-owner (parent p) f = f .owner
 
-fit-own : (w : ParentRow) → FitParentRow w → FitParentRow (withOwn w)
-unfolding withOwn ownHeader layoutRules knownVersion knownPattern withHoles
+fit-own : (w : ParentRow) → FitParent w → FitParent (withOwn w)
+unfolding FitParent withOwn ownHeader layoutRules knownVersion knownPattern withHoles
 fit-own (noParent b) f = f
 fit-own (parent p) f =
     let l = f .layout in
     let h = l .header in
-    let s = f .self .fits in
+    let s = f .fits in
+    let m = length-layout (p .layout) (l .pool) in
+    let n = length-layout (record { header = ownHeader (p .layout .header) (p .self); pool = p .layout .pool; slots = p .layout .slots }) (l .pool) in
     record {
-      self = f .self;
+      fits = f .fits;
+      good = f .good;
       owner = f .owner;
-      room = f .room;
+      room = let z = f .room in omega arith;
       layout = record {
         fits = l .fits;
         pool = l .pool;
@@ -188,15 +110,16 @@ fit-own (parent p) f =
       };
     }
 
-fit-made : (f : MdtFid) (i : ℕ) (w : Owner) (b : List ℕ) → FitFid (f .0) → i < maxSlots → FitOwner w → 1 + length b ≡ parentSize →
-    FitParentRow (made f i w b)
-unfolding made layoutSize headerSize layoutRules knownVersion knownPattern fewSlots withHoles allowedSlots FitSlots
+fit-made : (f : MdtFid) (i : ℕ) (w : Owner) (b : List ℕ) → FitFid (f .0) → i < maxSlots → FitOwner w → suc (length b) ≡ parentSize →
+    FitParent (made f i w b)
+unfolding FitParent made layoutSize headerSize layoutRules knownVersion knownPattern fewSlots withHoles allowedSlots FitSlots
 fit-made f i w b g k o e =
     let s = g .fits in
     record {
-      self = g;
+      fits = g .fits;
+      good = g .good;
       owner = o;
-      room = rw (length-drop, n) (omega arith);
+      room = room;
       layout = record {
         fits = fit-holes [] (suc i) tt;
         pool = refl;
@@ -209,13 +132,28 @@ fit-made f i w b g k o e =
     n : length (replicate (suc i) Hole) ≡ suc i
     n = length-replicate (suc i) Hole
 
--- there is room for all slots that a layout may have
-fit-room : (p : Parent) → FitParent p → 24 * maxSlots ≤ 24 * length (p .layout .slots) + length (p .tail)
-unfolding layoutSize
-fit-room p f = let y = size-most (p .layout .header .magic) in let z = f .room in omega arith
+    new : Layout
+    new =
+        record {
+          header = record { magic = magicOne; pattern = holePattern; oid = f .0 .oid; seq = f .0 .seq; stripe = 1048576; generation = 0 };
+          pool = [];
+          slots = replicate (suc i) Hole;
+        }
 
-fit-grown : (w : ParentRow) (i : ℕ) → FitParentRow w → holesIn w ≡ true → length (slotsOf w) ≤ i → i < maxSlots → FitParentRow (grown w i)
-unfolding grown holesIn slotsOf tailOf withSlots
+    room : length (encodeLayout new) + length (drop (26 + layoutSize magicOne (suc i)) b) ≡ layoutRoom
+    room = rw (length-layout new refl, length-drop, n) (omega arith)
+
+-- there is room for all slots that a layout may have
+fit-room : (p : Parent) → FitFile p → 24 * maxSlots ≤ 24 * length (p .layout .slots) + length (p .tail)
+unfolding layoutSize
+fit-room p f =
+    let y = size-most (p .layout .header .magic) in
+    let m = length-layout (p .layout) (f .layout .pool) in
+    let z = f .room in
+    omega arith
+
+fit-grown : (w : ParentRow) (i : ℕ) → FitParent w → holesIn w ≡ true → length (slotsOf w) ≤ i → i < maxSlots → FitParent (grown w i)
+unfolding FitParent grown holesIn slotsOf tailOf withSlots
 fit-grown (noParent b) i f h k l = f
 fit-grown (parent p) i f h k l =
     fit-slots p (p .layout .slots ++ replicate more Hole) (drop (24 * more) (p .tail)) f
@@ -232,41 +170,50 @@ fit-grown (parent p) i f h k l =
 
 -- ## Steps
 
-fit-at : (T : Tables) → FitRows T → (f : MdtFid) (r : ℕ) → isParent f (rowAt T r) ≡ true → FitParentRow (rowAt T r)
-fit-at T fit f r e = fit .parents r (parent-inside T f r e)
+row-fit : (T : Tables) → FitTables T → (r : ℕ) → r < length (T .parents) → FitParent (rowAt T r)
+unfolding rowAt
+row-fit T fit r h = fit .parents r h
+
+object-fit : (T : Tables) → FitTables T → (o : ℕ) → o < length (T .objects) → FitObject (objectAt T o)
+unfolding objectAt
+object-fit T fit o h = fit .objects o h
+
+fit-at : (T : Tables) → FitTables T → (f : MdtFid) (r : ℕ) → isParent f (rowAt T r) ≡ true → FitParent (rowAt T r)
+fit-at T fit f r e = row-fit T fit r (parent-inside T f r e)
 
 used-object : (T : Tables) (o : ℕ) (x : Object) → objectAt T o ≡ object x → o < length (T .objects)
 unfolding isObject
 used-object T o x e = object-inside T (x .fid) o (rw (e, fid-refl (x .fid .0)))
 
-fit-found : (T : Tables) → FitRows T → (o : ℕ) (x : Object) → objectAt T o ≡ object x → FitObject x
-fit-found T fit o x e = subst FitObjectRow e (fit .objects o (used-object T o x e))
+fit-found : (T : Tables) → FitTables T → (o : ℕ) (x : Object) → objectAt T o ≡ object x → FitThing x
+unfolding FitObject
+fit-found T fit o x e = subst FitObject e (object-fit T fit o (used-object T o x e))
 
-module _ (policy : ℕ) (T : Tables) (fit : FitRows T) where
+module _ (policy : ℕ) (T : Tables) (fit : FitTables T) where
   -- ## Objects
 
-  module _ (o : ℕ) (x : Object) (fits : FitObject x) where
-    fit-settle : (r i : ℕ) (w : ParentRow) → FitParentRow w → FitWrites (settle o x r i w)
-    unfolding settle slotFor ownerWrites withOwner
+  module _ (o : ℕ) (x : Object) (fits : FitThing x) where
+    fit-settle : (r i : ℕ) (w : ParentRow) → FitParent w → FitWrites (settle o x r i w)
+    unfolding FitObject settle slotFor ownerWrites withOwner
     fit-settle r i w h =
-        (fit-slot w i (x .fid) 0 (x .ost) h (fits .fid) (omega arith) (fits .ost), owned (sameOwner (x .owner) (ownerOf w)))
+        (fit-slot w i (x .fid) 0 (x .ost) h (record { fits = fits .fits; good = fits .good }) (omega arith) (fits .ost), owned (sameOwner (x .owner) (ownerOf w)))
       where
         owned : (b : Bool) → FitWrites (cond b [] (writeObject o (object (withOwner x (ownerOf w))) ∷ []))
         owned true = tt
-        owned false = (record { fid = fits .fid; ost = fits .ost; owner = fit-owner w h; claim = fits .claim; fresh = fits .fresh }, tt)
+        owned false = (record { fits = fits .fits; good = fits .good; ost = fits .ost; owner = fit-owner w h; claim = fits .claim; fresh = fits .fresh }, tt)
 
     fit-destroy : (q : ℕ) → FitWrites (destroy q ∷ [])
-    unfolding destroy destroyed
+    unfolding FitObject destroy destroyed
     fit-destroy q = (refl, tt)
 
     fit-make : (f : MdtFid) (i : ℕ) → FitFid (f .0) → i < maxSlots → (a : Row) → freeParent T ≡ a → FitStep (makeParent T o x f i a)
-    unfolding makeParent tailOf
+    unfolding FitParent makeParent tailOf
     fit-make f i g k NoRow e = tt
     fit-make f i g k (RowIs r) e =
         let free = free-row T r e in
         let b = free .0 .0 in
         let z : rowAt T r ≡ noParent b = free .0 .1 in
-        let n : FitParentRow (noParent b) = subst FitParentRow z (fit .parents r (free .1)) in
+        let n : FitParent (noParent b) = subst FitParent z (row-fit T fit r (free .1)) in
         fit-settle r i (made f i (x .owner) (tailOf (rowAt T r))) (rw z (fit-made f i (x .owner) b g k (fits .owner) n))
 
     fit-adopt : (f : MdtFid) (i : ℕ) → FitFid (f .0) → i < maxSlots → {v : Way} → Means T f i v → FitStep (adoptBy T o x f i v)
@@ -296,15 +243,15 @@ module _ (policy : ℕ) (T : Tables) (fit : FitRows T) where
         go false q t = clash t refl
 
   fit-object : (o : ℕ) (w : ObjectRow) → objectAt T o ≡ w → FitStep (objectStep policy T o w)
-  unfolding objectStep repairObject adopt
+  unfolding objectStep repairObject adopt FitClaim
   fit-object o (noObject b) e = tt
   fit-object o (object x) e = go (objectClass T o) refl
     where
-      fits : FitObject x
+      fits : FitThing x
       fits = fit-found T fit o x e
 
       claimed : (f : MdtFid) (i : ℕ) → x .claim ≡ Claims f i → FitFid (f .0)
-      claimed f i q = (subst FitClaim q (fits .claim)) .0
+      claimed f i q = let c = subst FitClaim q (fits .claim) in record { fits = c .0; good = c .1 }
 
       go : (k : ObjectClass) → objectClass T o ≡ k → FitStep (repairObject policy T o x k)
       go UNUSED q = tt
@@ -348,8 +295,9 @@ module _ (policy : ℕ) (T : Tables) (fit : FitRows T) where
     unfolding namesAt slotNames
     inside = named-inside T f r j (rw (at, fid-refl (f .0)))
 
-    row-fits : FitParent (its-row)
-    row-fits = subst FitParentRow row-is (fit .parents r (inside .0))
+    row-fits : FitFile (its-row)
+    unfolding FitParent
+    row-fits = subst FitParent row-is (row-fit T fit r (inside .0))
 
     at-row : getD (its-row .layout .slots) j Hole ≡ Names f n ost
     unfolding slotAt slotsOf
@@ -363,14 +311,14 @@ module _ (policy : ℕ) (T : Tables) (fit : FitRows T) where
 
     self-fits : FitFid (selfOf (rowAt T r) .0)
     unfolding selfOf
-    self-fits = rw row-is (row-fits .self)
+    self-fits = rw row-is (record { fits = row-fits .fits; good = row-fits .good })
 
     owner-fits : FitOwner (ownerOf (rowAt T r))
-    owner-fits = fit-owner (rowAt T r) (fit .parents r (inside .0))
+    owner-fits = fit-owner (rowAt T r) (row-fit T fit r (inside .0))
 
     claim-fits : FitClaim (Claims (selfOf (rowAt T r)) j)
-    unfolding width slotsOf
-    claim-fits = (self-fits, low)
+    unfolding width slotsOf FitClaim
+    claim-fits = (self-fits .fits, self-fits .good, low)
       where
         few : length (slotsOf (rowAt T r)) ≤ maxSlots
         few = rw row-is (rules-few (its-row .layout .header) (its-row .layout .slots) (row-fits .layout .rules))
@@ -378,10 +326,9 @@ module _ (policy : ℕ) (T : Tables) (fit : FitRows T) where
         low : j < 2 ^ 32
         low = let z = few in let y = inside .1 in omega arith
 
-    fit-new : (g : OstFid) → FitFid (g .0) → FitObject (newObject T g r j ost)
-    unfolding newObject
-    fit-new g h =
-        record { fid = h; ost = slot-fits .1; owner = owner-fits; claim = claim-fits; fresh = λ e q. let z : _≡_ {A = ℕ} 0 1 = cc in omega arith }
+    fit-new : (g : OstFid) → FitFid (g .0) → FitThing (newObject T g r j ost)
+    unfolding newObject hasClaim
+    fit-new g h = record { fits = h .fits; good = h .good; ost = slot-fits .1; owner = owner-fits; claim = claim-fits; fresh = λ e. refl }
 
     usable-fits : (gs : List OstFid) → FitReserve gs → (g : OstFid) → usable T gs ≡ Takes g → FitFid (g .0)
     unfolding usable
@@ -392,9 +339,9 @@ module _ (policy : ℕ) (T : Tables) (fit : FitRows T) where
         go true e ih = ih e
         go false e ih = let z : b ≡ g = cc in h g (List·Memᴰ·head (sym z))
 
-    fit-rewrite : (c : Repair) (h : Object → Object) → ((x : Object) → FitObject x → FitObject (h x)) → (a : Row) →
+    fit-rewrite : (c : Repair) (h : Object → Object) → ((x : Object) → FitThing x → FitThing (h x)) → (a : Row) →
         FitStep (rewriteAt T c h a)
-    unfolding rewriteAt rewrite
+    unfolding rewriteAt rewrite FitObject
     fit-rewrite c h same NoRow = tt
     fit-rewrite c h same (RowIs o) = go (objectAt T o) refl
       where
@@ -403,13 +350,12 @@ module _ (policy : ℕ) (T : Tables) (fit : FitRows T) where
         go (object x) e = (same x (fit-found T fit o x e), tt)
 
     fit-claim : (c : Repair) (a : Row) → FitStep (writeClaim T c r j a)
-    unfolding writeClaim withClaim
+    unfolding writeClaim withClaim hasClaim
     fit-claim c a =
-        fit-rewrite c _
-        (λ x h. record { fid = h .fid; ost = h .ost; owner = owner-fits; claim = claim-fits; fresh = λ e q. let z : _≡_ {A = ℕ} 0 1 = cc in omega arith }) a
+        fit-rewrite c _ (λ x h. record { fits = h .fits; good = h .good; ost = h .ost; owner = owner-fits; claim = claim-fits; fresh = λ e. refl }) a
 
     fit-slot-step : FitStep (slotStep policy reserve T r j (Names f n ost))
-    unfolding slotStep repairSlot writeOwner withOwner makeObject redirect redirectTo
+    unfolding slotStep repairSlot writeOwner withOwner makeObject redirect redirectTo FitObject
     fit-slot-step = go (slotClass T r j)
       where
         make : (a : Row) → FitStep (makeObject (newObject T f r j ost) a)
@@ -418,7 +364,7 @@ module _ (policy : ℕ) (T : Tables) (fit : FitRows T) where
 
         to : (g : OstFid) → FitFid (g .0) → (a : Row) → FitStep (redirectTo T r j ost g a)
         to g h NoRow = tt
-        to g h (RowIs o) = (fit-new g h, (fit-slot (rowAt T r) j g 0 ost (fit .parents r (inside .0)) h (omega arith) (slot-fits .1), tt))
+        to g h (RowIs o) = (fit-new g h, (fit-slot (rowAt T r) j g 0 ost (row-fit T fit r (inside .0)) h (omega arith) (slot-fits .1), tt))
 
         take : (a : Usable) → usable T reserve ≡ a → FitStep (redirect T r j ost a)
         take UsedUp e = tt
@@ -435,7 +381,7 @@ module _ (policy : ℕ) (T : Tables) (fit : FitRows T) where
         go BLANK = fit-claim OfBlank (objectRow T f)
         go (UNMATCHED g i) = fit-claim OfUnmatched (objectRow T f)
         go OWNER =
-            fit-rewrite OfOwner _ (λ x h. record { fid = h .fid; ost = h .ost; owner = owner-fits; claim = h .claim; fresh = h .fresh })
+            fit-rewrite OfOwner _ (λ x h. record { fits = h .fits; good = h .good; ost = h .ost; owner = owner-fits; claim = h .claim; fresh = h .fresh })
             (objectRow T f)
         go CLEAN = tt
 
@@ -443,7 +389,7 @@ module _ (policy : ℕ) (T : Tables) (fit : FitRows T) where
   unfolding repairHeader headerClass rowAt
   fit-header r UNUSED-PARENT e = tt
   fit-header r CLEAN-HEADER e = tt
-  fit-header r SELF e = (fit-own (rowAt T r) (fit .parents r (there (decLt r (length (T .parents))))), tt)
+  fit-header r SELF e = (fit-own (rowAt T r) (row-fit T fit r (there (decLt r (length (T .parents))))), tt)
     where
       there : Dec (r < length (T .parents)) → r < length (T .parents)
       there (yes h) = h
