@@ -37,8 +37,22 @@ fn put_header(fields: &mut [u64], h: Header, count: u16)
     ensures { λ _. ⌜ now (fields .exit) ≡ sets (now (fields .entry)) 0 (headerFields h count) ⌝ }
 {
     let start = layout::header_size(h.magic) as u64;
-    out::put_four(fields, 0, version_of(h.magic), h.pattern as u64, h.oid, h.seq);
-    out::put_four(fields, 4, h.stripe as u64, count as u64, h.generation as u64, start);
+    out::put_four(
+        fields,
+        0,
+        version_of(h.magic),
+        h.pattern as u64,
+        h.oid,
+        h.seq,
+    );
+    out::put_four(
+        fields,
+        4,
+        h.stripe as u64,
+        count as u64,
+        h.generation as u64,
+        start,
+    );
 }
 
 // Reads a layout: 8 numbers into fields.
@@ -156,7 +170,13 @@ fn given_header(fields: &[u64]) -> HeaderGiven
 
 // Writes a layout of 7 fields, a pool name and slots of 5 numbers each; the bytes written into out.
 #[no_mangle]
-pub extern "C" fn lfsck_layout_write(fields: &[u64], pool: &[u8], slots: &[u64], dest: &mut [u8], out: &mut [u64]) -> u32
+pub extern "C" fn lfsck_layout_write(
+    fields: &[u64],
+    pool: &[u8],
+    slots: &[u64],
+    dest: &mut [u8],
+    out: &mut [u64],
+) -> u32
     ensures answer { λ r. ⌜ r ≡ writeAnswer (now (fields .entry)) (now (pool .entry)) (now (slots .entry)) (now (dest .entry)) (now (out .entry)) ⌝ }
     ensures dest { λ _. ⌜ now (dest .exit) ≡ writeDest (now (fields .entry)) (now (pool .entry)) (now (slots .entry)) (now (dest .entry)) (now (out .entry)) ⌝ }
     ensures out { λ _. ⌜ now (out .exit) ≡ outNumbers (writeNumber (now (fields .entry)) (now (pool .entry)) (now (slots .entry)) (now (dest .entry))) (writeValues (now (fields .entry))) (now (out .entry)) ⌝ }

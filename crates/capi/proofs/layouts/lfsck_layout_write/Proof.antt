@@ -56,7 +56,7 @@ same-length : tie.Need-same-length
 same-length c = search needs
 
 returns-4 : tie.Need-returns-4
-returns-4 c = 
+returns-4 c =
     let v = c .before .before .before .before .before .before .before .before .before .before .before .given .given .0 in
     write-wrong _ _ _ _ _ (v .0) _ (cc) (count-of _) _ (cc) (c .before .before .before .before .write .ensures .1)
 
@@ -64,7 +64,7 @@ same-length-2 : tie.Need-same-length-2
 same-length-2 c = search needs
 
 returns-5 : tie.Need-returns-5
-returns-5 c = 
+returns-5 c =
     let v = c .before .before .before .before .before .before .before .before .before .before .before .given .given .0 in
     write-full _ _ _ _ _ (v .0) _ (cc) (count-of _) _ (cc) (c .before .before .before .before .write .ensures .1)
 
@@ -75,7 +75,7 @@ same-length-4 : tie.Need-same-length-4
 same-length-4 c = search needs
 
 returns-6 : tie.Need-returns-6
-returns-6 c = 
+returns-6 c =
     let v = c .before .before .before .before .before .before .before .before .before .before .before .before .before .before .before .before .given .given .0 in
     write-done _ _ _ _ _ (v .0) _ (cc) (count-of _) (c .before .before .before .before .before .written .given .0 .0) _ _ (cc) (omega arith) (c .before .before .before .before .before .before .before .before .before .write .ensures .1) (c .before .before .put .ensures)
 
