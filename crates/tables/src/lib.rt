@@ -3,7 +3,7 @@ mod fids;
 mod layouts;
 pub mod positions;
 pub mod rows;
-mod twice;
+pub mod twice;
 mod whole;
 
 use fid::MdtFid;

@@ -1,0 +1,1 @@
+// Runs over the lent tables: the check first, then step after step.

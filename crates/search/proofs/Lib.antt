@@ -1,0 +1,8 @@
+pub mod RowSearch
+pub mod PlaceSearch
+pub mod ParsedRows
+pub mod SlotArea
+pub mod NamingLaws
+pub mod Distinctness
+pub mod KeeperLaws
+pub mod ReserveLaws

@@ -1,0 +1,76 @@
+// The keeper of an object: one slot that names it.
+use super::naming;
+use super::objects;
+use super::parents;
+use super::slots;
+use fid::OstFid;
+use rules::Found;
+use rules::Lookup;
+use rules::Row;
+use tables::Claim;
+ghost use mathlib.Core.Path.{_≡_};
+ghost use mathlib.Core.List.{[]};
+ghost use mathlib.Core.Bool.{true};
+ghost use Prim.Native.Nat.{_/_, _<_};
+ghost use lib.ListN.{length};
+ghost use Rattle.tables.specs.Bytes.{parentSize, parentRows, parse};
+ghost use Rattle.tables.specs.Positions.{width};
+ghost use Rattle.tables.specs.Check.{goodLayouts, noneTwice, Sound};
+ghost use Rattle.rules.specs.Search.{slotFrom, orElse};
+ghost use Rattle.rules.specs.Rows.{namesAt, scan, objectOf};
+ghost use Rattle.rules.specs.Keeper.{claimIn, keeperBy, keeper};
+
+// What an object claims: nothing where it is absent.
+pub fn claim_in(found: Lookup) -> Claim
+    ensures { λ c. ⌜ c ≡ claimIn found ⌝ }
+{
+    match found {
+        Lookup::Missing => Claim::Unclaimed,
+        Lookup::Present(x) => x.claim,
+    }
+}
+
+// The first slot of row r that names an object, else the first in scan order.
+fn keeper_in(parents: &[u8], f: OstFid, r: usize) -> Found
+    requires { ⌜ (goodLayouts (now parents) ≡ true) × (r < length (now parents) / parentSize) ⌝ }
+    ensures { λ a. ⌜ a ≡ orElse (slotFrom r (width (parse (now (parents .entry)) []) r) 0 (namesAt (parse (now (parents .entry)) []) f)) (scan (parse (now (parents .entry)) []) (namesAt (parse (now (parents .entry)) []) f)) ⌝ }
+{
+    let found = slots::first_in(parents, f, r);
+    match found {
+        Found::At(k, j) => Found::At(k, j),
+        Found::Nowhere => naming::first_naming(parents, f),
+    }
+}
+
+// The keeper of an object with this claim: the claimed slot if that one names it; else the first slot naming it in the
+// claimed parent; else the first in scan order.
+pub fn keeper_by(parents: &[u8], f: OstFid, claim: Claim) -> Found
+    requires { ⌜ (goodLayouts (now parents) ≡ true) × (noneTwice (parentRows (now parents)) ≡ true) ⌝ }
+    ensures { λ a. ⌜ a ≡ keeperBy (parse (now (parents .entry)) []) f claim ⌝ }
+{
+    match claim {
+        Claim::Unclaimed => naming::first_naming(parents, f),
+        Claim::Claims(file, index) => {
+            let row = parents::parent_row(parents, file);
+            match row {
+                Row::NoRow => naming::first_naming(parents, f),
+                Row::RowIs(r) => {
+                    let i = index as usize;
+                    if slots::names_at(parents, f, r, i) {
+                        return Found::At(r, i);
+                    }
+                    keeper_in(parents, f, r)
+                }
+            }
+        }
+    }
+}
+
+// The keeper of an object FID, present in the object table or not.
+pub fn keeper(parents: &[u8], objects: &[u8], f: OstFid) -> Found
+    requires { ⌜ Sound (now parents) (now objects) ⌝ }
+    ensures { λ a. ⌜ a ≡ keeper (parse (now (parents .entry)) (now (objects .entry))) f ⌝ }
+{
+    let found = objects::lookup(objects, f);
+    keeper_by(parents, f, claim_in(found))
+}

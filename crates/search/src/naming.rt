@@ -1,0 +1,96 @@
+// The slots that name an object, in scan order: parent row, then slot.
+use super::slots;
+use super::slots::SLOT_SIZE;
+use fid::OstFid;
+use layout::Slot;
+use rules::Found;
+use tables::rows;
+use tables::rows::PARENT_SIZE;
+ghost use mathlib.Core.Path.{_≡_};
+ghost use mathlib.Core.List.{[]};
+ghost use mathlib.Core.Bool.{true, not, _&&_};
+ghost use lib.Dec.{eqb};
+ghost use Rattle.layout.specs.Slot.{slotNames};
+ghost use Rattle.tables.specs.Bytes.{parse};
+ghost use Rattle.tables.specs.Check.{goodLayouts};
+ghost use Rattle.rules.specs.Search.{isSomewhere};
+ghost use Rattle.rules.specs.Rows.{namesAt, scan, named, namesElse, namedElse};
+
+// The first slot in scan order that names an object. The search stops at the first parent and slot that name it.
+pub fn first_naming(parents: &[u8], f: OstFid) -> Found
+    requires { ⌜ goodLayouts (now parents) ≡ true ⌝ }
+    ensures { λ a. ⌜ a ≡ scan (parse (now (parents .entry)) []) (namesAt (parse (now (parents .entry)) []) f) ⌝ }
+{
+    let n = parents.len() / PARENT_SIZE;
+    let mut found = Found::Nowhere;
+    'rows: for r in 0..n {
+        let area = slots::slot_area(rows::row_at(parents, PARENT_SIZE, r));
+        let count = area.len() / SLOT_SIZE;
+        for j in 0..count {
+            if layout::names(layout::slot_at(area, j), f) {
+                found = Found::At(r, j);
+                break 'rows;
+            }
+        }
+    }
+    found
+}
+
+// Whether a search found something.
+pub fn is_somewhere(found: Found) -> bool
+    ensures { λ b. ⌜ b ≡ isSomewhere found ⌝ }
+{
+    match found {
+        Found::At(_, _) => true,
+        Found::Nowhere => false,
+    }
+}
+
+// Whether a slot names an object.
+pub fn named(parents: &[u8], f: OstFid) -> bool
+    requires { ⌜ goodLayouts (now parents) ≡ true ⌝ }
+    ensures { λ b. ⌜ b ≡ named (parse (now (parents .entry)) []) f ⌝ }
+{
+    is_somewhere(first_naming(parents, f))
+}
+
+// Whether slot i of row k, which is s, names an object and is not slot j of row r.
+fn names_else(s: Slot, f: OstFid, k: usize, i: usize, r: usize, j: usize) -> bool
+    ensures { λ b. ⌜ b ≡ (slotNames f s && not (eqb k r && eqb i j)) ⌝ }
+{
+    if !layout::names(s, f) {
+        return false;
+    }
+    if k != r {
+        return true;
+    }
+    i != j
+}
+
+// The first slot in scan order that names an object, other than slot j of row r.
+fn first_else(parents: &[u8], f: OstFid, r: usize, j: usize) -> Found
+    requires { ⌜ goodLayouts (now parents) ≡ true ⌝ }
+    ensures { λ a. ⌜ a ≡ scan (parse (now (parents .entry)) []) (namesElse (parse (now (parents .entry)) []) f r j) ⌝ }
+{
+    let n = parents.len() / PARENT_SIZE;
+    let mut found = Found::Nowhere;
+    'rows: for k in 0..n {
+        let area = slots::slot_area(rows::row_at(parents, PARENT_SIZE, k));
+        let count = area.len() / SLOT_SIZE;
+        for i in 0..count {
+            if names_else(layout::slot_at(area, i), f, k, i, r, j) {
+                found = Found::At(k, i);
+                break 'rows;
+            }
+        }
+    }
+    found
+}
+
+// Whether a slot other than slot j of row r names an object.
+pub fn named_else(parents: &[u8], f: OstFid, r: usize, j: usize) -> bool
+    requires { ⌜ goodLayouts (now parents) ≡ true ⌝ }
+    ensures { λ b. ⌜ b ≡ namedElse (parse (now (parents .entry)) []) f r j ⌝ }
+{
+    is_somewhere(first_else(parents, f, r, j))
+}
