@@ -2,22 +2,24 @@
 use mathlib.Core.Path.{_≡_, refl, sym, ap, _∙_}
 use mathlib.Core.Bool.{Bool, true, false}
 use Prim.Native.Nat.{ℕ}
+use native.Mathlib.Omega.{arith}
 use Rattle.fid.specs.declared.MdtFid.{MdtFid}
 use Rattle.fid.specs.declared.OstFid.{OstFid}
 use Rattle.tables.specs.Records.{Tables}
-use Rattle.tables.specs.Positions.{rowAt, width}
+use Rattle.tables.specs.Positions.{width}
 use Rattle.tables.specs.declared.Claim.{Claim}
 use Rattle.tables.specs.declared.Claim.the-variants.{Unclaimed, Claims}
-use Rattle.rules.specs.Search.{slotFrom, orElse}
-use Rattle.rules.specs.Rows.{isParent, parentRow, namesAt, scan, objectOf}
-use Rattle.rules.specs.Keeper.{claimIn, keeperBy, keeper}
+use Rattle.rules.specs.Search.{slotFrom, orElse, isSomewhere}
+use Rattle.rules.specs.Rows.{parentRow, namesAt, scan, named, objectOf}
+use Rattle.rules.specs.Keeper.{claimIn, inClaimed, atClaimed, keeperBy, keeper}
 use Rattle.rules.specs.declared.Row.the-variants.{RowIs, NoRow}
 use Rattle.rules.specs.declared.Found.{Found}
 use Rattle.rules.specs.declared.Found.the-variants.{At, Nowhere}
+use Rattle.rules.proofs.Tests.{clash}
+use Rattle.rules.proofs.Searches.{OneParent, FirstPlace, nowhere, first, scan-first, keeper-names}
 use Rattle.rules.proofs.Looks.{lookAt, lookIn, keeper-looks}
 
-module _ (T : Tables) (f : OstFid) (g : MdtFid) (i : ℕ)
-    (one : (r s : ℕ) (h : MdtFid) → isParent h (rowAt T r) ≡ true → isParent h (rowAt T s) ≡ true → r ≡ s) where
+module _ (T : Tables) (f : OstFid) (g : MdtFid) (i : ℕ) (one : OneParent T) where
   -- the claimed parent is absent
   pub keeper-absent : parentRow T g ≡ NoRow → scan T (namesAt T f) ≡ keeperBy T f (Claims g i)
   unfolding lookAt lookIn orElse
@@ -48,3 +50,30 @@ or-other a b c e q = rw (← e) q
 pub keeper-is : (T : Tables) (f : OstFid) (c : Claim) → c ≡ claimIn (objectOf T f) → keeperBy T f c ≡ keeper T f
 unfolding keeper
 keeper-is T f c e = rw e
+
+-- ## A FID is named where it has a keeper, whatever is claimed
+
+unnamed : {P : ℕ → ℕ → Bool} {a : Found} → FirstPlace P a → a ≡ Nowhere → (r j : ℕ) → P r j ≡ false
+unnamed (nowhere f) e r j = f r j
+unnamed (first t f g) e r j = let z : _≡_ {A = ℕ} 0 1 = cc in absurd (omega arith)
+
+last-found : (a b : Found) (r j : ℕ) → isSomewhere (orElse a (orElse b (At r j))) ≡ true
+unfolding orElse isSomewhere
+last-found (At k i) b r j = refl
+last-found Nowhere (At k i) r j = refl
+last-found Nowhere Nowhere r j = refl
+
+pub named-kept : (T : Tables) (f : OstFid) (c : Claim) → isSomewhere (keeperBy T f c) ≡ named T f
+unfolding named keeperBy isSomewhere
+named-kept T f c = go (scan T (namesAt T f)) refl
+  where
+    none : scan T (namesAt T f) ≡ Nowhere → (k : Found) → keeperBy T f c ≡ k → isSomewhere k ≡ isSomewhere Nowhere
+    none e Nowhere q = refl
+    none e (At r j) q = clash (keeper-names T f c r j q) (unnamed (scan-first T f (namesAt T f) (λ r j t. t)) e r j)
+
+    some : (a : Found) (r j : ℕ) → a ≡ At r j → isSomewhere (orElse (scan T (atClaimed T f c)) (orElse (scan T (inClaimed T f c)) a)) ≡ isSomewhere a
+    some a r j e = rw e (last-found (scan T (atClaimed T f c)) (scan T (inClaimed T f c)) r j)
+
+    go : (a : Found) → scan T (namesAt T f) ≡ a → isSomewhere (keeperBy T f c) ≡ isSomewhere (scan T (namesAt T f))
+    go Nowhere e = none e (keeperBy T f c) refl ∙ ap isSomewhere (sym e)
+    go (At r j) e = some (scan T (namesAt T f)) r j e

@@ -1,3 +1,7 @@
+use mathlib.Core.Path.{_≡_, refl, sym, ap, _∙_}
+use borrow.Author.Tests.{not-true, not-false}
+use Rattle.rules.specs.Places.{claimIs}
+use Rattle.classify.proofs.ClaimLaws.{claim-file, claim-index}
 use borrow.Author.Needs.{needs}
 use Rattle.classify.proofs.places.claim_is.Statement.{statement}
 use Rattle.classify.proofs.places.claim_is.Tie as tie
@@ -19,7 +23,10 @@ same-mdt-requires c κs = search needs
 
 -- src/places.rt:31:17
 returns : tie.Need-returns
-returns c = ?
+returns c =
+    let a = c .before .before .before .before .before .args in
+    let v = c .before .before .before .claim .given .0 in
+    cc (claim-file (v .0) (v .1 .0) (a .f) (a .i) (sym (c .before .same-mdt .ensures) ∙ not-true _ (c .if1 .taken)))
 
 -- src/places.rt:33:13
 cast-result : tie.Need-cast-result
@@ -27,11 +34,15 @@ cast-result c = search needs
 
 -- src/places.rt:24:1
 returns-2 : tie.Need-returns-2
-returns-2 c = ?
+unfolding claimIs
+returns-2 c = cc
 
 -- src/places.rt:24:1
 returns-3 : tie.Need-returns-3
-returns-3 c = ?
+returns-3 c =
+    let a = c .before .before .before .before .before .args in
+    let v = c .before .before .before .claim .given .0 in
+    cc (claim-index (v .0) (v .1 .0) (a .f) (a .i) (sym (c .before .same-mdt .ensures) ∙ not-false _ (c .if1 .left)))
 
 pub claim-is-spec : {M : Type 1} → statement M
 claim-is-spec =

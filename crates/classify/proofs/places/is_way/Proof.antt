@@ -1,3 +1,4 @@
+use Rattle.rules.specs.Places.{isWay}
 use borrow.Author.Needs.{needs}
 use Rattle.classify.proofs.places.is_way.Statement.{statement}
 use Rattle.classify.proofs.places.is_way.Tie as tie
@@ -26,23 +27,28 @@ enum-told-5 c = search needs
 
 -- src/places.rt:108:1
 returns : tie.Need-returns
-returns c = ?
+unfolding isWay
+returns c = cc
 
 -- src/places.rt:108:1
 returns-2 : tie.Need-returns-2
-returns-2 c = ?
+unfolding isWay
+returns-2 c = cc
 
 -- src/places.rt:108:1
 returns-3 : tie.Need-returns-3
-returns-3 c = ?
+unfolding isWay
+returns-3 c = cc
 
 -- src/places.rt:108:1
 returns-4 : tie.Need-returns-4
-returns-4 c = ?
+unfolding isWay
+returns-4 c = cc
 
 -- src/places.rt:108:1
 returns-5 : tie.Need-returns-5
-returns-5 c = ?
+unfolding isWay
+returns-5 c = cc
 
 pub is-way-spec : {M : Type 1} → statement M
 is-way-spec =

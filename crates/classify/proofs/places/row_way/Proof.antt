@@ -1,3 +1,7 @@
+use mathlib.Core.Path.{_≡_, refl, sym, ap, _∙_}
+use native.Mathlib.Omega.{arith}
+use denote.Ref.{now}
+use Rattle.classify.proofs.PlaceLaws.{row-slot, row-grows, row-full}
 use borrow.Author.Needs.{needs}
 use Rattle.classify.proofs.places.row_way.Statement.{statement}
 use Rattle.classify.proofs.places.row_way.Tie as tie
@@ -26,7 +30,9 @@ slot-way-requires c κs = search needs
 
 -- src/places.rt:83:9
 returns : tie.Need-returns
-returns c = ?
+returns c =
+    let a = c .before .before .before .before .before .before .args in
+    row-slot (now (a .parents)) (now (a .objects)) (a .f) (a .i) (a .r) _ (c .before .before .before .width .ensures) (omega arith) _ _ (c .before .slot-of .ensures) (c .slot-way .ensures)
 
 -- src/places.rt:85:8
 holes-in-requires : tie.Need-holes-in-requires
@@ -34,11 +40,15 @@ holes-in-requires c κs = search needs
 
 -- src/places.rt:77:1
 returns-2 : tie.Need-returns-2
-returns-2 c = ?
+returns-2 c =
+    let a = c .before .before .before .before .before .before .args in
+    row-grows (now (a .parents)) (now (a .objects)) (a .f) (a .i) (a .r) _ (c .before .before .before .width .ensures) (omega arith) _ (c .before .holes-in .ensures) (c .if2 .taken)
 
 -- src/places.rt:77:1
 returns-3 : tie.Need-returns-3
-returns-3 c = ?
+returns-3 c =
+    let a = c .before .before .before .before .before .before .args in
+    row-full (now (a .parents)) (now (a .objects)) (a .f) (a .i) (a .r) _ (c .before .before .before .width .ensures) (omega arith) _ (c .before .holes-in .ensures) (c .if2 .left)
 
 pub row-way-spec : {M : Type 1} → statement M
 row-way-spec =

@@ -1,3 +1,8 @@
+use mathlib.Core.Path.{_≡_, refl, sym, ap, _∙_}
+use denote.Ref.{now}
+use Rattle.tables.specs.Bytes.{parse}
+use Rattle.rules.specs.Places.{slotWay}
+use Rattle.classify.proofs.PlaceLaws.{slot-taken, slot-held}
 use borrow.Author.Needs.{needs}
 use Rattle.classify.proofs.places.slot_way.Statement.{statement}
 use Rattle.classify.proofs.places.slot_way.Tie as tie
@@ -19,15 +24,22 @@ takeable-requires c κs = search needs
 
 -- src/places.rt:60:1
 returns : tie.Need-returns
-returns c = ?
+unfolding slotWay
+returns c = cc
 
 -- src/places.rt:60:1
 returns-2 : tie.Need-returns-2
-returns-2 c = ?
+returns-2 c =
+    let a = c .before .before .before .before .before .before .before .args in
+    let v = c .before .before .before .s .given .0 in
+    slot-taken (parse (now (a .parents)) (now (a .objects))) (a .f) (a .r) (a .i) (a .s) (v .0) (v .1 .0) (v .1 .1 .0) (cc) (sym (c .before .takeable .ensures) ∙ c .if1 .taken)
 
 -- src/places.rt:60:1
 returns-3 : tie.Need-returns-3
-returns-3 c = ?
+returns-3 c =
+    let a = c .before .before .before .before .before .before .before .args in
+    let v = c .before .before .before .s .given .0 in
+    slot-held (parse (now (a .parents)) (now (a .objects))) (a .f) (a .r) (a .i) (a .s) (v .0) (v .1 .0) (v .1 .1 .0) (cc) (sym (c .before .takeable .ensures) ∙ c .if1 .left)
 
 pub slot-way-spec : {M : Type 1} → statement M
 slot-way-spec =

@@ -1,3 +1,7 @@
+use mathlib.Core.Path.{_≡_, refl, sym, ap, _∙_}
+use borrow.Author.Tests.{not-true, not-false}
+use denote.Ref.{now}
+use Rattle.classify.proofs.PlaceLaws.{take-missing, take-stale, take-other, take-alone}
 use borrow.Author.Needs.{needs}
 use Rattle.classify.proofs.places.takeable.Statement.{statement}
 use Rattle.classify.proofs.places.takeable.Tie as tie
@@ -37,7 +41,9 @@ named-else-requires c κs = search needs
 
 -- src/places.rt:39:1
 returns-3 : tie.Need-returns-3
-returns-3 c = ?
+returns-3 c =
+    let a = c .before .before .before .before .before .args in
+    take-missing (now (a .parents)) (now (a .objects)) (a .f) (a .g) (a .r) (a .i) _ (c .before .before .lookup .ensures) (cc)
 
 -- src/places.rt:39:1
 returns-4 : tie.Need-returns-4

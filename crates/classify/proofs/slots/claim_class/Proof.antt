@@ -1,3 +1,7 @@
+use mathlib.Core.Path.{_≡_, refl, sym, ap, _∙_}
+use borrow.Author.Tests.{not-true, not-false}
+use Rattle.rules.specs.Classes.{claimClass}
+use Rattle.classify.proofs.ClaimLaws.{class-unmatched, class-clean, class-owner}
 use borrow.Author.Needs.{needs}
 use Rattle.classify.proofs.slots.claim_class.Statement.{statement}
 use Rattle.classify.proofs.slots.claim_class.Tie as tie
@@ -19,19 +23,29 @@ claim-is-requires c κs = search needs
 
 -- src/slots.rt:57:17
 returns : tie.Need-returns
-returns c = ?
+returns c =
+    let a = c .before .before .before .before .before .args in
+    let v = c .before .before .before .claim .given .0 in
+    class-unmatched (a .file) (a .j) (a .owned) (a .claim) (v .0) (v .1 .0) (cc) (sym (c .before .claim-is .ensures) ∙ not-true _ (c .if1 .taken))
 
 -- src/slots.rt:50:1
 returns-2 : tie.Need-returns-2
-returns-2 c = ?
+unfolding claimClass
+returns-2 c = cc
 
 -- src/slots.rt:50:1
 returns-3 : tie.Need-returns-3
-returns-3 c = ?
+returns-3 c =
+    let a = c .before .before .before .before .before .before .args in
+    let v = c .before .before .before .before .claim .given .0 in
+    class-clean (a .file) (a .j) (a .owned) (a .claim) (v .0) (v .1 .0) (cc) (sym (c .before .before .claim-is .ensures) ∙ not-false _ (c .before .if1 .left)) (c .if2 .taken)
 
 -- src/slots.rt:50:1
 returns-4 : tie.Need-returns-4
-returns-4 c = ?
+returns-4 c =
+    let a = c .before .before .before .before .before .before .args in
+    let v = c .before .before .before .before .claim .given .0 in
+    class-owner (a .file) (a .j) (a .owned) (a .claim) (v .0) (v .1 .0) (cc) (sym (c .before .before .claim-is .ensures) ∙ not-false _ (c .before .if1 .left)) (c .if2 .left)
 
 pub claim-class-spec : {M : Type 1} → statement M
 claim-class-spec =

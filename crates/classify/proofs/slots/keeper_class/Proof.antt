@@ -1,3 +1,6 @@
+use mathlib.Core.Path.{_≡_, refl, sym, ap, _∙_}
+use Rattle.rules.specs.Classes.{keeperClass}
+use Rattle.classify.proofs.ClaimLaws.{class-present}
 use borrow.Author.Needs.{needs}
 use Rattle.classify.proofs.slots.keeper_class.Statement.{statement}
 use Rattle.classify.proofs.slots.keeper_class.Tie as tie
@@ -24,11 +27,14 @@ claim-class-requires c κs = search needs
 
 -- src/slots.rt:69:1
 returns : tie.Need-returns
-returns c = ?
+unfolding keeperClass
+returns c = cc
 
 -- src/slots.rt:69:1
 returns-2 : tie.Need-returns-2
-returns-2 c = ?
+returns-2 c =
+    let a = c .before .before .before .before .before .before .args in
+    class-present (a .file) (a .owner) (a .j) (a .found) (c .before .before .before .before .found .given .0 .0) _ _ (cc) (c .before .same-owner .ensures) (c .claim-class .ensures)
 
 pub keeper-class-spec : {M : Type 1} → statement M
 keeper-class-spec =
