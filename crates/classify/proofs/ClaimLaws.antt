@@ -50,17 +50,17 @@ module _ (g : MdtFid) (k : ℕ) (f : MdtFid) (i : ℕ) where
 
 -- "the first row that applies is the class": of a keeper whose object claims (f, i)
 module _ (file : MdtFid) (j : ℕ) (owned : Bool) (claim : Claim) (f : MdtFid) (i : ℕ) (e : claim ≡ Claims f i) where
-  pub class-unmatched : claimIs claim file j ≡ false → UNMATCHED f i ≡ claimClass file j owned claim
+  pub class-unmatched : claimIs (Claims f i) file j ≡ false → UNMATCHED f i ≡ claimClass file j owned claim
   unfolding claimClass
-  class-unmatched t = let z : claimIs (Claims f i) file j ≡ false = rw (← e) t in rw (e, z)
+  class-unmatched t = rw (e, t)
 
-  pub class-clean : claimIs claim file j ≡ true → owned ≡ true → CLEAN ≡ claimClass file j owned claim
+  pub class-clean : claimIs (Claims f i) file j ≡ true → owned ≡ true → CLEAN ≡ claimClass file j owned claim
   unfolding claimClass
-  class-clean t k = let z : claimIs (Claims f i) file j ≡ true = rw (← e) t in rw (e, z, k)
+  class-clean t k = rw (e, t, k)
 
-  pub class-owner : claimIs claim file j ≡ true → owned ≡ false → OWNER ≡ claimClass file j owned claim
+  pub class-owner : claimIs (Claims f i) file j ≡ true → owned ≡ false → OWNER ≡ claimClass file j owned claim
   unfolding claimClass
-  class-owner t k = let z : claimIs (Claims f i) file j ≡ true = rw (← e) t in rw (e, z, k)
+  class-owner t k = rw (e, t, k)
 
 pub class-present : (file : MdtFid) (owner : Owner) (j : ℕ) (found : Lookup) (x : Object) (b : Bool) (c : SlotClass) → found ≡ Present x →
     b ≡ sameOwner (x .owner) owner → c ≡ claimClass file j b (x .claim) → c ≡ keeperClass file owner j found

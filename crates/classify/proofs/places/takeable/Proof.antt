@@ -25,7 +25,9 @@ enum-known-found c = search needs
 
 -- src/places.rt:48:17
 returns : tie.Need-returns
-returns c = ?
+returns c =
+    let a = c .before .before .before .before .before .before .before .before .args in
+    take-stale (now (a .parents)) (now (a .objects)) (a .f) (a .g) (a .r) (a .i) _ (c .before .before .before .before .before .lookup .ensures) (c .before .before .before .found .given .0 .0) (cc) (not-true _ (c .if1 .taken))
 
 -- src/places.rt:51:17
 claim-is-requires : tie.Need-claim-is-requires
@@ -33,7 +35,9 @@ claim-is-requires c κs = search needs
 
 -- src/places.rt:52:17
 returns-2 : tie.Need-returns-2
-returns-2 c = ?
+returns-2 c =
+    let a = c .before .before .before .before .before .before .before .before .before .before .args in
+    take-other (now (a .parents)) (now (a .objects)) (a .f) (a .g) (a .r) (a .i) _ (c .before .before .before .before .before .before .before .lookup .ensures) (c .before .before .before .before .before .found .given .0 .0) (cc) (not-false _ (c .before .before .if1 .left)) (sym (c .before .claim-is .ensures) ∙ not-true _ (c .if2 .taken))
 
 -- src/places.rt:54:14
 named-else-requires : tie.Need-named-else-requires
@@ -47,7 +51,9 @@ returns-3 c =
 
 -- src/places.rt:39:1
 returns-4 : tie.Need-returns-4
-returns-4 c = ?
+returns-4 c =
+    let a = c .before .before .before .before .before .before .before .before .before .before .before .args in
+    take-alone (now (a .parents)) (now (a .objects)) (a .f) (a .g) (a .r) (a .i) _ (c .before .before .before .before .before .before .before .before .lookup .ensures) (c .before .before .before .before .before .before .found .given .0 .0) (cc) (not-false _ (c .before .before .before .if1 .left)) (sym (c .before .before .claim-is .ensures) ∙ not-false _ (c .before .if2 .left)) _ (c .named-else .ensures)
 
 pub takeable-spec : {M : Type 1} → statement M
 takeable-spec =
