@@ -5,8 +5,8 @@ pub mod places;
 pub mod slots;
 
 use rules::Class;
-use tables::positions;
 use tables::Position;
+use tables::positions;
 ghost use mathlib.Core.Path.{_≡_};
 ghost use mathlib.Core.Bool.{true, false};
 ghost use Rattle.tables.specs.Bytes.{parse};

@@ -2,14 +2,14 @@
 use super::headers;
 use fid::MdtFid;
 use fid::OstFid;
-use layout::Slot;
 use layout::MAX_SLOTS;
+use layout::Slot;
 use rules::Lookup;
 use rules::Row;
 use rules::Way;
 use search::naming;
-use tables::positions;
 use tables::Claim;
+use tables::positions;
 ghost use mathlib.Core.Path.{_≡_};
 ghost use mathlib.Core.Bool.{true};
 ghost use Prim.Native.Nat.{_/_, _<_};
