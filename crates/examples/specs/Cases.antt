@@ -8,12 +8,13 @@ use lib.ListN.{length, getD, set, take, drop, replicate}
 use lib.Dec.{eqb, ltb, leb}
 use Rattle.wire.specs.Numbers.{le, bytes}
 use Rattle.wire.specs.Rows.{rows}
-use Rattle.fid.specs.Fid.{decodeFid, encodeFid, sameFid, zeroFid}
+use Rattle.fid.specs.Fid.{goodFid, goodNumber, goodSequence, decodeFid, encodeFid, sameFid, zeroFid}
 use Rattle.fid.specs.declared.Fid.{Fid}
 use Rattle.fid.specs.declared.MdtFid.{MdtFid}
 use Rattle.fid.specs.declared.OstFid.{OstFid}
-use Rattle.layout.specs.Slot.{zeroSlot, slotFrom as slotOfNumbers, decodeSlot, encodeSlot, decodeSlots, encodeSlots, slotNames}
-use Rattle.layout.specs.Layout.{Layout, plainPattern, magicOne, headerSize, decodeHeader, stripeCount, encodeHeader, slotStart, decodeLayout, encodeLayout, withHoles, layoutSize}
+use Rattle.layout.specs.Slot.{allowedSlot, allowedSlots, zeroSlot, slotFrom as slotOfNumbers, decodeSlot, encodeSlot, decodeSlots, encodeSlots, slotNames}
+use Rattle.layout.specs.Layout.{knownVersion, knownPattern, fewSlots, exactLength, layoutRules, acceptedLayout, Layout, plainPattern, magicOne, headerSize, decodeHeader, stripeCount, encodeHeader, slotStart, decodeLayout, encodeLayout, withHoles, layoutSize}
+use Rattle.layout.specs.Answers.{readLayout, readNumber}
 use Rattle.layout.specs.declared.Slot.{Slot}
 use Rattle.layout.specs.declared.Slot.the-variants.{Hole, Names}
 use Rattle.tables.specs.Records.{Parent, ParentRow, noParent, parent, ObjectRow, noObject, object, Tables}
@@ -119,6 +120,11 @@ came answer steps c x = eqb (x .report .answer) answer && eqb (x .report .steps)
 endsWith : List (List ℕ) → List (List ℕ) → Run → Bool
 endsWith ps os x = same (renderParents (x .tables)) (join ps) && same (renderObjects (x .tables)) (join os)
 
+-- sequence, id, generation and OST index of a slot
+slotNumbersOf : Slot → List ℕ
+slotNumbersOf Hole = []
+slotNumbersOf (Names f g i) = f .0 .seq ∷ f .0 .oid ∷ g ∷ i ∷ []
+
 class : List ℕ → Tables → ℕ → ℕ → Bool
 class c T r j = same (slotNumbers (slotClass T r j)) c
 
@@ -180,6 +186,14 @@ E13-objects = holds A Unclaimed ∷ []
 E10 : ℕ → Tables
 E10 index = tables (noFile ∷ []) (holds A (Claims P index) ∷ [])
 
+-- E2: "Layout of P with A = [0x240000400:0x10:0] on OST 3, 56 bytes, in full"
+E2 : List ℕ
+E2 =
+    208 ∷ 11 ∷ 209 ∷ 11 ∷ 1 ∷ 0 ∷ 0 ∷ 0 ∷ 1 ∷ 0 ∷ 0 ∷ 0 ∷ 0 ∷ 0 ∷ 0 ∷ 0 ∷
+    1 ∷ 4 ∷ 0 ∷ 0 ∷ 2 ∷ 0 ∷ 0 ∷ 0 ∷ 0 ∷ 0 ∷ 16 ∷ 0 ∷ 1 ∷ 0 ∷ 0 ∷ 0 ∷
+    0 ∷ 4 ∷ 0 ∷ 64 ∷ 2 ∷ 0 ∷ 0 ∷ 0 ∷ 16 ∷ 0 ∷ 0 ∷ 0 ∷ 0 ∷ 0 ∷ 0 ∷ 0 ∷
+    0 ∷ 0 ∷ 0 ∷ 0 ∷ 3 ∷ 0 ∷ 0 ∷ 0 ∷ []
+
 -- ## The table of tests
 
 pub all : List Bool → Bool
@@ -191,6 +205,14 @@ examples =
     -- E1: the start is the end, answer 0
     came 0 0 noCounts (go 0 [] (tables [] []))
     ∷ isEnd (start (tables [] []))
+    -- E2: it reads as that layout, is written back as these bytes, and is what stands in a row
+    ∷ eqb (readNumber (readLayout E2)) 0
+    ∷ eqb (length (decodeLayout E2 .slots)) 1 && same (slotNumbersOf (getD (decodeLayout E2 .slots) 0 Hole)) (0x240000400 ∷ 0x10 ∷ 0 ∷ 3 ∷ [])
+    ∷ same (encodeLayout (decodeLayout E2)) E2
+    ∷ same (layoutOf P (on A ∷ [])) E2
+    -- E3: E2 with 55 or 57 bytes is 13
+    ∷ eqb (readNumber (readLayout (take 55 E2))) 13
+    ∷ eqb (readNumber (readLayout (E2 ++ 0 ∷ []))) 13
     -- E4: 8 steps, one MULTIPLE, P's slot 0 names N
     ∷ came 0 8 one-multiple (go 1 (N ∷ []) E4)
     ∷ endsWith (file P (on N ∷ on B ∷ []) ∷ file Q (on A ∷ []) ∷ []) (E5-objects ++ N-made ∷ []) (go 1 (N ∷ []) E4)
@@ -231,7 +253,7 @@ examples =
     ∷ []
 
 pub examples-hold : all examples ≡ true
-unfolding all examples fid P Q A B C N us on layoutOf file noFile holds free tables go same numbers came endsWith class objectIs one-multiple one-dangling one-orphan made-and-taken E4-parents E5-objects E4 E5 N-made A-made E7-parents E8-objects E8 E11 E12 E13-objects E10 le bytes rows decodeFid encodeFid sameFid zeroFid zeroSlot slotOfNumbers decodeSlot encodeSlot decodeSlots encodeSlots slotNames headerSize decodeHeader stripeCount encodeHeader slotStart decodeLayout encodeLayout withHoles layoutSize isUsed decodeOwner encodeOwner layoutLength layoutBytes decodeParent encodeParent parseParent renderParent claimFrom claimFid decodeObject mark encodeObject parseObject renderObject parentRows objectRows parse join renderParents renderObjects slotsOf rowAt width isEnd place fromObject fromParent start afterPart next rowSteps countSteps rowFrom slotFrom placeFrom orElse isSomewhere isRow selfOf ownerOf tailOf holesIn isFreeParent isParent parentRow freeParent slotAt namesAt scan named namesElse namedElse objectAt isFreeObject isObject objectRow freeObject objectIn objectInRow objectOf sameOwner claimIn claimsParent claimsIndex inClaimed atClaimed keeperBy keeper isPlace claimIs takeable slotWay rowWay way isWay ownRight headerClass claimClass keeperClass slotClassOf slotClass unnamedClass objectClassOf objectClass only headerNumbers slotNumbers objectNumbers putParent putObject applyWrite applyWrites creates adopts withSlots withSlot ownHeader withOwn withOwner withClaim destroyed repairHeader newObject usable redirectTo redirect makeObject rewrite rewriteAt writeClaim writeOwner repairSlot destroy slotFor ownerWrites settle made grown makeParent destroyAt destroyNamed adoptBy adopt repairObject slotStep partStep objectStep stepAt counts noCounts countOf addCounts halt after onStep run
+unfolding all examples fid P Q A B C N us on layoutOf file noFile holds free tables go same numbers came endsWith class objectIs one-multiple one-dangling one-orphan made-and-taken E4-parents E5-objects E4 E5 N-made A-made E7-parents E8-objects E8 E11 E12 E13-objects E10 le bytes rows decodeFid encodeFid sameFid zeroFid zeroSlot slotOfNumbers decodeSlot encodeSlot decodeSlots encodeSlots slotNames headerSize decodeHeader stripeCount encodeHeader slotStart decodeLayout encodeLayout withHoles layoutSize isUsed decodeOwner encodeOwner layoutLength layoutBytes decodeParent encodeParent parseParent renderParent claimFrom claimFid decodeObject mark encodeObject parseObject renderObject parentRows objectRows parse join renderParents renderObjects slotsOf rowAt width isEnd place fromObject fromParent start afterPart next rowSteps countSteps rowFrom slotFrom placeFrom orElse isSomewhere isRow selfOf ownerOf tailOf holesIn isFreeParent isParent parentRow freeParent slotAt namesAt scan named namesElse namedElse objectAt isFreeObject isObject objectRow freeObject objectIn objectInRow objectOf sameOwner claimIn claimsParent claimsIndex inClaimed atClaimed keeperBy keeper isPlace claimIs takeable slotWay rowWay way isWay ownRight headerClass claimClass keeperClass slotClassOf slotClass unnamedClass objectClassOf objectClass only headerNumbers slotNumbers objectNumbers putParent putObject applyWrite applyWrites creates adopts withSlots withSlot ownHeader withOwn withOwner withClaim destroyed repairHeader newObject usable redirectTo redirect makeObject rewrite rewriteAt writeClaim writeOwner repairSlot destroy slotFor ownerWrites settle made grown makeParent destroyAt destroyNamed adoptBy adopt repairObject slotStep partStep objectStep stepAt counts noCounts countOf addCounts halt after onStep run E2 slotNumbersOf readLayout readNumber acceptedLayout exactLength layoutRules knownVersion knownPattern fewSlots allowedSlot allowedSlots goodFid goodNumber goodSequence
 examples-hold = refl
 
 -- ## A list of calls
