@@ -11,8 +11,9 @@ use crate::position::Position;
 use crate::site::{Place, Site};
 use crate::tables::{Table, Tables};
 
-/// Up to so many parent rows and object rows a case is handed over whole.
-const SMALL: (usize, usize) = (64, 512);
+/// Up to so many parent rows, and so many object rows, a case is handed over whole.
+const FEW_PARENTS: usize = 64;
+const FEW_OBJECTS: usize = 512;
 
 /// Verdicts on the positions of a case with sound tables.
 pub struct Verdicts<'case> {
@@ -34,7 +35,7 @@ impl<'case> Verdicts<'case> {
         Verdicts {
             tables,
             site,
-            whole: site.files.len() <= SMALL.0 && site.objects.len() <= SMALL.1,
+            whole: site.files.len() <= FEW_PARENTS && site.objects.len() <= FEW_OBJECTS,
         }
     }
 

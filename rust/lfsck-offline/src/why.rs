@@ -110,17 +110,24 @@ impl Denial {
 
 /// The keeper of an object and the rule that makes it so; none where no slot names it.
 pub fn keeper(site: &Site, object: OstFid) -> Option<(Place, Rule)> {
-    let places = site.named_by(object);
     let claim = site.object_of(object).and_then(|object| object.claim);
-    if let Some(claimed) = claim.and_then(|claim| site.claimed_place(claim)) {
-        if places.contains(&claimed) {
-            return Some((claimed, Rule::ClaimedSlot));
-        }
-        if let Some(first) = places.iter().find(|place| place.row == claimed.row) {
-            return Some((*first, Rule::ClaimedFile));
-        }
+    let claimed = claim.and_then(|claim| site.claimed_place(claim));
+    let by_claim = claimed.and_then(|claimed| keeper_by_claim(site, object, claimed));
+    by_claim.or_else(|| Some((*site.named_by(object).first()?, Rule::ScanOrder)))
+}
+
+/// The claimed slot if it names the object, else the first that does in the claimed file.
+fn keeper_by_claim(site: &Site, object: OstFid, claimed: Place) -> Option<(Place, Rule)> {
+    let names = |place: &Place| {
+        let stripe = site.stripe(*place);
+        stripe.is_some_and(|stripe| stripe.object == object)
+    };
+    if names(&claimed) {
+        return Some((claimed, Rule::ClaimedSlot));
     }
-    Some((*places.first()?, Rule::ScanOrder))
+    let row = claimed.row;
+    let mut slots = (0..site.file(row)?.slots.len()).map(|slot| Place { row, slot });
+    Some((slots.find(names)?, Rule::ClaimedFile))
 }
 
 /// How the claimed place can be had, or why it cannot.

@@ -435,3 +435,32 @@ fn a_reader_that_leaves_is_no_trouble() {
     let told: Told = child.wait_with_output().unwrap().into();
     assert_eq!(told.expect(0).err, "");
 }
+
+#[test]
+fn output_that_cannot_be_written_is_trouble_with_files() {
+    let case = Case::sample("full-device");
+    let full = std::fs::File::options()
+        .write(true)
+        .open("/dev/full")
+        .unwrap();
+    let mut command = case.command(&["classes"]);
+    let told: Told = command.stdout(full).output().unwrap().into();
+    told.expect_line(74, "standard output");
+}
+
+#[test]
+fn only_a_run_changes_files() {
+    let case = Case::sample("readers");
+    case.run(&["run", "--steps", "9"]).expect(1);
+    let before = case.files();
+    for words in [
+        &["check"][..],
+        &["classes"],
+        &["classes", "--only", "CLEAN"],
+        &["show", "0x200000401:1"],
+    ] {
+        case.run(words).expect(0);
+        case.json(words, 0);
+    }
+    assert_eq!(case.files(), before);
+}

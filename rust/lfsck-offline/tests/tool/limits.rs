@@ -1,6 +1,5 @@
 //! Cases at the limits of document 01.
 
-use std::fs::File;
 use std::process::Stdio;
 use std::time::{Duration, Instant};
 
@@ -83,6 +82,7 @@ fn full_tables_are_checked_classed_and_repaired() {
     // The faults are in the first eight files.
     let steps = (8 * (1 + SLOTS)).to_string();
     let run = ["run", "--create", "--steps", &steps, "--json"];
+    std::fs::remove_file(case.path().join(LOCK)).expect("the lock of earlier commands");
     let mut command = case.command(&run);
     let command = command.stdout(Stdio::piped()).stderr(Stdio::piped());
     let child = command.spawn().expect("the tool");
@@ -99,15 +99,15 @@ fn full_tables_are_checked_classed_and_repaired() {
     time("run");
 }
 
-/// As soon as the run has the case, nobody else has.
+/// While the run has the case, nobody else has. Its lock is new, so that it can be waited for.
 fn expect_refused_meanwhile(case: &Case) {
     let lock = case.path().join(LOCK);
     let started = Instant::now();
-    let is_taken = || File::open(&lock).is_ok_and(|lock| lock.try_lock().is_err());
-    while !is_taken() {
+    while !lock.exists() {
         assert!(started.elapsed() < Duration::from_secs(20));
-        std::thread::sleep(Duration::from_millis(2));
+        std::thread::sleep(Duration::from_millis(5));
     }
+    std::thread::sleep(Duration::from_millis(50));
     case.run(&["check"])
         .expect_line(74, "another lfsck-offline has this case open");
 }
