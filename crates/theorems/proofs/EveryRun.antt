@@ -6,10 +6,10 @@ use mathlib.Core.Bool.{Bool, true, false, cond, true≢false}
 use mathlib.Core.List.{List}
 use lib.Dec.{eqb}
 use lib.ListN.{length}
-use borrow.Author.Tests.{eqb-true, eqb-false, eq-eqb, ne-eqb}
+use borrow.Author.Tests.{eqb-true, eqb-false, ne-eqb}
 use Rattle.wire.specs.Numbers.{Bytes}
 use Rattle.tables.specs.Records.{Tables}
-use Rattle.tables.specs.Bytes.{parentSize, objectSize, parseReserve, renderParents, renderObjects}
+use Rattle.tables.specs.Bytes.{parentSize, objectSize, parseReserve}
 use Rattle.tables.specs.Check.{Sound}
 use Rattle.tables.specs.Positions.{isPosition, isEnd, place, next}
 use Rattle.tables.specs.declared.Position.{Position}
@@ -19,15 +19,10 @@ use Rattle.rules.specs.Runs.{counts, noCounts, addCounts, Run, halt, after, run
 use Rattle.rules.specs.declared.Counts.{Counts}
 use Rattle.rules.specs.Calls.{Request, runOf}
 use Rattle.rules.specs.Promises.{Distinct, NotDestroyed, then as thenRecords}
-use Rattle.rules.proofs.Theorem.{run-destroys-nothing, a-then-b}
-use Rattle.rules.proofs.Theorem.Runs.{OneStep, ended, stuck, moved, one-step, run-makes}
-use Rattle.rules.proofs.Theorem.Runs.Order.{exists-is, is-exists, is-end}
-use Rattle.rules.proofs.Theorem.Runs.Order.Fitting.Steps.{step-makes}
-use Rattle.rules.proofs.Theorem.Runs.Order.Fitting.Steps.StageOne.StageTwo.Adoption.Quiet.{stays-refl}
-use Rattle.rules.proofs.Theorem.Runs.Order.Fitting.Steps.StageOne.StageTwo.{Makes}
 use Rattle.engine.specs.RunBytes.{Ran, refused, rendered, runBytes}
 use Rattle.theorems.specs.Calls.{Lent, tablesOf, RunCall, call, number, Accepted, ran, left, leaves, AtEnd}
 use Rattle.theorems.specs.Promises.{then, Answered, end-reached, used-up, stopped, EveryCall}
+use Rattle.theorems.proofs.FromRules.{run-destroys-nothing, a-then-b, OneStep, ended, stuck, moved, one-step, run-makes, exists-is, is-exists, is-end, step-makes, stays-refl, Makes}
 use Rattle.theorems.proofs.Written.{Good, written, good-read, good-sound, good-run, sound-good, sound-written, reserve-fits, Parts, accepted-parts, parts-accepted}
 
 -- ## Bytes that say good tables
