@@ -119,11 +119,12 @@ run-answered policy reserve (suc n) T p s = go (λ S. run-answered policy reserv
 same-length : {t u : Lent} {T S : Tables} → Says t T → Says u S → length (S .parents) ≡ length (T .parents) → length (S .objects) ≡ length (T .objects) →
     (length (u .parents) ≡ length (t .parents)) × (length (u .objects) ≡ length (t .objects))
 unfolding written
-same-length {t} {u} {T} {S} a b p o =
-    (ap (λ (x : Lent). length (x .parents)) (b .bytes) ∙ parents-length S (b .good .fits) ∙ ap (λ (n : ℕ). parentSize * n) p
-    ∙ sym (parents-length T (a .good .fits)) ∙ sym (ap (λ (x : Lent). length (x .parents)) (a .bytes)),
-    ap (λ (x : Lent). length (x .objects)) (b .bytes) ∙ objects-length S (b .good .fits) ∙ ap (λ (n : ℕ). objectSize * n) o
-    ∙ sym (objects-length T (a .good .fits)) ∙ sym (ap (λ (x : Lent). length (x .objects)) (a .bytes)))
+same-length {t} {u} {T} {S} a b p o = (
+  ap (λ (x : Lent). length (x .parents)) (b .bytes) ∙ parents-length S (b .good .fits) ∙ ap (λ (n : ℕ). parentSize * n) p
+      ∙ sym (parents-length T (a .good .fits)) ∙ sym (ap (λ (x : Lent). length (x .parents)) (a .bytes)),
+  ap (λ (x : Lent). length (x .objects)) (b .bytes) ∙ objects-length S (b .good .fits) ∙ ap (λ (n : ℕ). objectSize * n) o
+      ∙ sym (objects-length T (a .good .fits)) ∙ sym (ap (λ (x : Lent). length (x .objects)) (a .bytes)),
+)
 
 then-rendered : (x y : Run) → rendered (thenRecords x y) ≡ then (rendered x) (rendered y)
 unfolding rendered thenRecords then
