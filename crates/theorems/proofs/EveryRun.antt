@@ -6,28 +6,25 @@ use mathlib.Core.Bool.{Bool, true, false, cond, true≢false}
 use mathlib.Core.List.{List}
 use lib.Dec.{eqb}
 use lib.ListN.{length}
-use borrow.Author.Tests.{eqb-true, eqb-false, eq-eqb, ne-eqb}
+use borrow.Author.Tests.{eqb-true, eqb-false, ne-eqb}
 use Rattle.wire.specs.Numbers.{Bytes}
 use Rattle.tables.specs.Records.{Tables}
-use Rattle.tables.specs.Bytes.{parentSize, objectSize, parseReserve, renderParents, renderObjects}
+use Rattle.tables.specs.Bytes.{parentSize, objectSize, parseReserve}
 use Rattle.tables.specs.Check.{Sound}
 use Rattle.tables.specs.Positions.{isPosition, isEnd, place, next}
 use Rattle.tables.specs.declared.Position.{Position}
 use Rattle.tables.proofs.FitsSound.{parents-length, objects-length}
 use Rattle.fid.specs.declared.OstFid.{OstFid}
-use Rattle.rules.specs.Runs.{counts, noCounts, addCounts, Run, halt, after, run}
+use Rattle.rules.specs.Repairs.{Step, rests, repairs, stops}
+use Rattle.rules.specs.Steps.{stepAt}
+use Rattle.rules.specs.Runs.{counts, noCounts, addCounts, stepTables, Run, halt, after, onStep, run}
 use Rattle.rules.specs.declared.Counts.{Counts}
 use Rattle.rules.specs.Calls.{Request, runOf}
-use Rattle.rules.specs.Promises.{Distinct, NotDestroyed, then as thenRecords}
-use Rattle.rules.proofs.Theorem.{run-destroys-nothing, a-then-b}
-use Rattle.rules.proofs.Theorem.Runs.{OneStep, ended, stuck, moved, one-step, run-makes}
-use Rattle.rules.proofs.Theorem.Runs.Order.{exists-is, is-exists, is-end}
-use Rattle.rules.proofs.Theorem.Runs.Order.Fitting.Steps.{step-makes}
-use Rattle.rules.proofs.Theorem.Runs.Order.Fitting.Steps.StageOne.StageTwo.Adoption.Quiet.{stays-refl}
-use Rattle.rules.proofs.Theorem.Runs.Order.Fitting.Steps.StageOne.StageTwo.{Makes}
+use Rattle.rules.specs.Promises.{Distinct, OthersKeepClass, NotDestroyed, then as thenRecords}
 use Rattle.engine.specs.RunBytes.{Ran, refused, rendered, runBytes}
 use Rattle.theorems.specs.Calls.{Lent, tablesOf, RunCall, call, number, Accepted, ran, left, leaves, AtEnd}
 use Rattle.theorems.specs.Promises.{then, Answered, end-reached, used-up, stopped, EveryCall}
+use Rattle.theorems.proofs.FromRules.{step-others, run-destroys-nothing, a-then-b, OneStep, ended, stuck, moved, one-step, run-makes, exists-is, is-exists, is-end, step-makes, stays-refl, Makes}
 use Rattle.theorems.proofs.Written.{Good, written, good-read, good-sound, good-run, sound-good, sound-written, reserve-fits, Parts, accepted-parts, parts-accepted}
 
 -- ## Bytes that say good tables
@@ -119,16 +116,45 @@ run-answered policy reserve (suc n) T p s = go (λ S. run-answered policy reserv
         stopped (not-end (halt T p a) e) (k .0) (k .1) (omega arith)
     go ih (moved c S e makes fits) = answered-after c n (run policy reserve n S (next S p)) (ih S (makes s .calm .sound))
 
+-- ## One step
+
+-- nothing changed, no class changed
+same-classes : (T : Tables) (p : Position) → OthersKeepClass T T p
+unfolding OthersKeepClass
+same-classes T p k i n = refl
+
+module _ (policy : ℕ) (reserve : List OstFid) (T : Tables) (p : Position) where
+  run-one : isEnd p ≡ false → run policy reserve 1 T p .tables ≡ stepTables (stepAt policy reserve T p) T
+  unfolding run onStep after halt stepTables
+  run-one e = rw e (go (stepAt policy reserve T p))
+    where
+      go : (u : Step) → onStep T p (λ S. run policy reserve 0 S (next S p)) u .tables ≡ stepTables u T
+      go rests = refl
+      go (repairs c ws) = refl
+      go (stops a) = refl
+
+  run-one-end : isEnd p ≡ true → run policy reserve 1 T p .tables ≡ T
+  unfolding run halt
+  run-one-end e = rw e
+
+  run-others : Distinct T → OthersKeepClass T (run policy reserve 1 T p .tables) p
+  run-others s = go (isEnd p) refl
+    where
+      go : (b : Bool) → isEnd p ≡ b → OthersKeepClass T (run policy reserve 1 T p .tables) p
+      go true e = rw (run-one-end e) (same-classes T p)
+      go false e = rw (run-one e) (step-others policy reserve T p s)
+
 -- ## What holds of every call
 
 same-length : {t u : Lent} {T S : Tables} → Says t T → Says u S → length (S .parents) ≡ length (T .parents) → length (S .objects) ≡ length (T .objects) →
     (length (u .parents) ≡ length (t .parents)) × (length (u .objects) ≡ length (t .objects))
 unfolding written
-same-length {t} {u} {T} {S} a b p o =
-    (ap (λ (x : Lent). length (x .parents)) (b .bytes) ∙ parents-length S (b .good .fits) ∙ ap (λ (n : ℕ). parentSize * n) p
-    ∙ sym (parents-length T (a .good .fits)) ∙ sym (ap (λ (x : Lent). length (x .parents)) (a .bytes)),
-    ap (λ (x : Lent). length (x .objects)) (b .bytes) ∙ objects-length S (b .good .fits) ∙ ap (λ (n : ℕ). objectSize * n) o
-    ∙ sym (objects-length T (a .good .fits)) ∙ sym (ap (λ (x : Lent). length (x .objects)) (a .bytes)))
+same-length {t} {u} {T} {S} a b p o = (
+  ap (λ (x : Lent). length (x .parents)) (b .bytes) ∙ parents-length S (b .good .fits) ∙ ap (λ (n : ℕ). parentSize * n) p
+      ∙ sym (parents-length T (a .good .fits)) ∙ sym (ap (λ (x : Lent). length (x .parents)) (a .bytes)),
+  ap (λ (x : Lent). length (x .objects)) (b .bytes) ∙ objects-length S (b .good .fits) ∙ ap (λ (n : ℕ). objectSize * n) o
+      ∙ sym (objects-length T (a .good .fits)) ∙ sym (ap (λ (x : Lent). length (x .objects)) (a .bytes)),
+)
 
 then-rendered : (x y : Run) → rendered (thenRecords x y) ≡ then (rendered x) (rendered y)
 unfolding rendered thenRecords then
@@ -193,6 +219,11 @@ module _ (t : Lent) (c : RunCall) (a : Bytes (t .parents)) (b : Bytes (t .object
           answered = λ k. subst (Answered (c .steps)) (sym (ran-accepted t c refl h))
               (run-answered (c .policy) (parseReserve (c .reserve)) (c .steps) T (c .from) (before .good .distinct));
           idle = accepted-idle;
+          one-step = λ k z n. says-read now ∙ ap (λ (m : ℕ). run (c .policy) (parseReserve (c .reserve)) m T (c .from) .tables) z
+              ∙ run-one (c .policy) (parseReserve (c .reserve)) T (c .from) n;
+          others = λ z. subst (λ (S : Tables). OthersKeepClass T S (c .from))
+              (sym (says-read now ∙ ap (λ (m : ℕ). run (c .policy) (parseReserve (c .reserve)) m T (c .from) .tables) z))
+              (run-others (c .policy) (parseReserve (c .reserve)) T (c .from) (before .good .distinct));
           keeps-data = subst (NotDestroyed T) (sym (says-read now))
               (run-destroys-nothing (c .policy) (parseReserve (c .reserve)) (c .steps) T (c .from) (before .good .distinct));
           sound = λ s. says-sound now;
@@ -222,6 +253,8 @@ module _ (t : Lent) (c : RunCall) (a : Bytes (t .parents)) (b : Bytes (t .object
           refusal = ran-refused t c;
           answered = λ h. absurd (n h);
           idle = λ z. q;
+          one-step = λ h z e. absurd (n h);
+          others = λ z. subst (λ (u : Lent). OthersKeepClass (tablesOf t) (tablesOf u) (c .from)) (sym q) (same-classes (tablesOf t) (c .from));
           keeps-data = subst (λ (u : Lent). NotDestroyed (tablesOf t) (tablesOf u)) (sym q) (stays-refl (tablesOf t));
           sound = λ s. subst (λ (u : Lent). Sound (u .parents) (u .objects)) (sym q) s;
           parents-length = ap (λ (u : Lent). length (u .parents)) q;

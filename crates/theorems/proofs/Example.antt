@@ -1,12 +1,12 @@
 -- A list of calls that demand 3 speaks of, so that its conditions can be met: E8 of document 01 on bytes, in pieces.
-use Prim.Native.Nat.{ℕ, zero, suc, _+_, _-_, _*_, _/_, _%_, _<_}
+use Prim.Native.Nat.{ℕ, zero, suc}
 use native.Mathlib.Omega.{arith}
-use mathlib.Core.Path.{_≡_, refl, sym}
-use mathlib.Core.Bool.{Bool, true, false, not, cond, _&&_, _||_}
-use mathlib.Core.List.{List, [], _∷_, _++_, map, List·Memᴰ, List·Memᴰ·head, List·Memᴰ·tail}
-use mathlib.Core.Logic.{_⊎_, inl, inr}
-use lib.ListN.{length, getD, set, take, drop, replicate}
-use lib.Dec.{eqb, ltb, leb}
+use mathlib.Core.Path.{_≡_, refl}
+use mathlib.Core.Bool.{Bool, true, not, _&&_}
+use mathlib.Core.List.{List, [], _∷_, _++_, List·Memᴰ·head, List·Memᴰ·tail}
+use mathlib.Core.Logic.{inl, inr}
+use lib.ListN.{replicate}
+use lib.Dec.{ltb}
 use borrow.Author.Tests.{ltb-true}
 use Rattle.wire.specs.Numbers.{le, bytes, Bytes}
 use Rattle.wire.specs.Rows.{rows}
@@ -18,7 +18,6 @@ use Rattle.layout.specs.Layout.{headerSize, decodeHeader, stripeCount, encodeHe
 use Rattle.tables.specs.Bytes.{isUsed, decodeOwner, encodeOwner, layoutLength, layoutBytes, decodeParent, encodeParent, parseParent, renderParent, claimFrom, claimFid, decodeObject, mark, encodeObject, parseObject, renderObject, parentRows, objectRows, parse, join, renderParents, renderObjects, reserveEntries, reserveFid, parseReserve}
 use Rattle.tables.specs.Positions.{slotsOf, rowAt, width, inStageOne, inStageTwo, isPosition, isEnd, place, fromObject, fromParent, start, afterPart, next, rowSteps, countSteps}
 use Rattle.tables.specs.Check.{all, whenUsed, wholeRows, isMark, usedMark, freshMark, parentsWhole, objectsWhole, reserveWhole, tablesWhole, goodPolicy, goodLayout, goodLayouts, selfFid, goodSelf, goodIndex, claimed, goodClaim, freshClaims, goodObject, goodEntry, goodFids, hasSelf, noneTwice, allDifferent, checkNumber}
-use Rattle.tables.specs.declared.Position.{Position}
 use Rattle.rules.specs.Search.{rowFrom, slotFrom, placeFrom, orElse, isSomewhere, isRow}
 use Rattle.rules.specs.Rows.{selfOf, ownerOf, tailOf, holesIn, isFreeParent, isParent, parentRow, freeParent, slotAt, namesAt, scan, named, namesElse, namedElse, objectAt, isFreeObject, isObject, objectRow, freeObject, objectIn, objectInRow, objectOf, sameOwner}
 use Rattle.rules.specs.Keeper.{claimIn, claimsParent, claimsIndex, inClaimed, atClaimed, keeperBy, keeper, isPlace}

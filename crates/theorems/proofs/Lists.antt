@@ -1,7 +1,7 @@
 -- Demand 3 on bytes: a list of run calls over the lent tables is the same list over their records, of which the rules' theorem speaks. Assumes nothing.
 use Prim.Native.Nat.{ℕ, _≤_}
 use mathlib.Core.Path.{_≡_, refl, sym, ap, subst, _∙_}
-use mathlib.Core.Bool.{Bool, true, false, cond}
+use mathlib.Core.Bool.{Bool, true, false}
 use mathlib.Core.List.{List, [], _∷_, _++_, List·Memᴰ}
 use mathlib.Core.Logic.{_⊎_, inl, inr, ⊎-elim}
 use lib.Dec.{eqb}
@@ -11,18 +11,16 @@ use Rattle.fid.specs.declared.OstFid.{OstFid}
 use Rattle.tables.specs.Records.{Tables}
 use Rattle.tables.specs.Bytes.{parseReserve, renderParents, renderObjects}
 use Rattle.tables.specs.Check.{goodPolicy, Sound, SoundReserve}
-use Rattle.tables.specs.Positions.{isPosition, place, start, countSteps}
+use Rattle.tables.specs.Positions.{isPosition, start, countSteps}
 use Rattle.tables.specs.declared.Position.{Position}
-use Rattle.rules.specs.Repairs.{creates}
-use Rattle.rules.specs.Runs.{Run, run}
-use Rattle.rules.specs.Calls.{Request, runOf, passed, passedOf, adds, tablesAfter, Follows as FollowsRecords, leaves as leavesRecords, passedAfter as passedRecords, Reached as ReachedRecords, Fair as FairRecords}
-use Rattle.rules.specs.Promises.{Settled, Promise, Ended, uncut as uncutRecords, UncutRun as UncutRecords}
-use Rattle.rules.proofs.Theorem.{uncut-run, promise}
-use Rattle.rules.proofs.Theorem.Runs.Order.{exists-is, start-exists}
+use Rattle.rules.specs.Runs.{run}
+use Rattle.rules.specs.Calls.{runOf, passedOf, adds, tablesAfter, Follows as FollowsRecords, leaves as leavesRecords, passedAfter as passedRecords, Reached as ReachedRecords, Fair as FairRecords}
+use Rattle.rules.specs.Promises.{Settled, Promise, Ended, uncut as uncutRecords}
 use Rattle.engine.specs.RunBytes.{Ran, rendered}
 use Rattle.theorems.specs.Calls.{Lent, tablesOf, RunCall, call, number, Accepted, ran, left, leaves, passedBy, AtEnd, after, passedAfter, Reached, Follows, Fair, fromStart, uncut}
 use Rattle.theorems.specs.Promises.{Begins, UncutRun, SameEnd, DemandThree}
-use Rattle.theorems.proofs.Written.{Good, written, Parts}
+use Rattle.theorems.proofs.FromRules.{uncut-run, promise, exists-is, start-exists}
+use Rattle.theorems.proofs.Written.{written, Parts}
 use Rattle.theorems.proofs.EveryRun.{Says, says-read, says-sound, sound-says, request, ran-accepted, leaves-refused, parts, accepts, either, leaves-says}
 
 -- ## Calls on records

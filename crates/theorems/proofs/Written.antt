@@ -1,41 +1,35 @@
 -- Tables as bytes and as records: those that pass the check can be read and written back, and every run leaves such tables. Assumes nothing.
-use Prim.Native.Nat.{ℕ, zero, suc, _+_, _*_, _/_, _≤_, _<_}
-use native.Mathlib.Omega.{arith}
-use mathlib.Core.Path.{_≡_, refl, sym, ap, ap₂, subst, _∙_}
-use mathlib.Core.Bool.{Bool, true, false, cond, _&&_}
-use mathlib.Core.List.{List, [], _∷_, map, List·Memᴰ, List·Memᴰ·cases-cons, List·Memᴰ·not-nil}
-use mathlib.Core.Logic.{_⊎_, ⊎-elim}
-use lib.ListN.{length, getD, take, drop}
+use Prim.Native.Nat.{ℕ, zero, suc, _/_, _≤_}
+use mathlib.Core.Path.{_≡_, refl, sym}
+use mathlib.Core.Bool.{Bool, true, _&&_}
+use mathlib.Core.List.{List, [], map, List·Memᴰ·cases-cons, List·Memᴰ·not-nil}
+use mathlib.Core.Logic.{⊎-elim}
+use lib.ListN.{length, take, drop}
 use Rattle.wire.specs.Numbers.{Bytes}
 use Rattle.wire.specs.Rows.{rows}
 use Rattle.wire.proofs.NumberLaws.{bytes-drop, bytes-take}
 use Rattle.wire.proofs.Both.{and-first, and-second, and-both}
 use Rattle.fid.specs.Fid.{decodeFid, goodFid}
 use Rattle.fid.specs.declared.OstFid.{OstFid}
-use Rattle.tables.specs.Records.{Parent, parent, noParent, noObject, object, Tables}
-use Rattle.tables.specs.Bytes.{entrySize, parentSize, objectSize, parentRows, objectRows, parse, parseReserve, reserveEntries, reserveFid, renderParents, renderObjects}
+use Rattle.tables.specs.Records.{Tables}
+use Rattle.tables.specs.Bytes.{entrySize, parentRows, objectRows, parse, parseReserve, reserveEntries, reserveFid, renderParents, renderObjects}
 use Rattle.tables.specs.Check.{all, whenUsed, maxParents, maxObjects, wholeRows, parentsWhole, objectsWhole, reserveWhole, tablesWhole, goodPolicy, goodSelf, goodObject, goodEntry, goodFids, checkNumber, Sound, SoundReserve}
 use Rattle.tables.specs.Positions.{rowAt, isPosition}
-use Rattle.tables.specs.declared.Object.{Object}
 use Rattle.tables.specs.declared.Position.{Position}
 use Rattle.tables.proofs.SameLaws.{same-self}
 use Rattle.tables.proofs.PositionLaws.{parsed-parents, parsed-objects}
-use Rattle.tables.proofs.CheckLaws.{Passes, passes-zero, zero-passes, TablesPass, pass-sound, sound-pass}
+use Rattle.tables.proofs.CheckLaws.{passes-zero, zero-passes, pass-sound, sound-pass}
 use Rattle.tables.proofs.SoundLaws.{sound-facts}
 use Rattle.tables.proofs.ParseLaws.{FitTables, tables-read-back}
 use Rattle.tables.proofs.SoundFits.{fid-fits, sound-fits}
-use Rattle.tables.proofs.FitsSound.{parents-length, objects-length, fits-sound}
+use Rattle.tables.proofs.FitsSound.{fits-sound}
 use Rattle.tables.proofs.RenderLaws.{parents-back, objects-back}
 use Rattle.tables.proofs.ApartLaws.{Apart}
 use Rattle.rules.specs.Rows.{isParent, objectAt, isObject}
-use Rattle.rules.specs.Runs.{Run, run}
-use Rattle.rules.specs.Calls.{passed}
+use Rattle.rules.specs.Runs.{run}
 use Rattle.rules.specs.Promises.{Distinct}
-use Rattle.rules.proofs.Theorem.{run-fits, run-distinct}
-use Rattle.rules.proofs.Theorem.Runs.{run-makes}
-use Rattle.rules.proofs.Theorem.Runs.Order.Fitting.{FitFid, FitReserve}
-use Rattle.rules.proofs.Checked.{checked-distinct}
 use Rattle.theorems.specs.Calls.{Lent, tablesOf}
+use Rattle.theorems.proofs.FromRules.{run-fits, run-distinct, run-makes, FitReserve, checked-distinct}
 
 -- ## Tables that can be written and pass
 

@@ -1,17 +1,19 @@
 -- What is promised of run calls on the lent bytes: of every call, and of a whole list of them.
 use Prim.Native.Nat.{ℕ, _+_, _≤_, _<_}
 use mathlib.Core.Path.{_≡_}
-use mathlib.Core.Bool.{true}
+use mathlib.Core.Bool.{true, false}
 use mathlib.Core.List.{List, [], _∷_, List·Memᴰ}
 use mathlib.Core.Logic.{_⊎_}
 use lib.ListN.{length}
 use Rattle.wire.specs.Numbers.{Bytes}
+use Rattle.tables.specs.Bytes.{parseReserve}
 use Rattle.tables.specs.Check.{Sound}
-use Rattle.tables.specs.Positions.{start, countSteps}
+use Rattle.tables.specs.Positions.{isEnd, start, countSteps}
 use Rattle.tables.specs.declared.Position.{Position}
 use Rattle.rules.specs.Repairs.{creates}
-use Rattle.rules.specs.Runs.{addCounts}
-use Rattle.rules.specs.Promises.{NotDestroyed, Settled}
+use Rattle.rules.specs.Steps.{stepAt}
+use Rattle.rules.specs.Runs.{stepTables, addCounts}
+use Rattle.rules.specs.Promises.{OthersKeepClass, NotDestroyed, Settled}
 use Rattle.engine.specs.RunBytes.{Ran, refused}
 use Rattle.theorems.specs.Calls.{Lent, tablesOf, RunCall, call, number, Accepted, ran, leaves, AtEnd, after, passedAfter, Reached, Fair, fromStart, uncut}
 
@@ -43,6 +45,10 @@ pub record EveryCall (t : Lent) (c : RunCall) : Type 0 where
   pub answered : Accepted t c → Answered (c .steps) (ran t c)
   -- "Zero steps changes nothing"
   pub idle : c .steps ≡ 0 → leaves t c ≡ t
+  -- one step: the repair of the class at its position, and no other; every slot but its own keeps its class
+  pub one-step : Accepted t c → c .steps ≡ 1 → isEnd (c .from) ≡ false →
+      tablesOf (leaves t c) ≡ stepTables (stepAt (c .policy) (parseReserve (c .reserve)) (tablesOf t) (c .from)) (tablesOf t)
+  pub others : c .steps ≡ 1 → OthersKeepClass (tablesOf t) (tablesOf (leaves t c)) (c .from)
   -- "the row of each object that wasn't fresh before it is still used, has the same FID and isn't fresh"
   pub keeps-data : NotDestroyed (tablesOf t) (tablesOf (leaves t c))
   -- tables that pass the check are left so, and no table changes its length
