@@ -85,7 +85,7 @@ fn row_way(parents: &[u8], objects: &[u8], f: MdtFid, i: usize, r: usize) -> Way
     if headers::holes_in(parents, r) {
         Way::Grow(r)
     } else {
-        Way::NoWay
+        Way::NoWay // growing would move the file's data
     }
 }
 
