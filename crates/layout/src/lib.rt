@@ -22,7 +22,7 @@ pub const MAGIC_THREE: u32 = 0x0bd3_0bd0;
 
 const PLAIN_PATTERN: u32 = 1;
 
-const HOLE_PATTERN: u32 = 0x4000_0001;
+pub const HOLE_PATTERN: u32 = 0x4000_0001;
 
 // One stripe: a hole, or an object's FID, the generation and the OST index.
 pub enum Slot {

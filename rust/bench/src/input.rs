@@ -1,0 +1,142 @@
+//! Tables at full size.
+
+/// The slots of a file; the last file of a table may have fewer.
+const SLOTS: usize = 160;
+const PARENT: usize = 3915;
+const OBJECT: usize = 46;
+/// Where the slots of a layout of version 1 start in a parent row.
+const SLOTS_AT: usize = 27 + 32;
+const SLOT: usize = 24;
+
+const FILES: u64 = 0x2_0000_0401;
+const OBJECTS: u64 = 0x2_4000_0400;
+
+/// The three tables of a call.
+#[derive(Clone, PartialEq, Eq)]
+pub struct Tables {
+    /// The parent rows.
+    pub parents: Vec<u8>,
+    /// The object rows.
+    pub objects: Vec<u8>,
+    /// The reserve.
+    pub reserve: Vec<u8>,
+}
+
+impl Tables {
+    /// Files with so many slots in all, so many of them, evenly spread, with an object and the
+    /// others holes. Every file, slot and object is as it should be, the objects in the order
+    /// of their slots; no FID of the reserve is in use.
+    pub fn clean(slots: usize, objects: usize, reserve: usize) -> Tables {
+        let mut tables = Tables {
+            parents: Vec::new(),
+            objects: Vec::new(),
+            reserve: Vec::new(),
+        };
+        for first in (0..slots).step_by(SLOTS) {
+            tables.add_file(first / SLOTS, SLOTS.min(slots - first));
+        }
+        for number in 0..objects {
+            let slot = number * slots / objects;
+            tables.add_object(number, slot);
+        }
+        for number in 0..reserve {
+            let id = 1_000_000 + number;
+            tables.reserve.extend(fid(OBJECTS, id as u32, 0));
+        }
+        tables
+    }
+
+    fn add_file(&mut self, row: usize, slots: usize) {
+        let at = self.parents.len();
+        let id = row as u32 + 1;
+        let bytes = &mut self.parents;
+        bytes.push(1);
+        bytes.extend(fid(FILES, id, 0));
+        bytes.extend(owner());
+        bytes.extend((32 + SLOT as u16 * slots as u16).to_le_bytes());
+        bytes.extend(0x0BD1_0BD0_u32.to_le_bytes());
+        bytes.extend(0x4000_0001_u32.to_le_bytes());
+        bytes.extend(u64::from(id).to_le_bytes());
+        bytes.extend(FILES.to_le_bytes());
+        bytes.extend(1_048_576_u32.to_le_bytes());
+        bytes.extend((slots as u16).to_le_bytes());
+        bytes.resize(at + PARENT, 0);
+    }
+
+    /// Adds an object to the slot of that number over all files.
+    fn add_object(&mut self, number: usize, slot: usize) {
+        let id = number as u32 + 1;
+        let (row, index) = (slot / SLOTS, slot % SLOTS);
+        let ost = (number % 65_536) as u32;
+        let bytes = self.slot_mut(slot);
+        bytes[..16].copy_from_slice(&fid(OBJECTS, id, 0));
+        bytes[20..].copy_from_slice(&ost.to_le_bytes());
+        self.objects.push(1);
+        self.objects.extend(fid(OBJECTS, id, 0));
+        self.objects.extend(ost.to_le_bytes());
+        self.objects.extend(owner());
+        self.objects
+            .extend(fid(FILES, row as u32 + 1, index as u32));
+        self.objects.push(0);
+    }
+
+    fn slot_mut(&mut self, slot: usize) -> &mut [u8] {
+        let at = PARENT * (slot / SLOTS) + SLOTS_AT + SLOT * (slot % SLOTS);
+        &mut self.parents[at..at + SLOT]
+    }
+
+    /// Names an object in every hole; none of them is there.
+    pub fn fill(&mut self, slots: usize) {
+        for slot in 0..slots {
+            let name = fid(OBJECTS, (2_000_000 + slot) as u32, 0);
+            let bytes = self.slot_mut(slot);
+            if bytes.iter().all(|&byte| byte == 0) {
+                bytes[..16].copy_from_slice(&name);
+            }
+        }
+    }
+
+    /// Damages as many objects as one slot in a hundred, evenly spread, in six ways in turn.
+    pub fn damage(&mut self, slots: usize) {
+        let objects = self.objects.len() / OBJECT;
+        let count = slots / 100;
+        for fault in 0..count {
+            let number = fault * objects / count;
+            let slot = number * slots / objects;
+            let other = (number + objects / 2) % objects;
+            let row = OBJECT * number;
+            match fault % 6 {
+                // The object is gone.
+                0 => self.objects[row..row + OBJECT].fill(0),
+                // The slot names another file's object, and its own is gone.
+                1 => {
+                    let name = fid(OBJECTS, other as u32 + 1, 0);
+                    self.slot_mut(slot)[..16].copy_from_slice(&name);
+                    self.objects[row..row + OBJECT].fill(0);
+                }
+                // The object claims nothing.
+                2 => self.objects[row + 29..row + 45].fill(0),
+                // It claims another slot.
+                3 => self.objects[row + 41] ^= 0x80,
+                // It has another owner.
+                4 => self.objects[row + 21] ^= 1,
+                // The slot is a hole, and the object an orphan.
+                _ => self.slot_mut(slot).fill(0),
+            }
+        }
+    }
+}
+
+/// The 16 bytes of a FID.
+fn fid(sequence: u64, id: u32, version: u32) -> [u8; 16] {
+    let mut bytes = [0; 16];
+    bytes[..8].copy_from_slice(&sequence.to_le_bytes());
+    bytes[8..12].copy_from_slice(&id.to_le_bytes());
+    bytes[12..].copy_from_slice(&version.to_le_bytes());
+    bytes
+}
+
+/// The uid and gid of everything.
+fn owner() -> [u8; 8] {
+    [0xf4, 1, 0, 0, 0x58, 2, 0, 0]
+}

@@ -1,0 +1,5 @@
+//! What the benchmarks need: tables at full size, and the library's algorithm in plain Rust.
+
+pub mod input;
+pub mod measure;
+pub mod plain;

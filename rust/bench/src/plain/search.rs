@@ -1,0 +1,82 @@
+//! The searches, each from the first row on.
+
+use super::bytes::{CLAIM, ENTRY, Fid, NO_FID, OBJECT, PARENT, has_fid, is_used, row};
+use super::layout::{SLOT, names, slot, slot_area};
+
+/// A slot of a parent row.
+pub type Place = (usize, usize);
+
+/// The row of a FID.
+fn row_of(table: &[u8], size: usize, fid: Fid) -> Option<usize> {
+    (0..table.len() / size).find(|&at| has_fid(row(table, size, at), fid))
+}
+
+pub fn object_row(objects: &[u8], fid: Fid) -> Option<usize> {
+    row_of(objects, OBJECT, fid)
+}
+
+pub fn parent_row(parents: &[u8], fid: Fid) -> Option<usize> {
+    row_of(parents, PARENT, fid)
+}
+
+/// The first unused row.
+pub fn unused(table: &[u8], size: usize) -> Option<usize> {
+    (0..table.len() / size).find(|&at| !is_used(row(table, size, at)))
+}
+
+/// Slot `index` of parent row `at`, if there is one.
+pub fn slot_at(parents: &[u8], at: usize, index: usize) -> Option<&[u8]> {
+    let area = slot_area(row(parents, PARENT, at));
+    (index < area.len() / SLOT).then(|| slot(area, index))
+}
+
+/// The first slot of parent row `at` that names an object.
+fn first_in(parents: &[u8], fid: Fid, at: usize) -> Option<usize> {
+    let area = slot_area(row(parents, PARENT, at));
+    (0..area.len() / SLOT).find(|&index| names(slot(area, index), fid))
+}
+
+/// The first slot in scan order that names an object.
+pub fn first_naming(parents: &[u8], fid: Fid) -> Option<Place> {
+    (0..parents.len() / PARENT).find_map(|at| Some((at, first_in(parents, fid, at)?)))
+}
+
+/// Whether a slot other than `place` names an object.
+pub fn is_named_else(parents: &[u8], fid: Fid, place: Place) -> bool {
+    (0..parents.len() / PARENT).any(|at| {
+        let area = slot_area(row(parents, PARENT, at));
+        (0..area.len() / SLOT).any(|index| names(slot(area, index), fid) && (at, index) != place)
+    })
+}
+
+/// The claim of the object in a row.
+pub fn claim_of(objects: &[u8], at: usize) -> Fid {
+    Fid::read(row(objects, OBJECT, at), CLAIM)
+}
+
+/// The keeper of an object with this claim: the claimed slot if that one names it; else the
+/// first slot naming it in the claimed parent; else the first in scan order.
+pub fn keeper(parents: &[u8], fid: Fid, claim: Fid) -> Option<Place> {
+    if claim == NO_FID {
+        return first_naming(parents, fid);
+    }
+    let Some(at) = parent_row(parents, claim.file()) else {
+        return first_naming(parents, fid);
+    };
+    let claimed = slot_at(parents, at, claim.version as usize);
+    if claimed.is_some_and(|slot| names(slot, fid)) {
+        return Some((at, claim.version as usize));
+    }
+    match first_in(parents, fid, at) {
+        Some(index) => Some((at, index)),
+        None => first_naming(parents, fid),
+    }
+}
+
+/// The first FID of the reserve that is neither in the object table nor named by a slot.
+pub fn usable(parents: &[u8], objects: &[u8], reserve: &[u8]) -> Option<Fid> {
+    let fids = (0..reserve.len() / ENTRY).map(|at| Fid::read(row(reserve, ENTRY, at), 0));
+    let in_use =
+        |fid: Fid| object_row(objects, fid).is_some() || first_naming(parents, fid).is_some();
+    fids.into_iter().find(|&fid| !in_use(fid))
+}
