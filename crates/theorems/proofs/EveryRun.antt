@@ -24,7 +24,7 @@ use Rattle.rules.specs.Promises.{Distinct, OthersKeepClass, NotDestroyed, then 
 use Rattle.engine.specs.RunBytes.{Ran, refused, rendered, runBytes}
 use Rattle.theorems.specs.Calls.{Lent, tablesOf, RunCall, call, number, Accepted, ran, left, leaves, AtEnd}
 use Rattle.theorems.specs.Promises.{then, Answered, end-reached, used-up, stopped, EveryCall}
-use Rattle.theorems.proofs.FromRules.{step-others, run-destroys-nothing, a-then-b, OneStep, ended, stuck, moved, one-step, run-makes, exists-is, is-exists, is-end, step-makes, stays-refl, Makes}
+use Rattle.theorems.proofs.FromRules.{step-others, run-destroys-nothing, a-then-b, OneStep, ended, stuck, moved, one-step, run-makes, exists-is, is-exists, is-end, step-makes, Makes}
 use Rattle.theorems.proofs.Written.{Good, written, good-read, good-sound, good-run, sound-good, sound-written, reserve-fits, Parts, accepted-parts, parts-accepted}
 
 -- ## Bytes that say good tables
@@ -118,7 +118,11 @@ run-answered policy reserve (suc n) T p s = go (λ S. run-answered policy reserv
 
 -- ## One step
 
--- nothing changed, no class changed
+-- nothing changed: nothing is destroyed, and no class is another
+same-data : (T : Tables) → NotDestroyed T T
+unfolding NotDestroyed
+same-data T o x u f = (x, u, refl, f)
+
 same-classes : (T : Tables) (p : Position) → OthersKeepClass T T p
 unfolding OthersKeepClass
 same-classes T p k i n = refl
@@ -255,7 +259,7 @@ module _ (t : Lent) (c : RunCall) (a : Bytes (t .parents)) (b : Bytes (t .object
           idle = λ z. q;
           one-step = λ h z e. absurd (n h);
           others = λ z. subst (λ (u : Lent). OthersKeepClass (tablesOf t) (tablesOf u) (c .from)) (sym q) (same-classes (tablesOf t) (c .from));
-          keeps-data = subst (λ (u : Lent). NotDestroyed (tablesOf t) (tablesOf u)) (sym q) (stays-refl (tablesOf t));
+          keeps-data = subst (λ (u : Lent). NotDestroyed (tablesOf t) (tablesOf u)) (sym q) (same-data (tablesOf t));
           sound = λ s. subst (λ (u : Lent). Sound (u .parents) (u .objects)) (sym q) s;
           parents-length = ap (λ (u : Lent). length (u .parents)) q;
           objects-length = ap (λ (u : Lent). length (u .objects)) q;
