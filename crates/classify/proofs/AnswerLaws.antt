@@ -1,15 +1,13 @@
 -- The class at a position, and the refusals, case by case as the code asks. Assumes nothing.
-use mathlib.Core.Path.{_≡_, refl, sym, ap, _∙_}
+use mathlib.Core.Path.{_≡_, sym, ap, _∙_}
 use mathlib.Core.List.{List, []}
-use mathlib.Core.Bool.{Bool, true, false, cond, not, _&&_}
-use Prim.Native.Nat.{ℕ, zero, suc, _/_, _<_}
+use mathlib.Core.Bool.{true, false}
+use Prim.Native.Nat.{ℕ, suc, _/_, _<_}
 use native.Mathlib.Decide.{ℕ-discrete}
 use borrow.Author.Tests.{eq-eqb, ne-eqb}
-use lib.Dec.{eqb}
 use lib.ListN.{length}
-use Rattle.tables.specs.Records.{Tables}
 use Rattle.tables.specs.Bytes.{parentSize, objectSize, parse}
-use Rattle.tables.specs.Positions.{inStageOne, inStageTwo, rowAt, isPosition, isEnd}
+use Rattle.tables.specs.Positions.{rowAt, isPosition, isEnd}
 use Rattle.tables.specs.Check.{tablesNumber, Sound}
 use Rattle.tables.specs.declared.Position.{Position}
 use Rattle.tables.proofs.PositionLaws.{position-one, position-two, position-end, one-row, two-row}
@@ -21,8 +19,7 @@ use Rattle.rules.specs.declared.HeaderClass.{HeaderClass}
 use Rattle.rules.specs.declared.SlotClass.{SlotClass}
 use Rattle.rules.specs.declared.ObjectClass.{ObjectClass}
 use Rattle.rules.proofs.Tests.{clash}
-use Rattle.search.proofs.ParsedRows.{row-alone}
-use Rattle.classify.specs.declared.ClassAnswer.{ClassAnswer}
+use Rattle.search.proofs.AloneLaws.{row-alone}
 use Rattle.classify.specs.declared.ClassAnswer.the-variants.{NoClass, ClassIs}
 use Rattle.classify.specs.Answer.{hasClass, classAnswer}
 

@@ -1,6 +1,6 @@
 -- Claims and owners: the tests, and the class of a keeper, case by case. Assumes nothing.
-use mathlib.Core.Path.{_≡_, refl, sym, ap, _∙_}
-use mathlib.Core.Bool.{Bool, true, false, cond, _&&_}
+use mathlib.Core.Path.{_≡_}
+use mathlib.Core.Bool.{Bool, true, false}
 use Prim.Native.Nat.{ℕ}
 use borrow.Author.Tests.{eq-eqb, ne-eqb}
 use lib.Dec.{eqb}
@@ -9,12 +9,11 @@ use Rattle.fid.specs.declared.MdtFid.{MdtFid}
 use Rattle.tables.specs.declared.Owner.{Owner}
 use Rattle.tables.specs.declared.Object.{Object}
 use Rattle.tables.specs.declared.Claim.{Claim}
-use Rattle.tables.specs.declared.Claim.the-variants.{Unclaimed, Claims}
+use Rattle.tables.specs.declared.Claim.the-variants.{Claims}
 use Rattle.rules.specs.Rows.{sameOwner}
 use Rattle.rules.specs.Keeper.{isPlace}
 use Rattle.rules.specs.Places.{claimIs}
 use Rattle.rules.specs.Classes.{claimClass, keeperClass}
-use Rattle.rules.specs.declared.Found.{Found}
 use Rattle.rules.specs.declared.Found.the-variants.{At}
 use Rattle.rules.specs.declared.Lookup.{Lookup}
 use Rattle.rules.specs.declared.Lookup.the-variants.{Present}

@@ -1,12 +1,11 @@
 -- The header of a parent row, read off the bytes, and its class case by case. Assumes nothing.
-use mathlib.Core.Path.{_≡_, refl, sym, ap, _∙_}
+use mathlib.Core.Path.{_≡_, sym, ap, _∙_}
 use mathlib.Core.List.{List, []}
-use mathlib.Core.Bool.{Bool, true, false, cond, _&&_}
+use mathlib.Core.Bool.{Bool, true, false, _&&_}
 use Prim.Native.Nat.{ℕ, _*_, _/_, _<_}
 use borrow.Author.Tests.{eq-eqb, ne-eqb}
 use lib.Dec.{eqb}
 use lib.ListN.{length, take, drop}
-use Rattle.fid.specs.declared.Fid.{Fid}
 use Rattle.fid.specs.declared.MdtFid.{MdtFid}
 use Rattle.layout.specs.Layout.{decodeHeader, decodeLayout, withHoles}
 use Rattle.layout.specs.declared.Header.{Header}
@@ -16,7 +15,6 @@ use Rattle.tables.specs.Positions.{rowAt}
 use Rattle.tables.proofs.PositionLaws.{parsed-row}
 use Rattle.rules.specs.Rows.{holesIn}
 use Rattle.rules.specs.Classes.{ownRight, headerClass}
-use Rattle.rules.specs.declared.HeaderClass.{HeaderClass}
 use Rattle.rules.specs.declared.HeaderClass.the-variants.{UNUSED, SELF, CLEAN}
 use Rattle.search.proofs.ParsedRows.{parent-used, parent-unused}
 

@@ -1,7 +1,7 @@
 -- The class of an object row, case by case as the code asks. Assumes nothing.
-use mathlib.Core.Path.{_≡_, refl, sym, ap, _∙_}
+use mathlib.Core.Path.{_≡_, sym, ap, _∙_}
 use mathlib.Core.List.{List, []}
-use mathlib.Core.Bool.{Bool, true, false, cond}
+use mathlib.Core.Bool.{Bool, true, false}
 use Prim.Native.Nat.{ℕ, _*_, _/_, _<_}
 use lib.ListN.{length, take, drop}
 use Rattle.fid.specs.declared.MdtFid.{MdtFid}
@@ -19,7 +19,8 @@ use Rattle.rules.specs.declared.Found.{Found}
 use Rattle.rules.specs.declared.Way.{Way}
 use Rattle.rules.specs.declared.ObjectClass.{ObjectClass}
 use Rattle.rules.specs.declared.ObjectClass.the-variants.{UNUSED, KEPT, EMPTY, ORPHAN, CONFLICT}
-use Rattle.search.proofs.ParsedRows.{parsed-object, object-used, object-unused, keeper-alone}
+use Rattle.search.proofs.ParsedRows.{parsed-object, object-used, object-unused}
+use Rattle.search.proofs.AloneLaws.{keeper-alone}
 use Rattle.search.proofs.KeeperLaws.{named-kept}
 
 -- ## Named by no slot

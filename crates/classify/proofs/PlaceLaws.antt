@@ -1,10 +1,9 @@
 -- How a claimed place can be had, case by case as the code asks. Assumes nothing.
-use mathlib.Core.Path.{_≡_, refl, sym, ap, _∙_}
+use mathlib.Core.Path.{_≡_, sym, ap, _∙_}
 use mathlib.Core.List.{List, []}
-use mathlib.Core.Bool.{Bool, true, false, cond, not, _&&_}
+use mathlib.Core.Bool.{Bool, true, false, not}
 use Prim.Native.Nat.{ℕ, _≤_, _<_}
 use borrow.Author.Tests.{lt-ltb, le-ltb}
-use lib.Dec.{ltb}
 use Rattle.fid.specs.declared.MdtFid.{MdtFid}
 use Rattle.fid.specs.declared.OstFid.{OstFid}
 use Rattle.layout.specs.Layout.{maxSlots}
@@ -22,7 +21,7 @@ use Rattle.rules.specs.declared.Lookup.{Lookup}
 use Rattle.rules.specs.declared.Lookup.the-variants.{Present, Missing}
 use Rattle.rules.specs.declared.Way.{Way}
 use Rattle.rules.specs.declared.Way.the-variants.{NoWay, NewParent, Grow, Take}
-use Rattle.search.proofs.ParsedRows.{row-alone, parent-alone, slot-alone, named-else-alone, object-of-alone}
+use Rattle.search.proofs.AloneLaws.{row-alone, parent-alone, slot-alone, named-else-alone, object-of-alone}
 
 -- ## A fresh object's slot
 

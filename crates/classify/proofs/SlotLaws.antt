@@ -1,7 +1,7 @@
 -- The class of a slot, case by case as the code asks. Assumes nothing.
 use mathlib.Core.Path.{_≡_, refl, sym, ap, _∙_}
 use mathlib.Core.List.{List, []}
-use mathlib.Core.Bool.{Bool, true, false, cond}
+use mathlib.Core.Bool.{Bool, true, false}
 use Prim.Native.Nat.{ℕ, _*_, _/_, _<_}
 use native.Mathlib.Omega.{arith}
 use lib.ListN.{length, getD, take, drop}
@@ -9,7 +9,7 @@ use Rattle.fid.specs.declared.MdtFid.{MdtFid}
 use Rattle.fid.specs.declared.OstFid.{OstFid}
 use Rattle.layout.specs.declared.Slot.{Slot}
 use Rattle.layout.specs.declared.Slot.the-variants.{Hole, Names}
-use Rattle.tables.specs.Records.{ParentRow, noParent, parent, Tables}
+use Rattle.tables.specs.Records.{ParentRow, parent}
 use Rattle.tables.specs.Bytes.{parentSize, isUsed, decodeParent, parseParent, parse}
 use Rattle.tables.specs.Positions.{slotsOf, rowAt}
 use Rattle.tables.proofs.PositionLaws.{parsed-row}
@@ -22,7 +22,8 @@ use Rattle.rules.specs.declared.Found.{Found}
 use Rattle.rules.specs.declared.Lookup.{Lookup}
 use Rattle.rules.specs.declared.SlotClass.{SlotClass}
 use Rattle.rules.specs.declared.SlotClass.the-variants.{HOLE, MULTIPLE}
-use Rattle.search.proofs.ParsedRows.{slot-alone, keeper-alone, object-of-alone, parent-used, parent-unused}
+use Rattle.search.proofs.ParsedRows.{parent-used, parent-unused}
+use Rattle.search.proofs.AloneLaws.{slot-alone, keeper-alone, object-of-alone}
 use Rattle.search.proofs.KeeperLaws.{keeper-is}
 
 -- a row with a slot that names an object is used

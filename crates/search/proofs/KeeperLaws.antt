@@ -8,7 +8,7 @@ use Rattle.fid.specs.declared.OstFid.{OstFid}
 use Rattle.tables.specs.Records.{Tables}
 use Rattle.tables.specs.Positions.{width}
 use Rattle.tables.specs.declared.Claim.{Claim}
-use Rattle.tables.specs.declared.Claim.the-variants.{Unclaimed, Claims}
+use Rattle.tables.specs.declared.Claim.the-variants.{Claims}
 use Rattle.rules.specs.Search.{slotFrom, orElse, isSomewhere}
 use Rattle.rules.specs.Rows.{parentRow, namesAt, scan, named, objectOf}
 use Rattle.rules.specs.Keeper.{claimIn, inClaimed, atClaimed, keeperBy, keeper}

@@ -1,6 +1,8 @@
 pub mod RowSearch
 pub mod PlaceSearch
 pub mod ParsedRows
+pub mod FoundRows
+pub mod AloneLaws
 pub mod SlotArea
 pub mod NamingLaws
 pub mod KeeperLaws

@@ -1,9 +1,8 @@
 -- The first usable FID of the reserve, from an entry on. Assumes nothing.
-use mathlib.Core.Path.{_≡_, refl, sym, ap, _∙_}
-use mathlib.Core.List.{List, [], _∷_, map}
+use mathlib.Core.Path.{_≡_, ap, _∙_}
+use mathlib.Core.List.{List, [], map}
 use mathlib.Core.Bool.{Bool, true, false, _||_}
-use Prim.Native.Nat.{ℕ, suc, _+_, _-_, _*_, _/_, _≤_, _<_}
-use native.Mathlib.Omega.{arith}
+use Prim.Native.Nat.{ℕ, _+_, _-_, _*_, _/_, _≤_, _<_}
 use lib.ListN.{length, take, drop}
 use Rattle.wire.specs.Rows.{rows}
 use Rattle.wire.proofs.RowLaws.{rows-start, rows-step, rows-end}
@@ -18,7 +17,7 @@ use Rattle.rules.specs.Repairs.{usable}
 use Rattle.rules.specs.declared.Row.{Row}
 use Rattle.rules.specs.declared.Usable.{Usable}
 use Rattle.rules.specs.declared.Usable.the-variants.{Takes, UsedUp}
-use Rattle.search.proofs.ParsedRows.{object-row-alone, named-alone}
+use Rattle.search.proofs.AloneLaws.{object-row-alone, named-alone}
 
 -- the first that can be taken, from entry k of n on
 pub usableFrom : Tables → List ℕ → ℕ → ℕ → Usable
