@@ -1,0 +1,280 @@
+/*
+ * The C interface of the verified layout check.
+ *
+ * Every function answers one of the numbers below. All other numbers are uint64_t. What is lent
+ * is a pointer and a count: of bytes for a table, a layout or a pool, of numbers for an array of
+ * numbers. A pointer is not null and, for numbers, aligned, also where its count is 0. What is
+ * lent to be written overlaps nothing else that is lent. Nothing is kept after the call.
+ *
+ * With an answer of 11 to 17 nothing that was lent is changed. Of several answers that apply
+ * the lowest is given. An array that is longer than what is handed out keeps its rest.
+ */
+#ifndef LFSCK_LAYOUT_H
+#define LFSCK_LAYOUT_H
+
+#include <stddef.h>
+#include <stdint.h>
+
+#ifdef __cplusplus
+extern "C" {
+#endif
+
+/* Answers. */
+enum {
+    LFSCK_OK = 0,             /* done; of a run, the end is reached */
+    LFSCK_STEPS_USED = 1,     /* the steps are used up and the end is not reached */
+    LFSCK_BAD_TABLE = 11,     /* a table is not whole rows or too long, or a mark is not 0 or 1 */
+    LFSCK_BAD_POLICY = 12,    /* the policy is above 3 */
+    LFSCK_BAD_LAYOUT = 13,    /* a layout or a slot is against the rules */
+    LFSCK_BAD_FID = 14,       /* a bad FID, object index or claim, or fresh without claim */
+    LFSCK_FID_TWICE = 15,     /* a FID twice among used parents, or twice among used objects */
+    LFSCK_NO_POSITION = 16,   /* there is no such position or slot */
+    LFSCK_NO_ROOM = 17,       /* too few places for what is handed out */
+    LFSCK_NO_RESERVE = 21,    /* a slot is to be redirected: no usable FID in the reserve */
+    LFSCK_NO_OBJECT_ROW = 22, /* an object is to be made: no unused object row */
+    LFSCK_NO_PARENT_ROW = 23  /* a file is to be made: no unused parent row */
+};
+
+/* Tables: bytes of a row or an entry, and the most of them. */
+enum {
+    LFSCK_PARENT_BYTES = 3915,
+    LFSCK_OBJECT_BYTES = 46,
+    LFSCK_RESERVE_BYTES = 16,
+    LFSCK_PARENTS_MAX = 1024,
+    LFSCK_OBJECTS_MAX = 65536,
+    LFSCK_RESERVE_MAX = 65536
+};
+
+/* What a policy allows, beside the repairs that are always made; add them for both. */
+enum {
+    LFSCK_CREATE = 1, /* make objects for slots that have none of their own */
+    LFSCK_ADOPT = 2   /* put objects that no slot names in their places, destroy empty ones */
+};
+
+/* The stages of a position. */
+enum {
+    LFSCK_STAGE_PARENTS = 1, /* part 0 is a row's header, j + 1 its slot j */
+    LFSCK_STAGE_OBJECTS = 2, /* part is 0 */
+    LFSCK_STAGE_END = 3      /* row and part are 0 */
+};
+
+/* Layouts. */
+enum {
+    LFSCK_SLOTS_MAX = 160,    /* slots of a layout */
+    LFSCK_OST_MAX = 65535,    /* index of an OST */
+    LFSCK_HEADER_V1 = 32,     /* bytes before the slots, version 1 */
+    LFSCK_HEADER_V3 = 48,     /* bytes before the slots, version 3 */
+    LFSCK_POOL_BYTES = 16,    /* bytes of a pool name, version 3 */
+    LFSCK_SLOT_BYTES = 24,    /* bytes of a slot */
+    LFSCK_LAYOUT_BYTES = 3888 /* bytes of the longest layout: 48 + 24 * 160 */
+};
+
+/* The patterns: every slot names an object, or slots may be holes. */
+#define LFSCK_PATTERN_PLAIN UINT64_C(0x00000001)
+#define LFSCK_PATTERN_HOLES UINT64_C(0x40000001)
+
+/* How many numbers describe a thing. */
+enum {
+    LFSCK_READ_FIELDS = 8,      /* a header that was read */
+    LFSCK_WRITE_FIELDS = 7,     /* a header to be written */
+    LFSCK_SLOT_NUMBERS = 5,     /* a slot */
+    LFSCK_POSITION_NUMBERS = 3, /* a position: stage, row, part */
+    LFSCK_CLASS_NUMBERS = 4,    /* a class and what it carries */
+    LFSCK_REPORT_NUMBERS = 9    /* the report of a run */
+};
+
+/* The numbers of a report: the steps done, and the repairs of each class among them. */
+enum {
+    LFSCK_REPORT_STEPS = 0,
+    LFSCK_REPORT_SELF = 1,
+    LFSCK_REPORT_MULTIPLE = 2,
+    LFSCK_REPORT_DANGLING = 3,
+    LFSCK_REPORT_BLANK = 4,
+    LFSCK_REPORT_UNMATCHED = 5,
+    LFSCK_REPORT_OWNER = 6,
+    LFSCK_REPORT_EMPTY = 7,
+    LFSCK_REPORT_ORPHAN = 8
+};
+
+/* The classes of a header, a slot and an object. */
+enum {
+    LFSCK_CLEAN = 0,     /* a header or a slot with nothing to mend */
+    LFSCK_SELF = 1,      /* a header whose own id or sequence is not the file's */
+    LFSCK_HOLE = 2,      /* a zero slot */
+    LFSCK_MULTIPLE = 3,  /* a slot that is not the keeper of its object */
+    LFSCK_DANGLING = 4,  /* a keeper whose object is absent */
+    LFSCK_BLANK = 5,     /* a keeper whose object claims nothing */
+    LFSCK_UNMATCHED = 6, /* a keeper whose object claims another slot */
+    LFSCK_OWNER = 7,     /* a keeper whose object has another owner */
+    LFSCK_SPARE = 8,     /* an object that no slot names, without claim */
+    LFSCK_EMPTY = 9,     /* a fresh object that no slot names */
+    LFSCK_ORPHAN = 10,   /* an object that no slot names; its claimed place can be had */
+    LFSCK_CONFLICT = 11, /* an object that no slot names; its claimed place cannot be had */
+    LFSCK_KEPT = 12,     /* an object that a slot names */
+    LFSCK_UNUSED = 13    /* an unused row */
+};
+
+/*
+ * Checks whether a run may be made with this input. Nothing is written.
+ *
+ *   parents, objects, reserve  the tables
+ *   policy                     0 to 3
+ *   stage, row, part           the position
+ *
+ * LFSCK_OK, or the lowest of LFSCK_BAD_TABLE to LFSCK_NO_POSITION that applies to any of it.
+ */
+uint32_t lfsck_check(const uint8_t *parents, size_t parents_bytes,
+                     const uint8_t *objects, size_t objects_bytes,
+                     const uint8_t *reserve, size_t reserve_bytes,
+                     uint64_t policy, uint64_t stage, uint64_t row, uint64_t part);
+
+/*
+ * Where a run over these tables begins.
+ *
+ *   parents, objects  the tables
+ *   position          3 numbers, written: stage, row, part
+ *
+ * LFSCK_OK          the position is in the first 3 numbers
+ * LFSCK_BAD_TABLE, LFSCK_BAD_LAYOUT, LFSCK_BAD_FID, LFSCK_FID_TWICE
+ *                   the tables do not pass the check
+ * LFSCK_NO_ROOM     fewer than 3 numbers
+ */
+uint32_t lfsck_start(const uint8_t *parents, size_t parents_bytes,
+                     const uint8_t *objects, size_t objects_bytes,
+                     uint64_t *position, size_t position_count);
+
+/*
+ * How many steps an uncut run over these tables takes: one for each parent row, slot and
+ * object row.
+ *
+ *   parents, objects  the tables
+ *   out               1 number, written
+ *
+ * The answers are those of lfsck_start, LFSCK_NO_ROOM where out has no place.
+ */
+uint32_t lfsck_steps(const uint8_t *parents, size_t parents_bytes,
+                     const uint8_t *objects, size_t objects_bytes,
+                     uint64_t *out, size_t out_count);
+
+/*
+ * The class at a position, in the tables as they stand.
+ *
+ *   parents, objects  the tables
+ *   stage, row, part  the position; the end has no class
+ *   out               4 numbers, written: the class; then, where it is LFSCK_UNMATCHED, the
+ *                     sequence, id and index that the object claims, else zeros
+ *
+ * LFSCK_OK           the class is in the first 4 numbers
+ * LFSCK_BAD_TABLE, LFSCK_BAD_LAYOUT, LFSCK_BAD_FID, LFSCK_FID_TWICE
+ *                    the tables do not pass the check
+ * LFSCK_NO_POSITION  there is no such position, or it is the end
+ * LFSCK_NO_ROOM      fewer than 4 numbers
+ */
+uint32_t lfsck_class(const uint8_t *parents, size_t parents_bytes,
+                     const uint8_t *objects, size_t objects_bytes,
+                     uint64_t stage, uint64_t row, uint64_t part,
+                     uint64_t *out, size_t out_count);
+
+/*
+ * Checks the input as lfsck_check does, then repairs in place, step by step.
+ *
+ *   parents, objects  the tables, changed
+ *   reserve           FIDs for new objects, 16 bytes each
+ *   policy            0 to 3
+ *   most              the greatest number of steps
+ *   position          exactly 3 numbers, changed: where to begin, then where the run stands
+ *   report            9 numbers, written
+ *
+ * LFSCK_OK           the end is reached
+ * LFSCK_STEPS_USED   the steps are used up before the end; the next step was not looked at
+ * LFSCK_NO_RESERVE, LFSCK_NO_OBJECT_ROW, LFSCK_NO_PARENT_ROW
+ *                    the position rests on a step that could not be made; tables and report
+ *                    are those after the steps before it
+ * LFSCK_BAD_TABLE to LFSCK_NO_POSITION
+ *                    as lfsck_check; a position of fewer or more than 3 numbers is none
+ * LFSCK_NO_ROOM      fewer than 9 numbers for the report
+ */
+uint32_t lfsck_run(uint8_t *parents, size_t parents_bytes,
+                   uint8_t *objects, size_t objects_bytes,
+                   const uint8_t *reserve, size_t reserve_bytes,
+                   uint64_t policy, uint64_t most,
+                   uint64_t *position, size_t position_count,
+                   uint64_t *report, size_t report_count);
+
+/*
+ * A header is version (1 or 3), pattern, own id, own sequence, stripe size, stripe count and
+ * generation, in this order; one that was read ends with the place where the slots start.
+ *
+ * A slot is five numbers: 1, sequence, id, generation and OST index where it names an object,
+ * and five zeros where it is a hole.
+ */
+
+/*
+ * Reads a layout's header.
+ *
+ *   layout  the layout, exactly its bytes
+ *   fields  8 numbers, written
+ *
+ * LFSCK_OK          the header is in the first 8 fields
+ * LFSCK_BAD_LAYOUT  the bytes are no layout
+ * LFSCK_NO_ROOM     fewer than 8 fields
+ */
+uint32_t lfsck_layout_read(const uint8_t *layout, size_t layout_bytes,
+                           uint64_t *fields, size_t fields_count);
+
+/*
+ * Reads one slot of a layout.
+ *
+ *   layout  the layout, exactly its bytes
+ *   index   which slot, from 0
+ *   out     5 numbers, written
+ *
+ * LFSCK_OK           the slot is in the first 5 numbers
+ * LFSCK_BAD_LAYOUT   the bytes are no layout
+ * LFSCK_NO_POSITION  the index is not below the stripe count
+ * LFSCK_NO_ROOM      fewer than 5 numbers
+ */
+uint32_t lfsck_layout_slot(const uint8_t *layout, size_t layout_bytes,
+                           uint64_t index,
+                           uint64_t *out, size_t out_count);
+
+/*
+ * Writes a layout.
+ *
+ *   fields       exactly 7 numbers
+ *   pool         the pool name: 16 bytes with version 3, none with version 1
+ *   slots        5 numbers for each slot, as many slots as the stripe count
+ *   destination  takes the layout; bytes past it stay
+ *   out          1 number, written: the bytes of the layout
+ *
+ * LFSCK_OK          the layout is in the destination and its length in out
+ * LFSCK_BAD_LAYOUT  another amount of anything that is handed in, a number that does not fit
+ *                   its field, or a layout against the rules
+ * LFSCK_NO_ROOM     the destination is shorter than the layout, or out has no place
+ */
+uint32_t lfsck_layout_write(const uint64_t *fields, size_t fields_count,
+                            const uint8_t *pool, size_t pool_bytes,
+                            const uint64_t *slots, size_t slots_count,
+                            uint8_t *destination, size_t destination_bytes,
+                            uint64_t *out, size_t out_count);
+
+/*
+ * Puts another slot in the place of one of a layout's. Only that slot's 24 bytes change.
+ *
+ *   layout  the layout, exactly its bytes
+ *   index   which slot, from 0
+ *   slot    exactly 5 numbers
+ *
+ * LFSCK_OK           the slot is written
+ * LFSCK_BAD_LAYOUT   the bytes are no layout, or the slot is none that its pattern allows
+ * LFSCK_NO_POSITION  the index is not below the stripe count
+ */
+uint32_t lfsck_slot_rewrite(uint8_t *layout, size_t layout_bytes,
+                            uint64_t index,
+                            const uint64_t *slot, size_t slot_count);
+
+#ifdef __cplusplus
+}
+#endif
+
+#endif

@@ -1,0 +1,198 @@
+//! Random tables that pass the check, from few FIDs, so that rows, slots and claims meet.
+
+use crate::Random;
+use reference::fid::{FIRST_SEQUENCE, Fid, LAST_SEQUENCE};
+use reference::layout::{Layout, Stripe, Version};
+use reference::tables::{Claim, OBJECT_BYTES, Object, Owner, PARENT_BYTES, Parent, Tables};
+
+/// The FIDs of files, the bounds of a good one among them.
+pub const FILES: [Fid; 6] = [
+    Fid::new(0x2_0000_0401, 1),
+    Fid::new(0x2_0000_0401, 2),
+    Fid::new(0x2_0000_0402, 1),
+    Fid::new(FIRST_SEQUENCE, 1),
+    Fid::new(LAST_SEQUENCE, u32::MAX),
+    Fid::new(0x2_4000_0400, 1),
+];
+
+/// The FIDs of objects. The last is a file's too: the two kinds are apart.
+pub const OBJECTS: [Fid; 10] = [
+    Fid::new(0x2_4000_0400, 0x10),
+    Fid::new(0x2_4000_0400, 0x11),
+    Fid::new(0x2_4000_0401, 0x10),
+    Fid::new(FIRST_SEQUENCE, 1),
+    Fid::new(FIRST_SEQUENCE, u32::MAX),
+    Fid::new(LAST_SEQUENCE, 1),
+    Fid::new(LAST_SEQUENCE, u32::MAX),
+    Fid::new(0x2_8000_0400, 2),
+    Fid::new(0x2_8000_0400, 3),
+    Fid::new(0x2_4000_0400, 1),
+];
+
+/// How large random tables can be: rows, slots of a layout, and FIDs that are drawn from.
+#[derive(Clone, Copy, Debug)]
+pub struct Shape {
+    /// Parent rows.
+    pub parents: usize,
+    /// Object rows.
+    pub objects: usize,
+    /// Slots of a layout.
+    pub slots: usize,
+    /// The first so many of [`FILES`].
+    pub files: usize,
+    /// The first so many of [`OBJECTS`].
+    pub fids: usize,
+}
+
+/// Tables within a shape.
+pub fn random_tables(shape: Shape, random: &mut Random) -> Tables {
+    let mut files = FILES[..shape.files].to_vec();
+    let mut fids = OBJECTS[..shape.fids].to_vec();
+    random.shuffle(&mut files);
+    random.shuffle(&mut fids);
+    let parents: Vec<Option<Parent>> = (0..row_count(shape.parents, random))
+        .map(|_| draw(&mut files, random).map(|fid| random_parent(fid, shape, random)))
+        .collect();
+    let objects = (0..row_count(shape.objects, random))
+        .map(|_| draw(&mut fids, random).map(|fid| random_object(fid, &parents, shape, random)))
+        .collect();
+    Tables { parents, objects }
+}
+
+/// Rather many than few.
+fn row_count(most: usize, random: &mut Random) -> usize {
+    random.below(most + 1).max(random.below(most + 1))
+}
+
+/// A FID for a row, no other row's; or none, for an unused row.
+fn draw(fids: &mut Vec<Fid>, random: &mut Random) -> Option<Fid> {
+    if random.one_in(4) { None } else { fids.pop() }
+}
+
+fn random_parent(fid: Fid, shape: Shape, random: &mut Random) -> Parent {
+    let holes_allowed = random.one_in(2);
+    let slots = random.below(shape.slots + 1);
+    let own = random.pick(&[fid, fid, fid, FILES[0]]);
+    Parent {
+        fid,
+        owner: random_owner(random),
+        layout: Layout {
+            version: random_version(random),
+            holes_allowed,
+            own_id: own.id.into(),
+            own_sequence: own.sequence,
+            stripe_size: random.any() as u32,
+            generation: random.any() as u16,
+            slots: (0..slots)
+                .map(|_| random_slot(holes_allowed, shape, random))
+                .collect(),
+        },
+    }
+}
+
+fn random_version(random: &mut Random) -> Version {
+    if random.one_in(2) {
+        Version::One
+    } else {
+        Version::Three(random.bytes(16).try_into().expect("16 bytes"))
+    }
+}
+
+fn random_slot(holes_allowed: bool, shape: Shape, random: &mut Random) -> Option<Stripe> {
+    (!holes_allowed || !random.one_in(3)).then(|| Stripe {
+        object: random.pick(&OBJECTS[..shape.fids]),
+        generation: random.below(3) as u32,
+        ost: random_ost(random),
+    })
+}
+
+fn random_object(
+    fid: Fid,
+    parents: &[Option<Parent>],
+    shape: Shape,
+    random: &mut Random,
+) -> Object {
+    let claim = random_claim(fid, parents, shape, random);
+    Object {
+        fid,
+        ost: random_ost(random),
+        owner: random_owner(random),
+        claim,
+        fresh: claim.is_some() && random.one_in(3),
+    }
+}
+
+/// No claim, one on a slot that names the object, one on any slot, or one out of the blue.
+fn random_claim(
+    fid: Fid,
+    parents: &[Option<Parent>],
+    shape: Shape,
+    random: &mut Random,
+) -> Option<Claim> {
+    let claims = |wanted: fn(Stripe, Fid) -> bool| {
+        let mut claims = Vec::new();
+        for parent in parents.iter().flatten() {
+            for (index, slot) in parent.layout.slots.iter().enumerate() {
+                if slot.is_some_and(|stripe| wanted(stripe, fid)) {
+                    claims.push(Claim {
+                        parent: parent.fid,
+                        index: index as u32,
+                    });
+                }
+            }
+        }
+        claims
+    };
+    let among = match random.below(8) {
+        0 | 1 => return None,
+        2 | 3 => claims(|stripe, fid| stripe.object == fid),
+        4 | 5 => claims(|stripe, fid| stripe.object != fid),
+        _ => Vec::new(),
+    };
+    if among.is_empty() {
+        return Some(Claim {
+            parent: random.pick(&FILES[..shape.files]),
+            index: random_index(shape, random),
+        });
+    }
+    Some(random.pick(&among))
+}
+
+/// An index that a slot can have, or now and then one at or past the bounds.
+fn random_index(shape: Shape, random: &mut Random) -> u32 {
+    match random.below(16) {
+        0 => random.pick(&[159, 160, 161, 65_536, u32::MAX]),
+        _ => random.below(shape.slots + 1) as u32,
+    }
+}
+
+fn random_owner(random: &mut Random) -> Owner {
+    Owner {
+        uid: random.pick(&[0, 0, 0, 1000]),
+        gid: random.pick(&[0, 0, 0, u32::MAX]),
+    }
+}
+
+fn random_ost(random: &mut Random) -> u32 {
+    random.pick(&[0, 1, 2, 65_535])
+}
+
+/// Both tables as bytes. What no rule speaks of, unused rows and the room past a layout, is
+/// filled with anything.
+pub fn to_bytes(tables: &Tables, random: &mut Random) -> (Vec<u8>, Vec<u8>) {
+    let mut parents = random.bytes(PARENT_BYTES * tables.parents.len());
+    for (row, parent) in parents.chunks_mut(PARENT_BYTES).zip(&tables.parents) {
+        row[0] = 0;
+        if let Some(parent) = parent {
+            parent.write(row);
+        }
+    }
+    let mut objects = random.bytes(OBJECT_BYTES * tables.objects.len());
+    for (row, object) in objects.chunks_mut(OBJECT_BYTES).zip(&tables.objects) {
+        row[0] = 0;
+        if let Some(object) = object {
+            object.write(row);
+        }
+    }
+    (parents, objects)
+}

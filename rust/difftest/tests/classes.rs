@@ -1,0 +1,258 @@
+//! The class of every position of random tables, in which few FIDs meet in every way.
+
+use std::hint::black_box;
+use std::time::Instant;
+
+use difftest::tables::{Shape, random_tables, to_bytes};
+use difftest::{Coverage, Random};
+use reference::class::{Class, Denial, Way, way_to};
+use reference::fid::Fid;
+use reference::interface;
+use reference::position::Position;
+use reference::site::{Place, Reason, Site};
+use reference::tables::{OBJECT_BYTES, PARENT_BYTES};
+
+const CLASSES: u64 = 1_000_000;
+
+/// Few files and few objects, so that slots, claims and rows name the same ones.
+const TINY: Shape = Shape {
+    parents: 4,
+    objects: 6,
+    slots: 3,
+    files: 3,
+    fids: 4,
+};
+
+/// Everything that the test is to meet.
+struct Seen {
+    answers: Coverage<u32>,
+    /// Positions that are not there, asked with too few places for the class.
+    no_position_before_room: Coverage<&'static str>,
+    classes: Coverage<u64>,
+    keepers: Coverage<Kept>,
+    ways: Coverage<Way>,
+    denials: Coverage<Denial>,
+}
+
+/// Over which other slots, and against what claim, a keeper was chosen.
+#[derive(Clone, Copy, Debug, PartialEq, Eq, PartialOrd, Ord)]
+enum Kept {
+    ClaimedAlone,
+    ClaimedOverEarlierSlot,
+    ClaimedOverEarlierParent,
+    FirstInClaimedParentAlone,
+    FirstInClaimedParentOverLaterSlot,
+    FirstInClaimedParentOverEarlierParent,
+    FirstAlone,
+    FirstOfSeveral,
+    FirstOfSeveralThoughClaimed,
+    FirstOfSeveralOfAbsentObject,
+}
+
+impl Seen {
+    fn nothing() -> Seen {
+        use Kept::*;
+        Seen {
+            answers: Coverage::of("class answers", [0, 11, 13, 14, 15, 16, 17]),
+            no_position_before_room: Coverage::of("16 before 17", ["end", "elsewhere"]),
+            classes: Coverage::of("classes", 0..=13),
+            keepers: Coverage::of(
+                "keepers",
+                [
+                    ClaimedAlone,
+                    ClaimedOverEarlierSlot,
+                    ClaimedOverEarlierParent,
+                    FirstInClaimedParentAlone,
+                    FirstInClaimedParentOverLaterSlot,
+                    FirstInClaimedParentOverEarlierParent,
+                    FirstAlone,
+                    FirstOfSeveral,
+                    FirstOfSeveralThoughClaimed,
+                    FirstOfSeveralOfAbsentObject,
+                ],
+            ),
+            ways: Coverage::of(
+                "ways to have a place",
+                [Way::MakeParent, Way::FillHole, Way::Grow, Way::ReplaceFresh],
+            ),
+            denials: Coverage::of(
+                "places that cannot be had",
+                [
+                    Denial::Index,
+                    Denial::Plain,
+                    Denial::Absent,
+                    Denial::Data,
+                    Denial::OtherClaim,
+                    Denial::OtherSlot,
+                ],
+            ),
+        }
+    }
+
+    fn require(&self) {
+        self.answers.require(100);
+        self.no_position_before_room.require(100);
+        self.classes.require(1000);
+        self.keepers.require(1000);
+        self.ways.require(200);
+        self.denials.require(200);
+    }
+}
+
+#[test]
+fn every_position_is_classed_alike() {
+    let started = Instant::now();
+    let mut random = Random::for_test("classes");
+    let mut seen = Seen::nothing();
+    while seen.classes.total() < CLASSES {
+        let tables = random_tables(TINY, &mut random);
+        let (parents, objects) = to_bytes(&tables, &mut random);
+        let site = Site::new(tables);
+        note_keepers(&site, &mut seen);
+        note_places(&site, &mut seen);
+        for position in Position::all(site.tables()) {
+            let numbers = position.to_numbers();
+            compare(&parents, &objects, numbers, &mut random, &mut seen);
+        }
+        compare_refusals(parents, objects, &mut random, &mut seen);
+    }
+    println!(
+        "{} classes in {:.1} s",
+        seen.classes.total(),
+        started.elapsed().as_secs_f64()
+    );
+    seen.require();
+}
+
+/// Asks both sides for a class and compares the answer and whatever was lent.
+fn compare(
+    parents: &[u8],
+    objects: &[u8],
+    position: [u64; 3],
+    random: &mut Random,
+    seen: &mut Seen,
+) {
+    let room = random.pick(&[4, 4, 4, 4, 4, 4, 5, 6, 3, 0]);
+    let places = random.numbers(room);
+    let (mut ours, mut theirs) = (places.clone(), places);
+    let lent = (parents.to_vec(), objects.to_vec());
+    let answer = {
+        let (parents, objects) = black_box(&lent);
+        lfsck_sys::class(parents, objects, position, &mut theirs)
+    };
+    let expected = interface::class(parents, objects, position, &mut ours);
+    assert_eq!(
+        (answer, &theirs),
+        (expected, &ours),
+        "class at {position:?} of {}",
+        describe(parents, objects)
+    );
+    let (parents_after, objects_after) = black_box(&lent);
+    assert!(
+        parents_after == parents && objects_after == objects,
+        "tables changed"
+    );
+    seen.answers.met(answer);
+    match answer {
+        0 => seen.classes.met(theirs[0]),
+        16 if room < 4 && position[0] == 3 => seen.no_position_before_room.met("end"),
+        16 if room < 4 => seen.no_position_before_room.met("elsewhere"),
+        _ => (),
+    }
+}
+
+/// The tables for a message, read as rows where that can be done.
+fn describe(parents: &[u8], objects: &[u8]) -> String {
+    let (tables, faults) = reference::check::read_tables(parents, objects);
+    format!("{tables:#?}, with the faults {faults:?}")
+}
+
+/// A position that is not there, and tables that do not pass the check.
+fn compare_refusals(
+    mut parents: Vec<u8>,
+    mut objects: Vec<u8>,
+    random: &mut Random,
+    seen: &mut Seen,
+) {
+    let row = random.below(4) as u64;
+    let part = random.pick(&[0, 1, 2, 4, 161, u64::MAX]);
+    let position = [random.below(5) as u64, row, part];
+    compare(&parents, &objects, position, random, seen);
+    match random.below(16) {
+        0 => parents.truncate(parents.len().saturating_sub(1)),
+        1 => objects.truncate(objects.len().saturating_sub(1)),
+        2 => parents.iter_mut().take(1).for_each(|mark| *mark |= 2),
+        // The lengths of all layouts, the versions of all objects.
+        3 => parents
+            .chunks_mut(PARENT_BYTES)
+            .for_each(|row| row[25] ^= 1),
+        4 => objects.chunks_mut(OBJECT_BYTES).for_each(|row| row[13] = 1),
+        5 => repeat_rows(&mut parents, PARENT_BYTES),
+        6 => repeat_rows(&mut objects, OBJECT_BYTES),
+        _ => return,
+    }
+    compare(&parents, &objects, position, random, seen);
+    compare(&parents, &objects, [1, 0, 0], random, seen);
+}
+
+/// Every row once more.
+fn repeat_rows(table: &mut Vec<u8>, size: usize) {
+    let whole = table.len() / size * size;
+    table.extend_from_within(..whole);
+}
+
+/// Counts how the keeper of each object that a slot names was chosen.
+fn note_keepers(site: &Site, seen: &mut Seen) {
+    let mut known: Vec<Fid> = Vec::new();
+    for (row, parent) in site.tables().parents.iter().enumerate() {
+        let slots = parent.iter().flat_map(|parent| &parent.layout.slots);
+        for (slot, stripe) in slots.enumerate() {
+            let Some(stripe) = stripe else { continue };
+            let is_first = !known.contains(&stripe.object);
+            if is_first {
+                known.push(stripe.object);
+                seen.keepers
+                    .met(kept(site, stripe.object, Place { row, slot }));
+            }
+        }
+    }
+}
+
+/// How the keeper of an object was chosen, given the first slot that names it.
+fn kept(site: &Site, object: Fid, first: Place) -> Kept {
+    let (keeper, reason) = site.keeper(object).expect("a slot names it");
+    let several = site.named_by(object).count() > 1;
+    let in_row = site
+        .named_by(object)
+        .filter(|place| place.row == keeper.row);
+    match reason {
+        Reason::ClaimedSlot if first.row < keeper.row => Kept::ClaimedOverEarlierParent,
+        Reason::ClaimedSlot if first < keeper => Kept::ClaimedOverEarlierSlot,
+        Reason::ClaimedSlot => Kept::ClaimedAlone,
+        Reason::ClaimedParent if first.row < keeper.row => {
+            Kept::FirstInClaimedParentOverEarlierParent
+        }
+        Reason::ClaimedParent if in_row.count() > 1 => Kept::FirstInClaimedParentOverLaterSlot,
+        Reason::ClaimedParent => Kept::FirstInClaimedParentAlone,
+        Reason::ScanOrder if !several => Kept::FirstAlone,
+        Reason::ScanOrder => match site.object_row(object).and_then(|row| site.object(row)) {
+            None => Kept::FirstOfSeveralOfAbsentObject,
+            Some(object) if object.claim.is_some() => Kept::FirstOfSeveralThoughClaimed,
+            Some(_) => Kept::FirstOfSeveral,
+        },
+    }
+}
+
+/// Counts how the place of each orphan can be had, and why that of each conflict cannot.
+fn note_places(site: &Site, seen: &mut Seen) {
+    for (row, object) in site.tables().objects.iter().enumerate() {
+        let class = Class::at(site, Position::Object { row });
+        let claim = object.as_ref().and_then(|object| object.claim);
+        if let (Some(Class::Orphan | Class::Conflict), Some(claim)) = (class, claim) {
+            match way_to(site, claim) {
+                Ok(way) => seen.ways.met(way),
+                Err(denial) => seen.denials.met(denial),
+            }
+        }
+    }
+}

@@ -1,0 +1,580 @@
+//! The layout functions of the library and of the reference on random layouts: sound, cut,
+//! stretched and damaged, of both versions and patterns and of 0 to 161 slots.
+
+use std::hint::black_box;
+use std::time::Instant;
+
+use difftest::{Coverage, Random};
+use reference::fid::{FIRST_SEQUENCE, Fid, FidFault, LAST_SEQUENCE};
+use reference::interface;
+use reference::layout::{Fault, Layout, SLOT_BYTES, Stripe, Version};
+
+const LAYOUTS: usize = 500_000;
+
+/// Everything that the test is to meet.
+struct Seen {
+    read: Coverage<u32>,
+    slot: Coverage<u32>,
+    write: Coverage<u32>,
+    rewrite: Coverage<u32>,
+    slot_kinds: Coverage<&'static str>,
+    read_rules: Coverage<Fault>,
+    write_rules: Coverage<Fault>,
+    rewrite_rules: Coverage<Fault>,
+    rewrite_order: Coverage<&'static str>,
+    write_order: Coverage<&'static str>,
+    changes: Coverage<Change>,
+    slot_counts: Coverage<usize>,
+}
+
+/// The rules that a slot can break in any of the functions.
+const SLOT_RULES: [Fault; 6] = [
+    Fault::Hole,
+    Fault::Object(FidFault::SequenceLow),
+    Fault::Object(FidFault::SequenceHigh),
+    Fault::Object(FidFault::Id),
+    Fault::Object(FidFault::Version),
+    Fault::Ost,
+];
+
+impl Seen {
+    fn nothing() -> Seen {
+        use Fault::*;
+        let bytes_alone = [Header, Magic, Pattern, Count, Length];
+        let numbers_alone = [Pattern, Count, Amount, Version, Width, Mark];
+        // A slot of numbers has no FID version.
+        let of_numbers = SLOT_RULES
+            .into_iter()
+            .filter(|&rule| rule != Object(FidFault::Version));
+        Seen {
+            read: Coverage::of("read answers", [0, 13, 17]),
+            slot: Coverage::of("slot answers", [0, 13, 16, 17]),
+            write: Coverage::of("write answers", [0, 13, 17]),
+            rewrite: Coverage::of("rewrite answers", [0, 13, 16]),
+            slot_kinds: Coverage::of(
+                "slots",
+                [
+                    "hole read",
+                    "hole rewritten",
+                    "named read",
+                    "named rewritten",
+                ],
+            ),
+            read_rules: Coverage::of(
+                "rules of the reader",
+                SLOT_RULES.into_iter().chain(bytes_alone),
+            ),
+            write_rules: Coverage::of(
+                "rules of the writer",
+                of_numbers.clone().chain(numbers_alone),
+            ),
+            rewrite_rules: Coverage::of(
+                "rules of the rewritten slot",
+                of_numbers.chain([Amount, Width, Mark]),
+            ),
+            rewrite_order: Coverage::of("13 before 16 in the rewrite", ["bad layout", "bad slot"]),
+            write_order: Coverage::of(
+                "13 before 17 and reasons for 17 in the writer",
+                [
+                    "13 with a short destination",
+                    "13 with no place for the length",
+                    "short destination",
+                    "no place for the length",
+                ],
+            ),
+            changes: Coverage::of("changes to the bytes", Change::ALL),
+            slot_counts: Coverage::of("slot counts", 0..=161),
+        }
+    }
+
+    fn require(&self) {
+        self.read.require(1);
+        self.slot.require(1);
+        self.write.require(1);
+        self.rewrite.require(1);
+        self.slot_kinds.require(1);
+        self.read_rules.require(1);
+        self.write_rules.require(1);
+        self.rewrite_rules.require(1);
+        self.rewrite_order.require(1);
+        self.write_order.require(1);
+        self.changes.require(1);
+        self.slot_counts.require(1);
+    }
+}
+
+#[test]
+fn layouts_are_read_and_written_alike() {
+    let started = Instant::now();
+    let mut random = Random::for_test("layout");
+    let mut seen = Seen::nothing();
+    for _ in 0..LAYOUTS {
+        let layout = random_layout(&mut random);
+        seen.slot_counts.met(layout.slots.len());
+        let mut bytes = layout.encode();
+        let change = if random.one_in(2) {
+            Change::None
+        } else {
+            random.pick(&Change::ALL)
+        };
+        change.make(&mut bytes, layout.version.header_bytes(), &mut random);
+        seen.changes.met(change);
+        compare_read(&bytes, &mut random, &mut seen);
+        compare_slot(&bytes, &mut random, &mut seen);
+        compare_rewrite(&bytes, &layout, &mut random, &mut seen);
+        compare_write(&layout, &mut random, &mut seen);
+    }
+    println!(
+        "{} layouts in {:.1} s",
+        seen.changes.total(),
+        started.elapsed().as_secs_f64()
+    );
+    assert!(seen.changes.total() >= 500_000);
+    seen.require();
+}
+
+// Comparisons. Each lends the same to both sides and compares the answer and whatever was lent.
+
+fn compare_read(bytes: &[u8], random: &mut Random, seen: &mut Seen) {
+    let lent = room_for(8, random);
+    let (mut ours, mut theirs) = (lent.clone(), lent);
+    let input = bytes.to_vec();
+    let answer = lfsck_sys::layout_read(black_box(&input), &mut theirs);
+    let expected = interface::layout_read(bytes, &mut ours);
+    assert_eq!((answer, &theirs), (expected, &ours), "read {bytes:02x?}");
+    assert_eq!(black_box(&input), bytes, "read changed the layout");
+    seen.read.met(answer);
+    if let Err(rule) = Layout::parse(bytes) {
+        seen.read_rules.met(rule);
+    }
+}
+
+fn compare_slot(bytes: &[u8], random: &mut Random, seen: &mut Seen) {
+    let index = random_index(bytes, random);
+    let lent = room_for(5, random);
+    let (mut ours, mut theirs) = (lent.clone(), lent);
+    let input = bytes.to_vec();
+    let answer = lfsck_sys::layout_slot(black_box(&input), index, &mut theirs);
+    let expected = interface::layout_slot(bytes, index, &mut ours);
+    assert_eq!(
+        (answer, &theirs),
+        (expected, &ours),
+        "slot {index} of {bytes:02x?}"
+    );
+    assert_eq!(black_box(&input), bytes, "slot changed the layout");
+    seen.slot.met(answer);
+    if answer == 0 {
+        seen.slot_kinds.met(if theirs[0] == 0 {
+            "hole read"
+        } else {
+            "named read"
+        });
+    }
+}
+
+fn compare_rewrite(bytes: &[u8], layout: &Layout, random: &mut Random, seen: &mut Seen) {
+    let index = random_index(bytes, random);
+    let slot = random_slot_numbers(layout.holes_allowed, random);
+    let (mut ours, mut theirs) = (bytes.to_vec(), bytes.to_vec());
+    let input = slot.clone();
+    let answer = lfsck_sys::slot_rewrite(&mut theirs, index, black_box(&input));
+    let expected = interface::slot_rewrite(&mut ours, index, &slot);
+    assert_eq!(
+        (answer, &theirs),
+        (expected, &ours),
+        "rewrite {index} of {bytes:02x?} with {slot:x?}"
+    );
+    assert_eq!(
+        black_box(&input),
+        &slot,
+        "rewrite changed the slot's numbers"
+    );
+    seen.rewrite.met(answer);
+    note_rewrite(bytes, index, &slot, answer, seen);
+}
+
+/// Which rule refused a rewrite, and whether an index past the count was refused with it.
+fn note_rewrite(bytes: &[u8], index: u64, slot: &[u64], answer: u32, seen: &mut Seen) {
+    if answer == 0 {
+        seen.slot_kinds.met(if slot[0] == 0 {
+            "hole rewritten"
+        } else {
+            "named rewritten"
+        });
+    }
+    let Ok(layout) = Layout::parse(bytes) else {
+        if index > 161 {
+            seen.rewrite_order.met("bad layout");
+        }
+        return;
+    };
+    let allowed = |slot| reference::layout::check_slot(slot, layout.holes_allowed);
+    if let Err(rule) = interface::slot_of_numbers(slot).and_then(allowed) {
+        seen.rewrite_rules.met(rule);
+        if index >= layout.slots.len() as u64 {
+            seen.rewrite_order.met("bad slot");
+        }
+    }
+}
+
+fn compare_write(layout: &Layout, random: &mut Random, seen: &mut Seen) {
+    let mut numbers = LayoutNumbers::of(layout);
+    if random.one_in(2) {
+        numbers.damage(random);
+    }
+    let LayoutNumbers {
+        fields,
+        pool,
+        slots,
+    } = &numbers;
+    let needed = layout.encode().len();
+    let destination = {
+        let count = around(needed, random);
+        random.bytes(count)
+    };
+    let out = {
+        let count = random.pick(&[0, 1, 1, 1, 2, 3]);
+        random.numbers(count)
+    };
+    let (mut our_bytes, mut their_bytes) = (destination.clone(), destination.clone());
+    let (mut our_out, mut their_out) = (out.clone(), out.clone());
+    let input = numbers.clone();
+    let answer = {
+        let input = black_box(&input);
+        lfsck_sys::layout_write(
+            &input.fields,
+            &input.pool,
+            &input.slots,
+            &mut their_bytes,
+            &mut their_out,
+        )
+    };
+    let expected = interface::layout_write(fields, pool, slots, &mut our_bytes, &mut our_out);
+    assert_eq!(
+        (answer, &their_bytes, &their_out),
+        (expected, &our_bytes, &our_out),
+        "write {numbers:x?}"
+    );
+    assert_eq!(black_box(&input), &numbers, "write changed its input");
+    seen.write.met(answer);
+    note_write(
+        &numbers,
+        destination.len() < needed,
+        out.is_empty(),
+        answer,
+        seen,
+    );
+}
+
+/// Which rule refused a write, and what room was missing.
+fn note_write(numbers: &LayoutNumbers, short: bool, placeless: bool, answer: u32, seen: &mut Seen) {
+    let layout = interface::layout_of_numbers(&numbers.fields, &numbers.pool, &numbers.slots);
+    if let Err(rule) = layout {
+        seen.write_rules.met(rule);
+    }
+    match (answer, short, placeless) {
+        (13, true, _) => seen.write_order.met("13 with a short destination"),
+        (13, _, true) => seen.write_order.met("13 with no place for the length"),
+        (17, true, false) => seen.write_order.met("short destination"),
+        (17, false, true) => seen.write_order.met("no place for the length"),
+        _ => (),
+    }
+}
+
+// Random layouts, as a program that breaks no rule but the greatest count would write them.
+
+fn random_layout(random: &mut Random) -> Layout {
+    let holes_allowed = random.one_in(2);
+    let version = if random.one_in(2) {
+        Version::One
+    } else {
+        Version::Three(random.bytes(16).try_into().expect("16 bytes"))
+    };
+    let most = random.pick(&[2, 9, 9, 41, 162]);
+    Layout {
+        version,
+        holes_allowed,
+        own_id: random.any(),
+        own_sequence: random.any(),
+        stripe_size: random.any() as u32,
+        generation: random.any() as u16,
+        slots: (0..random.below(most))
+            .map(|_| random_slot(holes_allowed, random))
+            .collect(),
+    }
+}
+
+fn random_slot(holes_allowed: bool, random: &mut Random) -> Option<Stripe> {
+    if holes_allowed && random.one_in(3) {
+        return None;
+    }
+    Some(Stripe {
+        object: Fid::new(random_sequence(random), random_id(random)),
+        generation: random.any() as u32,
+        ost: match random.below(4) {
+            0 => 65_535,
+            1 => 0,
+            _ => random.below(65_536) as u32,
+        },
+    })
+}
+
+fn random_sequence(random: &mut Random) -> u64 {
+    match random.below(4) {
+        0 => FIRST_SEQUENCE,
+        1 => LAST_SEQUENCE,
+        _ => random.any().clamp(FIRST_SEQUENCE, LAST_SEQUENCE),
+    }
+}
+
+fn random_id(random: &mut Random) -> u32 {
+    match random.below(4) {
+        0 => 1,
+        1 => u32::MAX,
+        _ => (random.any() as u32).max(1),
+    }
+}
+
+/// An index within the layout, at its count, past it or far outside.
+fn random_index(bytes: &[u8], random: &mut Random) -> u64 {
+    let about = bytes.len().saturating_sub(32) / SLOT_BYTES;
+    match random.below(8) {
+        0 => about as u64,
+        1 => u64::MAX - random.below(3) as u64,
+        2 => random.any(),
+        3 => random.below(170) as u64,
+        _ => random.below(about.max(1)) as u64,
+    }
+}
+
+/// Fewer places than needed, as many, or more; none of them empty.
+fn room_for(needed: usize, random: &mut Random) -> Vec<u64> {
+    let count = around(needed, random);
+    random.numbers(count)
+}
+
+fn around(needed: usize, random: &mut Random) -> usize {
+    match random.below(8) {
+        0 => random.below(needed),
+        1 => needed - 1,
+        2 => needed + 1,
+        3 => needed + random.below(64),
+        _ => needed,
+    }
+}
+
+// Changes to the bytes of a layout.
+
+#[derive(Clone, Copy, Debug, PartialEq, Eq, PartialOrd, Ord)]
+enum Change {
+    None,
+    Cut,
+    CutShort,
+    Stretched,
+    StretchedBySlot,
+    HeaderByte,
+    SlotByte,
+    Magic,
+    Pattern,
+    Count,
+    SlotZeroed,
+    SequenceBelow,
+    SequenceAbove,
+    Id,
+    Version,
+    Ost,
+}
+
+impl Change {
+    const ALL: [Change; 16] = [
+        Change::None,
+        Change::Cut,
+        Change::CutShort,
+        Change::Stretched,
+        Change::StretchedBySlot,
+        Change::HeaderByte,
+        Change::SlotByte,
+        Change::Magic,
+        Change::Pattern,
+        Change::Count,
+        Change::SlotZeroed,
+        Change::SequenceBelow,
+        Change::SequenceAbove,
+        Change::Id,
+        Change::Version,
+        Change::Ost,
+    ];
+
+    fn make(self, bytes: &mut Vec<u8>, header: usize, random: &mut Random) {
+        match self {
+            Change::None => (),
+            Change::Cut => bytes.truncate(random.below(bytes.len())),
+            Change::CutShort => bytes.truncate(bytes.len() - 1 - random.below(24)),
+            Change::Stretched => {
+                let more = 1 + random.below(30);
+                bytes.extend(random.bytes(more));
+            }
+            Change::StretchedBySlot => {
+                let last = bytes[bytes.len() - SLOT_BYTES..].to_vec();
+                bytes.extend(last);
+            }
+            Change::HeaderByte => bytes[random.below(header)] ^= 1 << random.below(8),
+            Change::Magic => put(
+                bytes,
+                0,
+                &random
+                    .pick(&[0x0BD1_0BD1_u32, 0x0BD3_0BD0, 0x0BD1_0BD0, 0])
+                    .to_le_bytes(),
+            ),
+            Change::Pattern => put(
+                bytes,
+                4,
+                &random
+                    .pick(&[0_u32, 1, 2, 0x4000_0000, 0x4000_0001, 0x8000_0001])
+                    .to_le_bytes(),
+            ),
+            Change::Count => {
+                let count = u16::from_le_bytes([bytes[28], bytes[29]]);
+                let other = random.pick(&[
+                    count.wrapping_sub(1),
+                    count + 1,
+                    count ^ 256,
+                    160,
+                    161,
+                    u16::MAX,
+                ]);
+                put(bytes, 28, &other.to_le_bytes());
+            }
+            _ => self.make_in_slot(&mut bytes[header..], random),
+        }
+    }
+
+    /// A change to one slot, if there is any.
+    fn make_in_slot(self, slots: &mut [u8], random: &mut Random) {
+        let count = slots.len() / SLOT_BYTES;
+        if count == 0 {
+            return;
+        }
+        let at = SLOT_BYTES * random.below(count);
+        let slot = &mut slots[at..at + SLOT_BYTES];
+        match self {
+            Change::SlotByte => slot[random.below(SLOT_BYTES)] ^= 1 << random.below(8),
+            Change::SlotZeroed => slot.fill(0),
+            Change::SequenceBelow => put(
+                slot,
+                0,
+                &random.pick(&[0, FIRST_SEQUENCE - 1]).to_le_bytes(),
+            ),
+            Change::SequenceAbove => put(slot, 0, &u64::MAX.to_le_bytes()),
+            Change::Id => put(slot, 8, &[0; 4]),
+            Change::Version => put(slot, 12, &(1 + random.below(4) as u32).to_le_bytes()),
+            Change::Ost => put(
+                slot,
+                20,
+                &random.pick(&[65_536, 65_537, u32::MAX]).to_le_bytes(),
+            ),
+            _ => unreachable!("{self:?} is no change to a slot"),
+        }
+    }
+}
+
+fn put(bytes: &mut [u8], at: usize, field: &[u8]) {
+    bytes[at..at + field.len()].copy_from_slice(field);
+}
+
+// Layouts as the numbers that the writer takes.
+
+#[derive(Clone, Debug, PartialEq)]
+struct LayoutNumbers {
+    fields: Vec<u64>,
+    pool: Vec<u8>,
+    slots: Vec<u64>,
+}
+
+impl LayoutNumbers {
+    fn of(layout: &Layout) -> LayoutNumbers {
+        let (version, pool) = match layout.version {
+            Version::One => (1, Vec::new()),
+            Version::Three(pool) => (3, pool.to_vec()),
+        };
+        LayoutNumbers {
+            fields: vec![
+                version,
+                layout.pattern().into(),
+                layout.own_id,
+                layout.own_sequence,
+                layout.stripe_size.into(),
+                layout.slots.len() as u64,
+                layout.generation.into(),
+            ],
+            pool,
+            slots: layout
+                .slots
+                .iter()
+                .flat_map(|&slot| interface::numbers_of_slot(slot))
+                .collect(),
+        }
+    }
+
+    /// One number changed, or one amount.
+    fn damage(&mut self, random: &mut Random) {
+        match random.below(12) {
+            0 => self.fields[0] = random.pick(&[0, 1, 2, 3, 4, 1 << 32 | 1, u64::MAX]),
+            1 => self.fields[1] = random.pick(&[0, 1, 2, 0x4000_0000, 0x4000_0001, 1 << 32 | 1]),
+            2 => self.fields[4] = random.pick(&[u64::from(u32::MAX), 1 << 32, u64::MAX]),
+            3 => self.fields[5] = random.pick(&[0, 1, 160, 161, 1 << 16, u64::MAX]),
+            4 => self.fields[5] = self.fields[5].wrapping_add(random.pick(&[1, u64::MAX, 1 << 16])),
+            5 => self.fields[6] = random.pick(&[65_535, 65_536, u64::MAX]),
+            6 => resize(&mut self.fields, random),
+            7 => resize(&mut self.slots, random),
+            8 => {
+                let count = random.pick(&[0, 1, 15, 16, 17, 32]);
+                self.pool = random.bytes(count);
+            }
+            _ => self.damage_slot(random),
+        }
+    }
+
+    fn damage_slot(&mut self, random: &mut Random) {
+        let count = self.slots.len() / 5;
+        if count > 0 {
+            let at = 5 * random.below(count);
+            damage_slot_numbers(&mut self.slots[at..at + 5], random);
+        }
+    }
+}
+
+/// A few numbers more or fewer.
+fn resize(numbers: &mut Vec<u64>, random: &mut Random) {
+    let fewer = numbers.len().saturating_sub(1 + random.below(5));
+    if random.one_in(2) {
+        numbers.truncate(fewer);
+    } else {
+        let more = 1 + random.below(5);
+        numbers.extend(random.numbers(more));
+    }
+}
+
+fn random_slot_numbers(holes_allowed: bool, random: &mut Random) -> Vec<u64> {
+    let holes = holes_allowed || random.one_in(8);
+    let mut numbers = interface::numbers_of_slot(random_slot(holes, random)).to_vec();
+    match random.below(8) {
+        0 => resize(&mut numbers, random),
+        1 | 2 => damage_slot_numbers(&mut numbers, random),
+        _ => (),
+    }
+    numbers
+}
+
+/// One number of a slot, at and past its bounds.
+fn damage_slot_numbers(slot: &mut [u64], random: &mut Random) {
+    let wide = [1 << 32, u64::MAX, 1 << 63];
+    match random.below(6) {
+        0 => slot[0] = random.pick(&[0, 1, 2, 1 << 32, u64::MAX]),
+        1 => slot[1] = random.pick(&[0, FIRST_SEQUENCE - 1, LAST_SEQUENCE, u64::MAX]),
+        2 => slot[2] = random.pick(&[0, wide[0], wide[1], wide[2], 1 << 32 | 1]),
+        3 => slot[3] = random.pick(&[0, wide[0], wide[1], wide[2]]),
+        4 => slot[4] = random.pick(&[65_535, 65_536, 1 << 16 | 1, wide[0], wide[1], wide[2]]),
+        _ => slot.fill(0),
+    }
+}

@@ -1,0 +1,26 @@
+//! The numbers that come back from a call.
+
+/// Done; of a run, the end is reached.
+pub const DONE: u32 = 0;
+/// The steps are used up and the end is not reached.
+pub const STEPS_USED: u32 = 1;
+/// A table is not whole rows or too long, or a mark is neither 0 nor 1.
+pub const BAD_TABLE: u32 = 11;
+/// The policy is above 3.
+pub const BAD_POLICY: u32 = 12;
+/// A layout, or a slot of one, is against the rules.
+pub const BAD_LAYOUT: u32 = 13;
+/// A FID, an object's OST index or a claim is bad, or a fresh object has no claim.
+pub const BAD_FID: u32 = 14;
+/// A FID stands twice among the used parents, or twice among the used objects.
+pub const FID_TWICE: u32 = 15;
+/// There is no such slot or position.
+pub const NO_POSITION: u32 = 16;
+/// What is to be handed out does not fit.
+pub const NO_ROOM: u32 = 17;
+/// A slot is to be redirected and no FID of the reserve can be used.
+pub const NO_RESERVE: u32 = 21;
+/// An object is to be made and no object row is unused.
+pub const NO_OBJECT_ROW: u32 = 22;
+/// A file is to be made and no parent row is unused.
+pub const NO_PARENT_ROW: u32 = 23;

@@ -1,0 +1,29 @@
+//! The C interface, on the same numbers and byte slices as the library's.
+//!
+//! Every function answers a number of [`crate::answer`] and, where it refuses, writes nothing.
+
+mod check;
+mod class;
+mod layout;
+mod run;
+
+pub use check::{check, start, steps};
+pub use class::class;
+pub use layout::{
+    layout_of_numbers, layout_read, layout_slot, layout_write, numbers_of_slot, slot_of_numbers,
+    slot_rewrite,
+};
+pub use run::run;
+
+use crate::answer::{DONE, NO_ROOM};
+
+/// Numbers for the caller, in the first places that it lends.
+fn hand_out(numbers: &[u64], out: &mut [u64]) -> u32 {
+    match out.get_mut(..numbers.len()) {
+        Some(places) => {
+            places.copy_from_slice(numbers);
+            DONE
+        }
+        None => NO_ROOM,
+    }
+}

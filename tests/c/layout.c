@@ -1,0 +1,157 @@
+/* The layout functions called from C, on the bytes of the paper's examples E2 and E3. */
+#include <string.h>
+
+#include "lfsck_layout.h"
+#include "report.h"
+
+/* E2: a layout of P = [0x200000401:1:0] with A = [0x240000400:0x10:0] on OST 3. */
+static const uint8_t e2[56] = {
+    0xd0, 0x0b, 0xd1, 0x0b, 0x01, 0x00, 0x00, 0x00,
+    0x01, 0x00, 0x00, 0x00, 0x00, 0x00, 0x00, 0x00,
+    0x01, 0x04, 0x00, 0x00, 0x02, 0x00, 0x00, 0x00,
+    0x00, 0x00, 0x10, 0x00, 0x01, 0x00, 0x00, 0x00,
+    0x00, 0x04, 0x00, 0x40, 0x02, 0x00, 0x00, 0x00,
+    0x10, 0x00, 0x00, 0x00, 0x00, 0x00, 0x00, 0x00,
+    0x00, 0x00, 0x00, 0x00, 0x03, 0x00, 0x00, 0x00,
+};
+
+/* The same in numbers. */
+static const uint64_t e2_fields[LFSCK_READ_FIELDS] = {
+    1, LFSCK_PATTERN_PLAIN, 1, 0x200000401, 1048576, 1, 0, LFSCK_HEADER_V1,
+};
+static const uint64_t e2_slot[LFSCK_SLOT_NUMBERS] = {1, 0x240000400, 0x10, 0, 3};
+
+/* A slot apart from E2's in every number, and its bytes. */
+static const uint64_t other_slot[LFSCK_SLOT_NUMBERS] = {1, 0x240000401, 0x11, 7, 4};
+static const uint8_t other_slot_bytes[LFSCK_SLOT_BYTES] = {
+    0x01, 0x04, 0x00, 0x40, 0x02, 0x00, 0x00, 0x00,
+    0x11, 0x00, 0x00, 0x00, 0x00, 0x00, 0x00, 0x00,
+    0x07, 0x00, 0x00, 0x00, 0x04, 0x00, 0x00, 0x00,
+};
+
+static const uint64_t hole[LFSCK_SLOT_NUMBERS] = {0, 0, 0, 0, 0};
+
+/* A value that no call hands out here. */
+#define MARK UINT64_C(0xabababababababab)
+
+static int all_marked(const uint64_t *numbers, size_t count)
+{
+    for (size_t i = 0; i < count; i++)
+        if (numbers[i] != MARK)
+            return 0;
+    return 1;
+}
+
+static void mark(uint64_t *numbers, size_t count)
+{
+    for (size_t i = 0; i < count; i++)
+        numbers[i] = MARK;
+}
+
+static void test_read(void)
+{
+    uint64_t fields[LFSCK_READ_FIELDS + 1];
+
+    mark(fields, 9);
+    check("E2 is read", lfsck_layout_read(e2, 56, fields, 9) == LFSCK_OK);
+    check("E2's header", memcmp(fields, e2_fields, sizeof e2_fields) == 0);
+    check("the rest of a longer array stays", fields[8] == MARK);
+
+    mark(fields, 9);
+    check("too few fields", lfsck_layout_read(e2, 56, fields, 7) == LFSCK_NO_ROOM);
+    check("nothing is written then", all_marked(fields, 9));
+}
+
+/* E3: E2 with a byte less or more. */
+static void test_lengths(void)
+{
+    uint8_t longer[57] = {0};
+    uint64_t fields[LFSCK_READ_FIELDS];
+    uint64_t slot[LFSCK_SLOT_NUMBERS];
+
+    memcpy(longer, e2, 56);
+    mark(fields, 8);
+    mark(slot, 5);
+    check("E3, 55 bytes", lfsck_layout_read(longer, 55, fields, 8) == LFSCK_BAD_LAYOUT);
+    check("E3, 57 bytes", lfsck_layout_read(longer, 57, fields, 8) == LFSCK_BAD_LAYOUT);
+    check("13 before 17", lfsck_layout_read(longer, 57, fields, 0) == LFSCK_BAD_LAYOUT);
+    check("E3, a slot of 55 bytes", lfsck_layout_slot(longer, 55, 0, slot, 5) == LFSCK_BAD_LAYOUT);
+    check("E3, a slot of 57 bytes", lfsck_layout_slot(longer, 57, 0, slot, 5) == LFSCK_BAD_LAYOUT);
+    check("E3 hands nothing out", all_marked(fields, 8) && all_marked(slot, 5));
+}
+
+static void test_slot(void)
+{
+    uint64_t slot[LFSCK_SLOT_NUMBERS + 1];
+
+    mark(slot, 6);
+    check("E2's slot is read", lfsck_layout_slot(e2, 56, 0, slot, 6) == LFSCK_OK);
+    check("E2's slot", memcmp(slot, e2_slot, sizeof e2_slot) == 0);
+    check("the number after it stays", slot[5] == MARK);
+
+    mark(slot, 6);
+    check("a slot at the count", lfsck_layout_slot(e2, 56, 1, slot, 5) == LFSCK_NO_POSITION);
+    check("a slot far past it", lfsck_layout_slot(e2, 56, UINT64_MAX, slot, 5) == LFSCK_NO_POSITION);
+    check("16 before 17", lfsck_layout_slot(e2, 56, 1, slot, 4) == LFSCK_NO_POSITION);
+    check("too few numbers", lfsck_layout_slot(e2, 56, 0, slot, 4) == LFSCK_NO_ROOM);
+    check("a refused slot hands nothing out", all_marked(slot, 6));
+}
+
+static uint32_t write_e2(uint64_t generation, uint8_t *to, size_t bytes, uint64_t *out, size_t count)
+{
+    uint64_t fields[LFSCK_READ_FIELDS];
+
+    memcpy(fields, e2_fields, sizeof e2_fields);
+    fields[6] = generation;
+    return lfsck_layout_write(fields, LFSCK_WRITE_FIELDS, e2, 0, e2_slot, 5, to, bytes, out, count);
+}
+
+static void test_write(void)
+{
+    uint8_t to[60];
+    uint8_t untouched[60];
+    uint64_t out[2];
+
+    memset(to, 0xab, sizeof to);
+    memset(untouched, 0xab, sizeof untouched);
+    mark(out, 2);
+    check("no room for E2", write_e2(0, to, 55, out, 2) == LFSCK_NO_ROOM);
+    check("no place for the length", write_e2(0, to, 60, out, 0) == LFSCK_NO_ROOM);
+    check("a generation too wide", write_e2(65536, to, 60, out, 2) == LFSCK_BAD_LAYOUT);
+    check("13 before 17 in the writer", write_e2(65536, to, 55, out, 0) == LFSCK_BAD_LAYOUT);
+    check("a refused write writes nothing", memcmp(to, untouched, 60) == 0 && all_marked(out, 2));
+
+    check("E2 is written", write_e2(0, to, 60, out, 2) == LFSCK_OK);
+    check("E2's bytes", memcmp(to, e2, 56) == 0);
+    check("E2's length", out[0] == 56 && out[1] == MARK);
+    check("bytes past it stay", memcmp(to + 56, untouched, 4) == 0);
+}
+
+static void test_rewrite(void)
+{
+    uint8_t layout[56];
+
+    memcpy(layout, e2, 56);
+    check("rewrite at the count", lfsck_slot_rewrite(layout, 56, 1, other_slot, 5) == LFSCK_NO_POSITION);
+    check("rewrite of 55 bytes", lfsck_slot_rewrite(layout, 55, 0, other_slot, 5) == LFSCK_BAD_LAYOUT);
+    check("a hole in a plain layout", lfsck_slot_rewrite(layout, 56, 0, hole, 5) == LFSCK_BAD_LAYOUT);
+    check("13 before 16 in the rewrite", lfsck_slot_rewrite(layout, 56, 1, hole, 5) == LFSCK_BAD_LAYOUT);
+    check("a slot of four numbers", lfsck_slot_rewrite(layout, 56, 0, other_slot, 4) == LFSCK_BAD_LAYOUT);
+    check("a refused rewrite changes nothing", memcmp(layout, e2, 56) == 0);
+
+    check("a slot is rewritten", lfsck_slot_rewrite(layout, 56, 0, other_slot, 5) == LFSCK_OK);
+    check("its 24 bytes", memcmp(layout + 32, other_slot_bytes, 24) == 0);
+    check("the header stays", memcmp(layout, e2, 32) == 0);
+    check("it is rewritten back", lfsck_slot_rewrite(layout, 56, 0, e2_slot, 5) == LFSCK_OK);
+    check("and is E2 again", memcmp(layout, e2, 56) == 0);
+}
+
+int main(void)
+{
+    test_read();
+    test_lengths();
+    test_slot();
+    test_write();
+    test_rewrite();
+    return report_all();
+}
