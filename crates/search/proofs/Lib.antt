@@ -1,8 +1,9 @@
 pub mod RowSearch
 pub mod PlaceSearch
 pub mod ParsedRows
+pub mod FoundRows
+pub mod AloneLaws
 pub mod SlotArea
 pub mod NamingLaws
-pub mod Distinctness
 pub mod KeeperLaws
 pub mod ReserveLaws

@@ -1,18 +1,18 @@
 -- The slot area of a parent row: its slots are the row's slots. Assumes nothing.
-use mathlib.Core.Path.{_≡_, refl, sym, ap, _∙_}
+use mathlib.Core.Path.{_≡_, refl, sym, _∙_}
 use mathlib.Core.List.{List, []}
-use mathlib.Core.Bool.{Bool, true, false, cond}
+use mathlib.Core.Bool.{true, false}
 use Prim.Native.Nat.{ℕ, _+_, _-_, _*_, _/_, _≤_, _<_}
 use native.Mathlib.Omega.{arith}
-use lib.ListN.{length, getD, take, drop, length-drop, List·getD-eq-default}
+use lib.ListN.{length, take, drop, length-drop, List·getD-eq-default}
 use Rattle.wire.proofs.Splice.{drop-take-all}
 use Rattle.layout.specs.Slot.{slotOf, decodeSlots}
-use Rattle.layout.specs.Layout.{decodeLayout, stripeCount, slotStart, acceptedLayout}
+use Rattle.layout.specs.Layout.{stripeCount, slotStart, acceptedLayout}
 use Rattle.layout.specs.declared.Slot.{Slot}
-use Rattle.layout.specs.declared.Slot.the-variants.{Hole, Names}
+use Rattle.layout.specs.declared.Slot.the-variants.{Hole}
 use Rattle.layout.proofs.SlotLaws.{length-slots, slots-at}
 use Rattle.layout.proofs.LayoutLaws.{slots-are, accepted-size}
-use Rattle.tables.specs.Records.{ParentRow, noParent, parent, Tables}
+use Rattle.tables.specs.Records.{Tables}
 use Rattle.tables.specs.Bytes.{parentSize, isUsed, layoutBytes, decodeParent, parseParent, parse}
 use Rattle.tables.specs.Positions.{slotsOf, rowAt, width}
 use Rattle.tables.proofs.PositionLaws.{parsed-row}

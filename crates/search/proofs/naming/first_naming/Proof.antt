@@ -1,9 +1,9 @@
-use mathlib.Core.Path.{_≡_, refl, sym, ap, _∙_}
+use mathlib.Core.List.{[]}
+use mathlib.Core.Path.{_≡_, refl, _∙_}
 use native.Mathlib.Omega.{arith}
 use denote.Ref.{now}
-use mathlib.Core.List.{List, []}
-use Prim.Native.Nat.{ℕ, _+_, _-_, _*_, _/_, _≤_, _<_}
-use lib.ListN.{length, take, drop}
+use Prim.Native.Nat.{_+_, _-_, _/_}
+use lib.ListN.{length}
 use borrow.Author.Needs.{needs}
 use Rattle.layout.specs.Slot.{decodeSlots}
 use Rattle.tables.specs.Bytes.{parse}
@@ -17,12 +17,6 @@ use Rattle.search.proofs.SlotArea.{area-width, area-of}
 use Rattle.search.proofs.NamingLaws.{scan-start, area-names}
 use Rattle.search.proofs.naming.first_naming.Statement.{statement}
 use Rattle.search.proofs.naming.first_naming.Tie as tie
-use Rattle.search.proofs.naming.first_naming.Reads as reads
-use Rattle.search.proofs.naming.first_naming.Lts as lts
-use Rattle.layout.proofs.names.Reads as names-reads
-use Rattle.layout.proofs.slot_at.Reads as slot-at-reads
-use Rattle.search.proofs.slots.slot_area.Reads as slot-area-reads
-use Rattle.tables.proofs.rows.row_at.Reads as row-at-reads
 
 abbrev Inv-loop : tie.InvT-loop
 Inv-loop parents f n found₀ r area count j₀ found j =
@@ -37,15 +31,12 @@ Inv-rows parents f n found₀ r₀ found r = (found ≡ Nowhere) × (scan (parse
 abbrev μ-rows : tie.MeasureT-rows
 μ-rows parents f n found₀ r₀ found r = n - r
 
--- src/naming.rt:26:5
 rows-holds : tie.Need-rows-holds Inv-loop μ-loop Inv-rows μ-rows
 rows-holds c = (refl, scan-start _ _)
 
--- src/naming.rt:27:37
 row-at-requires : tie.Need-row-at-requires Inv-loop μ-loop Inv-rows μ-rows
 row-at-requires c κs = omega arith
 
--- src/naming.rt:27:13
 slot-area-requires : tie.Need-slot-area-requires Inv-loop μ-loop Inv-rows μ-rows
 slot-area-requires c κs = (c .row-at .ensures .1, layout-at (now (c .before .before .before .before .args .parents)) _ (c .before .before .rows .r) (c .before .before .before .before .pre) (omega arith) (c .row-at .ensures .0))
 
@@ -53,57 +44,46 @@ slot-area-requires c κs = (c .row-at .ensures .1, layout-at (now (c .before .be
 area : (c : tie.After-slot-area Inv-loop μ-loop Inv-rows μ-rows) →
     let l = now (c .slot-area .result) in
     slotsOf (rowAt (parse (now (c .before .before .before .before .before .args .parents)) []) (c .before .before .before .rows .r)) ≡ decodeSlots (length l / 24) l
-area c = area-of _ _ _ _ (omega arith) (c .before .row-at .ensures .0) (c .slot-area .ensures)
+area c = area-of _ _ _ (now (c .slot-area .result)) (omega arith) (c .before .row-at .ensures .0) (c .slot-area .ensures)
 
--- src/naming.rt:29:9
 loop-holds : tie.Need-loop-holds Inv-loop μ-loop Inv-rows μ-rows
 loop-holds c =
     let i = c .before .before .before .rows .inv in
     (i .0, enter _ _ _ _ _ _ (i .1) (omega arith) (area-width _ _ _ _ (area c)))
 
--- src/naming.rt:30:30
 slot-at-requires : tie.Need-slot-at-requires Inv-loop μ-loop Inv-rows μ-rows
 slot-at-requires c κs = omega arith
 
--- src/naming.rt:30:16
 names-requires : tie.Need-names-requires Inv-loop μ-loop Inv-rows μ-rows
 names-requires c κs = search needs
 
--- src/naming.rt:29:13
 add-j : tie.Need-add-j Inv-loop μ-loop Inv-rows μ-rows
 add-j c = omega arith
 
--- src/naming.rt:29:9
 loop-less : tie.Need-loop-less Inv-loop μ-loop Inv-rows μ-rows
 loop-less c = omega arith
 
--- src/naming.rt:29:9
 loop-again : tie.Need-loop-again Inv-loop μ-loop Inv-rows μ-rows
 loop-again c =
     let i = c .before .before .before .before .loop .inv in
     (i .0, again _ _ _ _ _ _ _ (i .1) (omega arith) (area-names _ _ _ _ (area (c .before .before .before .before .before)) _ _ _ _ (omega arith) (c .before .before .slot-at .ensures) (c .before .names .ensures) ∙ c .if1 .left))
 
--- src/naming.rt:26:16
 add-r : tie.Need-add-r Inv-loop μ-loop Inv-rows μ-rows
 add-r c = omega arith
 
--- src/naming.rt:26:5
 rows-less : tie.Need-rows-less Inv-loop μ-loop Inv-rows μ-rows
 rows-less c = omega arith
 
--- src/naming.rt:26:5
 rows-again : tie.Need-rows-again Inv-loop μ-loop Inv-rows μ-rows
 rows-again c =
     let i = c .before .loop .inv in
     (i .0, leave _ _ _ _ _ _ _ (i .1) (omega arith))
 
--- src/naming.rt:20:1
 returns : tie.Need-returns Inv-loop μ-loop Inv-rows μ-rows
 returns c =
     let i = c .before .rows .inv in
     i .0 ∙ place-none _ _ _ _ _ (i .1) (omega arith)
 
--- src/naming.rt:20:1
 returns-2 : tie.Need-returns-2 Inv-loop μ-loop Inv-rows μ-rows
 returns-2 c =
     let i = c .before .before .before .before .loop .inv in

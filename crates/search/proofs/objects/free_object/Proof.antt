@@ -1,9 +1,7 @@
-use mathlib.Core.Path.{_≡_, refl, sym, ap, _∙_}
+use mathlib.Core.List.{[]}
+use mathlib.Core.Path.{_≡_, sym, ap, _∙_}
 use native.Mathlib.Omega.{arith}
-use denote.Ref.{now}
-use mathlib.Core.List.{List, []}
-use Prim.Native.Nat.{ℕ, _+_, _-_, _*_, _/_, _≤_, _<_}
-use lib.ListN.{length, take, drop}
+use Prim.Native.Nat.{_-_}
 use Rattle.tables.specs.Bytes.{parse}
 use Rattle.rules.specs.Rows.{freeObject}
 use Rattle.search.proofs.RowSearch.{rowsLeft, row-none, row-hit, row-pass}
@@ -11,10 +9,6 @@ use Rattle.search.proofs.ParsedRows.{freeObjectAt, free-object-start, f
 use mathlib.Core.Bool.{not}
 use Rattle.search.proofs.objects.free_object.Statement.{statement}
 use Rattle.search.proofs.objects.free_object.Tie as tie
-use Rattle.search.proofs.objects.free_object.Reads as reads
-use Rattle.search.proofs.objects.free_object.Lts as lts
-use Rattle.tables.proofs.rows.is_used.Reads as is-used-reads
-use Rattle.tables.proofs.rows.row_at.Reads as row-at-reads
 
 abbrev Inv-loop : tie.InvT-loop
 Inv-loop objects n o₀ o = freeObject (parse [] objects) ≡ rowsLeft (freeObjectAt objects) n o
@@ -22,39 +16,31 @@ Inv-loop objects n o₀ o = freeObject (parse [] objects) ≡ rowsLeft (freeObje
 abbrev μ-loop : tie.MeasureT-loop
 μ-loop objects n o₀ o = n - o
 
--- src/objects.rt:46:5
 loop-holds : tie.Need-loop-holds Inv-loop μ-loop
 loop-holds c = free-object-start _
 
--- src/objects.rt:47:27
 row-at-requires : tie.Need-row-at-requires Inv-loop μ-loop
 row-at-requires c κs = omega arith
 
--- src/objects.rt:47:13
 is-used-requires : tie.Need-is-used-requires Inv-loop μ-loop
 is-used-requires c κs = omega arith
 
--- src/objects.rt:48:13
 returns : tie.Need-returns Inv-loop μ-loop
 returns c =
     let d = c .before .before in
     row-hit _ _ _ _ (d .before .before .loop .inv) (omega arith) (free-object-at _ _ _ (omega arith) (d .row-at .ensures .0) ∙ ap not (sym (c .before .is-used .ensures)) ∙ c .if1 .taken)
 
--- src/objects.rt:46:9
 add-o : tie.Need-add-o Inv-loop μ-loop
 add-o c = omega arith
 
--- src/objects.rt:46:5
 loop-less : tie.Need-loop-less Inv-loop μ-loop
 loop-less c = omega arith
 
--- src/objects.rt:46:5
 loop-again : tie.Need-loop-again Inv-loop μ-loop
 loop-again c =
     let d = c .before .before in
     row-pass _ _ _ _ (d .before .before .loop .inv) (omega arith) (free-object-at _ _ _ (omega arith) (d .row-at .ensures .0) ∙ ap not (sym (c .before .is-used .ensures)) ∙ c .if1 .left)
 
--- src/objects.rt:42:1
 returns-2 : tie.Need-returns-2 Inv-loop μ-loop
 returns-2 c = row-none _ _ _ _ (c .before .loop .inv) (omega arith)
 

@@ -1,19 +1,13 @@
-use mathlib.Core.Path.{_≡_, refl, sym, ap, _∙_}
+use mathlib.Core.List.{[]}
+use mathlib.Core.Path.{_≡_, sym, _∙_}
 use native.Mathlib.Omega.{arith}
-use denote.Ref.{now}
-use mathlib.Core.List.{List, []}
-use Prim.Native.Nat.{ℕ, _+_, _-_, _*_, _/_, _≤_, _<_}
-use lib.ListN.{length, take, drop}
+use Prim.Native.Nat.{_-_}
 use Rattle.tables.specs.Bytes.{parse}
 use Rattle.rules.specs.Rows.{objectRow}
 use Rattle.search.proofs.RowSearch.{rowsLeft, row-none, row-hit, row-pass}
 use Rattle.search.proofs.ParsedRows.{objectIs, object-start, object-at}
 use Rattle.search.proofs.objects.object_row.Statement.{statement}
 use Rattle.search.proofs.objects.object_row.Tie as tie
-use Rattle.search.proofs.objects.object_row.Reads as reads
-use Rattle.search.proofs.objects.object_row.Lts as lts
-use Rattle.tables.proofs.rows.row_at.Reads as row-at-reads
-use Rattle.tables.proofs.twice.has_fid.Reads as has-fid-reads
 
 abbrev Inv-loop : tie.InvT-loop
 Inv-loop objects name n o₀ o = objectRow (parse [] objects) (record { 0 = name }) ≡ rowsLeft (objectIs objects (record { 0 = name })) n o
@@ -21,39 +15,31 @@ Inv-loop objects name n o₀ o = objectRow (parse [] objects) (record { 0 = name
 abbrev μ-loop : tie.MeasureT-loop
 μ-loop objects name n o₀ o = n - o
 
--- src/objects.rt:19:5
 loop-holds : tie.Need-loop-holds Inv-loop μ-loop
 loop-holds c = object-start _ _
 
--- src/objects.rt:20:27
 row-at-requires : tie.Need-row-at-requires Inv-loop μ-loop
 row-at-requires c κs = omega arith
 
--- src/objects.rt:20:12
 has-fid-requires : tie.Need-has-fid-requires Inv-loop μ-loop
 has-fid-requires c κs = omega arith
 
--- src/objects.rt:21:13
 returns : tie.Need-returns Inv-loop μ-loop
 returns c =
     let d = c .before .before in
     row-hit _ _ _ _ (d .before .before .loop .inv) (omega arith) (object-at _ _ _ (omega arith) (d .row-at .ensures .0) _ ∙ sym (c .before .has-fid .ensures) ∙ c .if1 .taken)
 
--- src/objects.rt:19:9
 add-o : tie.Need-add-o Inv-loop μ-loop
 add-o c = omega arith
 
--- src/objects.rt:19:5
 loop-less : tie.Need-loop-less Inv-loop μ-loop
 loop-less c = omega arith
 
--- src/objects.rt:19:5
 loop-again : tie.Need-loop-again Inv-loop μ-loop
 loop-again c =
     let d = c .before .before in
     row-pass _ _ _ _ (d .before .before .loop .inv) (omega arith) (object-at _ _ _ (omega arith) (d .row-at .ensures .0) _ ∙ sym (c .before .has-fid .ensures) ∙ c .if1 .left)
 
--- src/objects.rt:14:1
 returns-2 : tie.Need-returns-2 Inv-loop μ-loop
 returns-2 c = row-none _ _ _ _ (c .before .loop .inv) (omega arith)
 

@@ -1,9 +1,7 @@
-use mathlib.Core.Path.{_≡_, refl, sym, ap, _∙_}
+use mathlib.Core.List.{[]}
+use mathlib.Core.Path.{_≡_, sym, ap, _∙_}
 use native.Mathlib.Omega.{arith}
-use denote.Ref.{now}
-use mathlib.Core.List.{List, []}
-use Prim.Native.Nat.{ℕ, _+_, _-_, _*_, _/_, _≤_, _<_}
-use lib.ListN.{length, take, drop}
+use Prim.Native.Nat.{_-_}
 use Rattle.tables.specs.Bytes.{parse}
 use Rattle.rules.specs.Rows.{freeParent}
 use Rattle.search.proofs.RowSearch.{rowsLeft, row-none, row-hit, row-pass}
@@ -11,10 +9,6 @@ use Rattle.search.proofs.ParsedRows.{freeParentAt, free-parent-start, f
 use mathlib.Core.Bool.{not}
 use Rattle.search.proofs.parents.free_parent.Statement.{statement}
 use Rattle.search.proofs.parents.free_parent.Tie as tie
-use Rattle.search.proofs.parents.free_parent.Reads as reads
-use Rattle.search.proofs.parents.free_parent.Lts as lts
-use Rattle.tables.proofs.rows.is_used.Reads as is-used-reads
-use Rattle.tables.proofs.rows.row_at.Reads as row-at-reads
 
 abbrev Inv-loop : tie.InvT-loop
 Inv-loop parents n r₀ r = freeParent (parse parents []) ≡ rowsLeft (freeParentAt parents) n r
@@ -22,39 +16,31 @@ Inv-loop parents n r₀ r = freeParent (parse parents []) ≡ rowsLeft (freePare
 abbrev μ-loop : tie.MeasureT-loop
 μ-loop parents n r₀ r = n - r
 
--- src/parents.rt:31:5
 loop-holds : tie.Need-loop-holds Inv-loop μ-loop
 loop-holds c = free-parent-start _
 
--- src/parents.rt:32:27
 row-at-requires : tie.Need-row-at-requires Inv-loop μ-loop
 row-at-requires c κs = omega arith
 
--- src/parents.rt:32:13
 is-used-requires : tie.Need-is-used-requires Inv-loop μ-loop
 is-used-requires c κs = omega arith
 
--- src/parents.rt:33:13
 returns : tie.Need-returns Inv-loop μ-loop
 returns c =
     let d = c .before .before in
     row-hit _ _ _ _ (d .before .before .loop .inv) (omega arith) (free-parent-at _ _ _ (omega arith) (d .row-at .ensures .0) ∙ ap not (sym (c .before .is-used .ensures)) ∙ c .if1 .taken)
 
--- src/parents.rt:31:9
 add-r : tie.Need-add-r Inv-loop μ-loop
 add-r c = omega arith
 
--- src/parents.rt:31:5
 loop-less : tie.Need-loop-less Inv-loop μ-loop
 loop-less c = omega arith
 
--- src/parents.rt:31:5
 loop-again : tie.Need-loop-again Inv-loop μ-loop
 loop-again c =
     let d = c .before .before in
     row-pass _ _ _ _ (d .before .before .loop .inv) (omega arith) (free-parent-at _ _ _ (omega arith) (d .row-at .ensures .0) ∙ ap not (sym (c .before .is-used .ensures)) ∙ c .if1 .left)
 
--- src/parents.rt:27:1
 returns-2 : tie.Need-returns-2 Inv-loop μ-loop
 returns-2 c = row-none _ _ _ _ (c .before .loop .inv) (omega arith)
 

@@ -1,19 +1,13 @@
-use mathlib.Core.Path.{_≡_, refl, sym, ap, _∙_}
+use mathlib.Core.List.{[]}
+use mathlib.Core.Path.{_≡_, sym, _∙_}
 use native.Mathlib.Omega.{arith}
-use denote.Ref.{now}
-use mathlib.Core.List.{List, []}
-use Prim.Native.Nat.{ℕ, _+_, _-_, _*_, _/_, _≤_, _<_}
-use lib.ListN.{length, take, drop}
+use Prim.Native.Nat.{_-_}
 use Rattle.tables.specs.Bytes.{parse}
 use Rattle.rules.specs.Rows.{parentRow}
 use Rattle.search.proofs.RowSearch.{rowsLeft, row-none, row-hit, row-pass}
 use Rattle.search.proofs.ParsedRows.{parentAt, parent-start, parent-at}
 use Rattle.search.proofs.parents.parent_row.Statement.{statement}
 use Rattle.search.proofs.parents.parent_row.Tie as tie
-use Rattle.search.proofs.parents.parent_row.Reads as reads
-use Rattle.search.proofs.parents.parent_row.Lts as lts
-use Rattle.tables.proofs.rows.row_at.Reads as row-at-reads
-use Rattle.tables.proofs.twice.has_fid.Reads as has-fid-reads
 
 abbrev Inv-loop : tie.InvT-loop
 Inv-loop parents name n r₀ r = parentRow (parse parents []) (record { 0 = name }) ≡ rowsLeft (parentAt parents (record { 0 = name })) n r
@@ -21,39 +15,31 @@ Inv-loop parents name n r₀ r = parentRow (parse parents []) (record { 0 = name
 abbrev μ-loop : tie.MeasureT-loop
 μ-loop parents name n r₀ r = n - r
 
--- src/parents.rt:18:5
 loop-holds : tie.Need-loop-holds Inv-loop μ-loop
 loop-holds c = parent-start _ _
 
--- src/parents.rt:19:27
 row-at-requires : tie.Need-row-at-requires Inv-loop μ-loop
 row-at-requires c κs = omega arith
 
--- src/parents.rt:19:12
 has-fid-requires : tie.Need-has-fid-requires Inv-loop μ-loop
 has-fid-requires c κs = omega arith
 
--- src/parents.rt:20:13
 returns : tie.Need-returns Inv-loop μ-loop
 returns c =
     let d = c .before .before in
     row-hit _ _ _ _ (d .before .before .loop .inv) (omega arith) (parent-at _ _ _ (omega arith) (d .row-at .ensures .0) _ ∙ sym (c .before .has-fid .ensures) ∙ c .if1 .taken)
 
--- src/parents.rt:18:9
 add-r : tie.Need-add-r Inv-loop μ-loop
 add-r c = omega arith
 
--- src/parents.rt:18:5
 loop-less : tie.Need-loop-less Inv-loop μ-loop
 loop-less c = omega arith
 
--- src/parents.rt:18:5
 loop-again : tie.Need-loop-again Inv-loop μ-loop
 loop-again c =
     let d = c .before .before in
     row-pass _ _ _ _ (d .before .before .loop .inv) (omega arith) (parent-at _ _ _ (omega arith) (d .row-at .ensures .0) _ ∙ sym (c .before .has-fid .ensures) ∙ c .if1 .left)
 
--- src/parents.rt:13:1
 returns-2 : tie.Need-returns-2 Inv-loop μ-loop
 returns-2 c = row-none _ _ _ _ (c .before .loop .inv) (omega arith)
 

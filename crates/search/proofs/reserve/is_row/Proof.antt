@@ -2,23 +2,17 @@ use Rattle.rules.specs.Search.{isRow}
 use borrow.Author.Needs.{needs}
 use Rattle.search.proofs.reserve.is_row.Statement.{statement}
 use Rattle.search.proofs.reserve.is_row.Tie as tie
-use Rattle.search.proofs.reserve.is_row.Reads as reads
-use Rattle.search.proofs.reserve.is_row.Lts as lts
 
--- src/reserve.rt:22:26
 enum-told : tie.Need-enum-told
 enum-told c = search needs
 
--- src/reserve.rt:23:23
 enum-told-2 : tie.Need-enum-told-2
 enum-told-2 c = search needs
 
--- src/reserve.rt:18:1
 returns : tie.Need-returns
 unfolding isRow
 returns c = cc
 
--- src/reserve.rt:18:1
 returns-2 : tie.Need-returns-2
 unfolding isRow
 returns-2 c = cc

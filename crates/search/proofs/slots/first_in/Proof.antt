@@ -1,9 +1,9 @@
-use mathlib.Core.Path.{_≡_, refl, sym, ap, _∙_}
+use mathlib.Core.List.{[]}
+use mathlib.Core.Path.{_≡_, _∙_}
 use native.Mathlib.Omega.{arith}
 use denote.Ref.{now}
-use mathlib.Core.List.{List, []}
-use Prim.Native.Nat.{ℕ, _+_, _-_, _*_, _/_, _≤_, _<_}
-use lib.ListN.{length, take, drop}
+use Prim.Native.Nat.{_-_, _/_}
+use lib.ListN.{length}
 use borrow.Author.Needs.{needs}
 use Rattle.layout.specs.Slot.{decodeSlots}
 use Rattle.tables.specs.Bytes.{parse}
@@ -16,12 +16,6 @@ use Rattle.search.proofs.SlotArea.{area-of}
 use Rattle.search.proofs.NamingLaws.{row-slots-start, area-names}
 use Rattle.search.proofs.slots.first_in.Statement.{statement}
 use Rattle.search.proofs.slots.first_in.Tie as tie
-use Rattle.search.proofs.slots.first_in.Reads as reads
-use Rattle.search.proofs.slots.first_in.Lts as lts
-use Rattle.layout.proofs.names.Reads as names-reads
-use Rattle.layout.proofs.slot_at.Reads as slot-at-reads
-use Rattle.search.proofs.slots.slot_area.Reads as slot-area-reads
-use Rattle.tables.proofs.rows.row_at.Reads as row-at-reads
 
 abbrev Inv-loop : tie.InvT-loop
 Inv-loop parents f r area count j₀ j = slotFrom r (width (parse parents []) r) 0 (namesAt (parse parents []) f) ≡ slotsLeft (namesAt (parse parents []) f) r count j
@@ -29,11 +23,9 @@ Inv-loop parents f r area count j₀ j = slotFrom r (width (parse parents []) r)
 abbrev μ-loop : tie.MeasureT-loop
 μ-loop parents f r area count j₀ j = count - j
 
--- src/slots.rt:60:26
 row-at-requires : tie.Need-row-at-requires Inv-loop μ-loop
 row-at-requires c κs = omega arith
 
--- src/slots.rt:60:9
 slot-area-requires : tie.Need-slot-area-requires Inv-loop μ-loop
 slot-area-requires c κs = (c .row-at .ensures .1, layout-at (now (c .before .before .args .parents)) _ (c .before .before .args .r) (c .before .before .pre .0) (c .before .before .pre .1) (c .row-at .ensures .0))
 
@@ -41,41 +33,33 @@ slot-area-requires c κs = (c .row-at .ensures .1, layout-at (now (c .before .be
 area : (c : tie.After-slot-area Inv-loop μ-loop) →
     let l = now (c .slot-area .result) in
     slotsOf (rowAt (parse (now (c .before .before .before .args .parents)) []) (c .before .before .before .args .r)) ≡ decodeSlots (length l / 24) l
-area c = area-of _ _ _ _ (c .before .before .before .pre .1) (c .before .row-at .ensures .0) (c .slot-area .ensures)
+area c = area-of _ _ _ (now (c .slot-area .result)) (c .before .before .before .pre .1) (c .before .row-at .ensures .0) (c .slot-area .ensures)
 
--- src/slots.rt:62:5
 loop-holds : tie.Need-loop-holds Inv-loop μ-loop
 loop-holds c = row-slots-start _ _ _ _ (area c) _
 
--- src/slots.rt:63:26
 slot-at-requires : tie.Need-slot-at-requires Inv-loop μ-loop
 slot-at-requires c κs = omega arith
 
--- src/slots.rt:63:12
 names-requires : tie.Need-names-requires Inv-loop μ-loop
 names-requires c κs = search needs
 
--- src/slots.rt:64:13
 returns : tie.Need-returns Inv-loop μ-loop
 returns c =
     slot-hit _ _ _ _ _ (c .before .before .before .before .loop .inv) (omega arith)
     (area-names _ _ _ _ (area (c .before .before .before .before .before)) _ _ _ _ (omega arith) (c .before .before .slot-at .ensures) (c .before .names .ensures) ∙ c .if1 .taken)
 
--- src/slots.rt:62:9
 add-j : tie.Need-add-j Inv-loop μ-loop
 add-j c = omega arith
 
--- src/slots.rt:62:5
 loop-less : tie.Need-loop-less Inv-loop μ-loop
 loop-less c = omega arith
 
--- src/slots.rt:62:5
 loop-again : tie.Need-loop-again Inv-loop μ-loop
 loop-again c =
     slot-pass _ _ _ _ _ (c .before .before .before .before .loop .inv) (omega arith)
     (area-names _ _ _ _ (area (c .before .before .before .before .before)) _ _ _ _ (omega arith) (c .before .before .slot-at .ensures) (c .before .names .ensures) ∙ c .if1 .left)
 
--- src/slots.rt:56:1
 returns-2 : tie.Need-returns-2 Inv-loop μ-loop
 returns-2 c = slot-none _ _ _ _ _ (c .before .loop .inv) (omega arith)
 

@@ -1,9 +1,7 @@
 use mathlib.Core.Bool.{true}
-use mathlib.Core.Path.{_≡_, refl, sym, ap, _∙_}
+use mathlib.Core.Path.{_≡_, sym, ap, _∙_}
 use native.Mathlib.Omega.{arith}
 use denote.Ref.{now}
-use mathlib.Core.List.{List, []}
-use lib.ListN.{length, take, drop}
 use borrow.Author.Tests.{not-true, not-false}
 use Rattle.tables.proofs.SoundLaws.{LayoutOf, layout-of-row}
 use Rattle.layout.specs.Layout.{acceptedLayout}
@@ -12,21 +10,13 @@ use Rattle.search.proofs.SlotArea.{area-unused, area-used}
 use borrow.Author.Needs.{needs}
 use Rattle.search.proofs.slots.slot_area.Statement.{statement}
 use Rattle.search.proofs.slots.slot_area.Tie as tie
-use Rattle.search.proofs.slots.slot_area.Reads as reads
-use Rattle.search.proofs.slots.slot_area.Lts as lts
-use Rattle.layout.proofs.slot_start.Reads as slot-start-reads
-use Rattle.tables.proofs.rows.is_used.Reads as is-used-reads
-use Rattle.tables.proofs.rows.layout_of.Reads as layout-of-reads
 
--- src/slots.rt:27:9
 is-used-requires : tie.Need-is-used-requires
 is-used-requires c κs = search needs
 
--- src/slots.rt:28:9
 slice-aggregate-result : tie.Need-slice-aggregate-result
 slice-aggregate-result c = search needs
 
--- src/slots.rt:28:9
 returns : tie.Need-returns
 returns c = area-unused _ (sym (c .before .before .is-used .ensures) ∙ not-true _ (c .before .if1 .taken))
 
@@ -39,27 +29,21 @@ accepted c = ap acceptedLayout (c .layout-of .ensures .0) ∙ facts (c .before) 
 layout-facts : (c : tie.After-layout-of) → LayoutFacts (now (c .layout-of .result))
 layout-facts c = accepted-facts _ (accepted c)
 
--- src/slots.rt:30:9
 layout-of-requires : tie.Need-layout-of-requires
 layout-of-requires c κs = (c .before .before .before .pre .0, facts c .room)
 
--- src/slots.rt:31:9
 slot-start-requires : tie.Need-slot-start-requires
 slot-start-requires c κs = omega (arith, layout-facts c)
 
--- src/slots.rt:32:5
 sub-result : tie.Need-sub-result
 sub-result c = omega (arith, layout-facts (c .before), c .slot-start .ensures)
 
--- src/slots.rt:32:5
 part-result-start : tie.Need-part-result-start
 part-result-start c = omega (arith, layout-facts (c .before), c .slot-start .ensures)
 
--- src/slots.rt:32:5
 part-result-end : tie.Need-part-result-end
 part-result-end c = search needs
 
--- src/slots.rt:23:1
 returns-2 : tie.Need-returns-2
 returns-2 c =
     let d = c .before .before .before in

@@ -1,0 +1,93 @@
+use mathlib.Core.List.{[]}
+use mathlib.Core.Path.{_≡_, sym, _∙_}
+use denote.Ref.{now}
+use Prim.Native.Nat.{_/_, _<_}
+use lib.ListN.{length}
+use Rattle.tables.specs.Bytes.{parentSize, parse}
+use Rattle.rules.specs.Rows.{parentRow}
+use Rattle.rules.specs.declared.Row.the-variants.{RowIs, NoRow}
+use Rattle.rules.proofs.Checked.{checked-parents}
+use Rattle.rules.proofs.Looks.{keeper-unclaimed}
+use Rattle.search.proofs.FoundRows.{parent-inside}
+use Rattle.search.proofs.KeeperLaws.{keeper-absent, keeper-claimed, keeper-near}
+use borrow.Author.Needs.{needs}
+use Rattle.search.proofs.keeper.keeper_by.Statement.{statement}
+use Rattle.search.proofs.keeper.keeper_by.Tie as tie
+
+enum-told : tie.Need-enum-told
+enum-told c = search needs
+
+first-naming-requires : tie.Need-first-naming-requires
+first-naming-requires c κs = search needs
+
+enum-known-claim : tie.Need-enum-known-claim
+enum-known-claim c = search needs
+
+parent-row-requires : tie.Need-parent-row-requires
+parent-row-requires c κs = search needs
+
+enum-told-2 : tie.Need-enum-told-2
+enum-told-2 c = search needs
+
+first-naming-requires-2 : tie.Need-first-naming-requires-2
+first-naming-requires-2 c κs = search needs
+
+enum-known-row : tie.Need-enum-known-row
+enum-known-row c = search needs
+
+cast-i : tie.Need-cast-i
+cast-i c = search needs
+
+-- the claimed parent's row, and that it lies in the table
+row-is : (c : tie.After-known-told2) → parentRow (parse (now (c .before .before .before .before .before .before .before .before .args .parents)) []) (c .before .before .before .before .before .claim .given .0 .0) ≡ RowIs (c .before .row .given .0 .0)
+row-is c = cc
+
+inside : (c : tie.After-known-told2) → c .before .row .given .0 .0 < length (now (c .before .before .before .before .before .before .before .before .args .parents)) / parentSize
+inside c = parent-inside (now (c .before .before .before .before .before .before .before .before .args .parents)) [] (c .before .before .before .before .before .claim .given .0 .0) _ (row-is c)
+
+names-at-requires : tie.Need-names-at-requires
+names-at-requires c κs = (c .before .before .before .before .before .before .before .before .pre .0, inside c)
+
+returns : tie.Need-returns
+returns c =
+    let a = c .before .before .before .before .before .before .before .before .before .before .args in
+    let v = c .before .before .before .before .before .before .before .claim .given .0 in
+    cc (keeper-claimed (parse (now (a .parents)) []) (a .f) (v .0) (v .1 .0) (checked-parents (now (a .parents)) [] (c .before .before .before .before .before .before .before .before .before .before .pre .1)) _ (row-is (c .before .before)) (sym (c .before .names-at .ensures) ∙ c .if1 .taken))
+
+keeper-in-requires : tie.Need-keeper-in-requires
+keeper-in-requires c κs = (c .before .before .before .before .before .before .before .before .before .before .pre .0, inside (c .before .before))
+
+returns-2 : tie.Need-returns-2
+returns-2 c = let a = c .before .before .before .before .args in cc (keeper-unclaimed (parse (now (a .parents)) []) (a .f))
+
+returns-3 : tie.Need-returns-3
+returns-3 c =
+    let a = c .before .before .before .before .before .before .before .before .args in
+    let v = c .before .before .before .before .before .claim .given .0 in
+    let e : parentRow (parse (now (a .parents)) []) (v .0) ≡ NoRow = cc in
+    cc (keeper-absent (parse (now (a .parents)) []) (a .f) (v .0) (v .1 .0) (checked-parents (now (a .parents)) [] (c .before .before .before .before .before .before .before .before .pre .1)) e)
+
+returns-4 : tie.Need-returns-4
+returns-4 c =
+    let a = c .before .before .before .before .before .before .before .before .before .before .before .args in
+    let v = c .before .before .before .before .before .before .before .before .claim .given .0 in
+    cc (keeper-near (parse (now (a .parents)) []) (a .f) (v .0) (v .1 .0) (checked-parents (now (a .parents)) [] (c .before .before .before .before .before .before .before .before .before .before .before .pre .1)) _ (row-is (c .before .before .before)) (sym (c .before .before .names-at .ensures) ∙ c .before .if1 .left) _ (c .keeper-in .ensures))
+
+pub keeper-by-spec : {M : Type 1} → statement M
+keeper-by-spec =
+    tie.close
+    (tie.spec
+    enum-told
+    first-naming-requires
+    enum-known-claim
+    parent-row-requires
+    enum-told-2
+    first-naming-requires-2
+    enum-known-row
+    cast-i
+    names-at-requires
+    returns
+    keeper-in-requires
+    returns-2
+    returns-3
+    returns-4)

@@ -1,0 +1,49 @@
+use mathlib.Core.List.{[]}
+use mathlib.Core.Path.{ap, _∙_}
+use native.Mathlib.Omega.{arith}
+use denote.Ref.{now}
+use Rattle.rules.specs.declared.Lookup.the-variants.{Present}
+use Rattle.tables.specs.declared.Object.{Object}
+use Rattle.search.proofs.FoundRows.{object-inside, lookup-missing, lookup-present}
+use borrow.Author.Needs.{needs}
+use Rattle.search.proofs.objects.lookup.Statement.{statement}
+use Rattle.search.proofs.objects.lookup.Tie as tie
+
+object-row-requires : tie.Need-object-row-requires
+object-row-requires c κs = search needs
+
+enum-told : tie.Need-enum-told
+enum-told c = search needs
+
+enum-known-found : tie.Need-enum-known-found
+enum-known-found c = search needs
+
+row-at-requires : tie.Need-row-at-requires
+row-at-requires c κs =
+    let a = c .before .before .before .before .before .args in
+    let h = object-inside [] (now (a .objects)) (a .f) (c .before .found .given .0 .0) (cc) in
+    omega arith
+
+decode-object-requires : tie.Need-decode-object-requires
+decode-object-requires c κs = search needs
+
+returns : tie.Need-returns
+returns c = let a = c .before .before .before .before .args in lookup-missing (now (a .objects)) (a .f) (cc)
+
+returns-2 : tie.Need-returns-2
+returns-2 c =
+    let a = c .before .before .before .before .before .before .before .args in
+    ap (λ (x : Object). Present x) (c .decode-object .ensures)
+    ∙ lookup-present (now (a .objects)) (a .f) (c .before .before .before .found .given .0 .0) _ (cc) (c .before .row-at .ensures .0)
+
+pub lookup-spec : {M : Type 1} → statement M
+lookup-spec =
+    tie.close
+    (tie.spec
+    object-row-requires
+    enum-told
+    enum-known-found
+    row-at-requires
+    decode-object-requires
+    returns
+    returns-2)
