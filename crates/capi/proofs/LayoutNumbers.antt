@@ -26,7 +26,7 @@ use Rattle.layout.specs.declared.Written.the-variants.{BadFields, TooShort, Byt
 use Rattle.capi.specs.declared.layouts.HeaderGiven.{HeaderGiven}
 use Rattle.capi.specs.declared.layouts.HeaderGiven.the-variants.{NotHeader, HeaderIs}
 use Rattle.capi.specs.Out.{outAnswer, outNumbers}
-use Rattle.capi.specs.Layouts.{versionOf, headerFields, readFields, slotFields, slotReadFields, magicOf, isVersion, fieldsFit, fieldsHeader, fieldsCount, headerGiven, writeNumber, writeValues, writeAnswer, writeDest, rewriteGiven, givenLeft, rewriteNumber, rewriteLeft}
+use Rattle.capi.specs.Layouts.{versionOf, headerFields, readFields, slotFields, slotReadFields, magicOf, isVersion, fieldsFit, fieldsHeader, fieldsCount, headerGiven, headerNumber, headerValues, headerAnswer, headerDest, headerOut, writeNumber, writeValues, writeAnswer, writeDest, rewriteGiven, givenLeft, rewriteNumber, rewriteLeft}
 use Rattle.capi.proofs.OutLaws.{out-refused, out-short, out-done, two-runs}
 
 -- ## Versions
@@ -221,61 +221,74 @@ pub count-of : (l : List ℕ) → getD l 5 0 ≡ fieldsCount l
 unfolding fieldsCount
 count-of l = refl
 
+-- what the writer leaves of a header that was given: the answer, the destination and the number handed out
+module _ (h : Header) (n : ℕ) (pool slots dest out : List ℕ) where
+  abbrev pub LeavesGiven : ℕ → List ℕ → List ℕ → Type 0
+  LeavesGiven a d o =
+      (a ≡ headerAnswer h n pool slots dest out) × ((d ≡ headerDest h n pool slots dest out) × (o ≡ headerOut h n pool slots dest out))
+
+  refused : (k : ℕ) → headerNumber h n pool slots dest ≡ k → (k ≡ 0 → ⊥) → LeavesGiven k dest out
+  unfolding headerAnswer headerDest headerOut
+  refused k e z =
+      let r = out-refused (headerNumber h n pool slots dest) (headerValues h n) out k e z in
+      (r .0, (rw (← r .0, ne-eqb k 0 z), r .1))
+
+  pub write-refused : writable h n pool slots ≡ false → LeavesGiven 13 dest out
+  unfolding headerNumber writeLayout writtenNumber
+  write-refused w = refused 13 (rw w) (λ z. omega (arith, z))
+
+  pub write-unplaced : writable h n pool slots ≡ true → length out < 1 → LeavesGiven 17 dest out
+  unfolding headerAnswer headerDest headerOut headerNumber headerValues writeLayout writtenNumber
+  write-unplaced w k = go (leb (layoutSize (h .magic) n) (length dest)) refl
+    where
+      go : (b : Bool) → leb (layoutSize (h .magic) n) (length dest) ≡ b → LeavesGiven 17 dest out
+      go true e =
+          let r = out-short (headerNumber h n pool slots dest) (headerValues h n) out (rw (w, e)) k in
+          (r .0, (rw (← r .0), r .1))
+      go false e = refused 17 (rw (w, e)) (λ z. omega (arith, z))
+
+  pub write-full : (d : List ℕ) → writeLayout h n pool slots dest ≡ TooShort → d ≡ writeBytes h n pool slots dest → LeavesGiven 17 d out
+  unfolding headerNumber writtenNumber writeBytes leftBy
+  write-full d w q = let e : d ≡ dest = q ∙ rw w in rw e (refused 17 (rw w) (λ z. omega (arith, z)))
+
+  pub write-wrong : (d : List ℕ) → writeLayout h n pool slots dest ≡ BadFields → d ≡ writeBytes h n pool slots dest → LeavesGiven 13 d out
+  unfolding headerNumber writtenNumber writeBytes leftBy
+  write-wrong d w q = let e : d ≡ dest = q ∙ rw w in rw e (refused 13 (rw w) (λ z. omega (arith, z)))
+
+  pub write-done : (b : ℕ) (d o : List ℕ) → writeLayout h n pool slots dest ≡ Bytes b → 1 ≤ length out → d ≡ writeBytes h n pool slots dest →
+      o ≡ set out 0 b → LeavesGiven 0 d o
+  unfolding headerAnswer headerDest headerOut headerNumber headerValues writtenNumber
+  write-done b d o w k p q =
+      let r = out-done (headerNumber h n pool slots dest) (headerValues h n) out o (rw w) k (rw (← bytes-size h n pool slots dest b w) q) in
+      (r .0, (rw (← r .0) p, r .1))
+
 module _ (fields pool slots dest out : List ℕ) where
-  -- what the writer leaves: the answer, the destination and the number handed out
+  -- what the writer leaves of the fields handed in
   abbrev pub Leaves : ℕ → List ℕ → List ℕ → Type 0
   Leaves a d o =
       (a ≡ writeAnswer fields pool slots dest out) × ((d ≡ writeDest fields pool slots dest out)
       × (o ≡ outNumbers (writeNumber fields pool slots dest) (writeValues fields) out))
 
-  refused : (k : ℕ) → writeNumber fields pool slots dest ≡ k → (k ≡ 0 → ⊥) → Leaves k dest out
-  unfolding writeAnswer writeDest
-  refused k e z =
-      let r = out-refused (writeNumber fields pool slots dest) (writeValues fields) out k e z in
-      (r .0, (rw (← r .0, ne-eqb k 0 z), r .1))
-
   pub write-none : headerGiven fields ≡ NotHeader → Leaves 13 dest out
-  unfolding writeNumber
-  write-none e = refused 13 (rw (given-none fields e)) (λ z. omega (arith, z))
+  unfolding writeNumber writeAnswer writeDest
+  write-none e =
+      let r = out-refused (writeNumber fields pool slots dest) (writeValues fields) out 13 (rw (given-none fields e)) (λ z. omega (arith, z)) in
+      (r .0, (rw (← r .0), r .1))
 
   module _ (h : Header) (n : ℕ) (g : headerGiven fields ≡ HeaderIs h) (c : n ≡ fieldsCount fields) where
-    number-is : writeNumber fields pool slots dest ≡ writtenNumber (writeLayout h n pool slots dest)
+    number-is : writeNumber fields pool slots dest ≡ headerNumber h n pool slots dest
     unfolding writeNumber
     number-is = let f = given-is fields h g in rw (f .0, f .1, ← c)
 
-    pub write-refused : writable h n pool slots ≡ false → Leaves 13 dest out
-    unfolding writeLayout writtenNumber
-    write-refused w = refused 13 (number-is ∙ rw w) (λ z. omega (arith, z))
+    values-are : writeValues fields ≡ headerValues h n
+    unfolding writeValues
+    values-are = let f = given-is fields h g in rw (f .1, ← c)
 
-    pub write-unplaced : writable h n pool slots ≡ true → length out < 1 → Leaves 17 dest out
-    unfolding writeAnswer writeDest writeValues writeLayout writtenNumber
-    write-unplaced w k = go (leb (layoutSize (h .magic) n) (length dest)) refl
-      where
-        go : (b : Bool) → leb (layoutSize (h .magic) n) (length dest) ≡ b → Leaves 17 dest out
-        go true e =
-            let z : writeNumber fields pool slots dest ≡ 0 = number-is ∙ rw (w, e) in
-            let r = out-short (writeNumber fields pool slots dest) (writeValues fields) out z k in
-            (r .0, (rw (← r .0), r .1))
-        go false e = refused 17 (number-is ∙ rw (w, e)) (λ z. omega (arith, z))
-
-    pub write-full : (d : List ℕ) → writeLayout h n pool slots dest ≡ TooShort → d ≡ writeBytes h n pool slots dest → Leaves 17 d out
-    unfolding writtenNumber writeBytes leftBy
-    write-full d w q = let e : d ≡ dest = q ∙ rw w in rw e (refused 17 (number-is ∙ rw w) (λ z. omega (arith, z)))
-
-    pub write-wrong : (d : List ℕ) → writeLayout h n pool slots dest ≡ BadFields → d ≡ writeBytes h n pool slots dest → Leaves 13 d out
-    unfolding writtenNumber writeBytes leftBy
-    write-wrong d w q = let e : d ≡ dest = q ∙ rw w in rw e (refused 13 (number-is ∙ rw w) (λ z. omega (arith, z)))
-
-    pub write-done : (b : ℕ) (d o : List ℕ) → writeLayout h n pool slots dest ≡ Bytes b → 1 ≤ length out → d ≡ writeBytes h n pool slots dest →
-        o ≡ set out 0 b → Leaves 0 d o
-    unfolding writeAnswer writeDest writtenNumber writeValues
-    write-done b d o w k p q =
+    pub write-header : (a : ℕ) (d o : List ℕ) → LeavesGiven h n pool slots dest out a d o → Leaves a d o
+    unfolding writeAnswer writeDest headerAnswer headerDest headerOut
+    write-header a d o w =
         let f = given-is fields h g in
-        let z : writeNumber fields pool slots dest ≡ 0 = number-is ∙ rw w in
-        let m : fieldsHeader fields .magic ≡ h .magic = ap (λ (x : Header). x .magic) (f .1) in
-        let v : layoutSize (fieldsHeader fields .magic) (fieldsCount fields) ≡ b = rw (m, ← c) (sym (bytes-size h n pool slots dest b w)) in
-        let r = out-done (writeNumber fields pool slots dest) (writeValues fields) out o z k (rw v q) in
-        (r .0, (rw (← r .0, f .1, ← c) p, r .1))
+        (rw (number-is, values-are) (w .0), (rw (number-is, values-are, f .1, ← c) (w .1 .0), rw (number-is, values-are) (w .1 .1)))
 
 -- ## Rewriting
 

@@ -17,7 +17,7 @@ use Rattle.layout.specs.declared.Given.{Given}
 use Rattle.layout.specs.declared.Given.the-variants.{NotSlot, GivenSlot}
 use Rattle.capi.specs.declared.layouts.HeaderGiven.{HeaderGiven}
 use Rattle.capi.specs.declared.layouts.HeaderGiven.the-variants.{NotHeader, HeaderIs}
-use Rattle.capi.specs.Out.{outAnswer}
+use Rattle.capi.specs.Out.{outAnswer, outNumbers}
 
 -- ## Reading
 
@@ -76,13 +76,29 @@ fieldsCount l = getD l 5 0
 unfoldable pub headerGiven : List ℕ → HeaderGiven
 headerGiven l = cond (fieldsFit l) (HeaderIs (fieldsHeader l)) NotHeader
 
+-- of a header that was given: number, "bytes written", answer, destination and what is handed out
+unfoldable pub headerNumber : Header → ℕ → List ℕ → List ℕ → List ℕ → ℕ
+headerNumber h n pool slots dest = writtenNumber (writeLayout h n pool slots dest)
+
+unfoldable pub headerValues : Header → ℕ → List ℕ
+headerValues h n = layoutSize (h .magic) n ∷ []
+
+unfoldable pub headerAnswer : Header → ℕ → List ℕ → List ℕ → List ℕ → List ℕ → ℕ
+headerAnswer h n pool slots dest out = outAnswer (headerNumber h n pool slots dest) (headerValues h n) out
+
+unfoldable pub headerDest : Header → ℕ → List ℕ → List ℕ → List ℕ → List ℕ → List ℕ
+headerDest h n pool slots dest out = cond (eqb (headerAnswer h n pool slots dest out) 0) (writeBytes h n pool slots dest) dest
+
+unfoldable pub headerOut : Header → ℕ → List ℕ → List ℕ → List ℕ → List ℕ → List ℕ
+headerOut h n pool slots dest out = outNumbers (headerNumber h n pool slots dest) (headerValues h n) out
+
+-- of the fields handed in: 13 where they are no header
 unfoldable pub writeNumber : List ℕ → List ℕ → List ℕ → List ℕ → ℕ
 writeNumber fields pool slots dest =
-    cond (fieldsFit fields) (writtenNumber (writeLayout (fieldsHeader fields) (fieldsCount fields) pool slots dest)) 13
+    cond (fieldsFit fields) (headerNumber (fieldsHeader fields) (fieldsCount fields) pool slots dest) 13
 
--- "bytes written"
 unfoldable pub writeValues : List ℕ → List ℕ
-writeValues fields = layoutSize (fieldsHeader fields .magic) (fieldsCount fields) ∷ []
+writeValues fields = headerValues (fieldsHeader fields) (fieldsCount fields)
 
 unfoldable pub writeAnswer : List ℕ → List ℕ → List ℕ → List ℕ → List ℕ → ℕ
 writeAnswer fields pool slots dest out = outAnswer (writeNumber fields pool slots dest) (writeValues fields) out

@@ -13,7 +13,7 @@ ghost use lib.ListN.{length};
 ghost use lib.Seq.{sets};
 ghost use Rattle.layout.specs.Answers.{readLayout, readNumber, readSlot, slotReadNumber};
 ghost use Rattle.capi.specs.Out.{outAnswer, outNumbers};
-ghost use Rattle.capi.specs.Layouts.{versionOf, headerFields, readFields, slotFields, slotReadFields, magicOf, isVersion, fieldsFit, fieldsHeader, fieldsCount, headerGiven, writeNumber, writeValues, writeAnswer, writeDest, rewriteNumber, rewriteLeft};
+ghost use Rattle.capi.specs.Layouts.{versionOf, headerFields, readFields, slotFields, slotReadFields, magicOf, isVersion, fieldsFit, fieldsHeader, fieldsCount, headerGiven, headerAnswer, headerDest, headerOut, writeNumber, writeValues, writeAnswer, writeDest, rewriteNumber, rewriteLeft};
 
 // A header that is handed in as numbers.
 pub enum HeaderGiven {
@@ -168,6 +168,36 @@ fn given_header(fields: &[u64]) -> HeaderGiven
     })
 }
 
+// Writes the layout of a header that was given; the bytes written into out.
+fn write_given(
+    h: Header,
+    count: usize,
+    pool: &[u8],
+    slots: &[u64],
+    dest: &mut [u8],
+    out: &mut [u64],
+) -> u32
+    ensures answer { λ r. ⌜ r ≡ headerAnswer h count (now (pool .entry)) (now (slots .entry)) (now (dest .entry)) (now (out .entry)) ⌝ }
+    ensures dest { λ _. ⌜ now (dest .exit) ≡ headerDest h count (now (pool .entry)) (now (slots .entry)) (now (dest .entry)) (now (out .entry)) ⌝ }
+    ensures out { λ _. ⌜ now (out .exit) ≡ headerOut h count (now (pool .entry)) (now (slots .entry)) (now (dest .entry)) (now (out .entry)) ⌝ }
+{
+    if !layout::may_write(h, count, pool, slots) {
+        return 13;
+    }
+    if out.len() < 1 {
+        return 17;
+    }
+    let written = layout::write(h, count, pool, slots, dest);
+    match written {
+        Written::BadFields => 13,
+        Written::TooShort => 17,
+        Written::Bytes(n) => {
+            out::put(out, 0, n as u64);
+            0
+        }
+    }
+}
+
 // Writes a layout of 7 fields, a pool name and slots of 5 numbers each; the bytes written into out.
 #[no_mangle]
 pub extern "C" fn lfsck_layout_write(
@@ -184,24 +214,7 @@ pub extern "C" fn lfsck_layout_write(
     let given = given_header(fields);
     match given {
         HeaderGiven::NotHeader => 13,
-        HeaderGiven::HeaderIs(h) => {
-            let count = fields[5] as usize;
-            if !layout::may_write(h, count, pool, slots) {
-                return 13;
-            }
-            if out.len() < 1 {
-                return 17;
-            }
-            let written = layout::write(h, count, pool, slots, dest);
-            match written {
-                Written::BadFields => 13,
-                Written::TooShort => 17,
-                Written::Bytes(n) => {
-                    out::put(out, 0, n as u64);
-                    0
-                }
-            }
-        }
+        HeaderGiven::HeaderIs(h) => write_given(h, fields[5] as usize, pool, slots, dest, out),
     }
 }
 

@@ -1,3 +1,4 @@
 // What C calls: thin exports over the public functions, on numbers and lent slices.
+pub mod checks;
 pub mod layouts;
 pub mod out;
