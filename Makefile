@@ -1,22 +1,18 @@
-.PHONY: test demo bench clean
+.PHONY: test bench clean
 
-ARCHIVE := target/staticlib/libcapi.a
+ARCHIVES := target/staticlib/libcapi.a target/staticlib/libmeasure.a
 
 # The proofs, the C programs and the Rust tests.
 test:
 	@tests/run
 
-# The tour of the command on a sample.
-demo: $(ARCHIVE)
-	@tests/demo
-
 # The proved library beside plain Rust.
-bench: $(ARCHIVE)
+bench: $(ARCHIVES)
 	@tests/bench
 
-# The proved library.
-$(ARCHIVE): $(shell find crates crates.txt -type f 2>/dev/null)
-	rt staticlib capi
+# The proved library, and what the benchmark calls.
+target/staticlib/lib%.a: $(shell find crates crates.txt -type f 2>/dev/null)
+	rt staticlib $*
 
 clean:
 	rm -rf target

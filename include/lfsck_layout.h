@@ -79,21 +79,7 @@ enum {
     LFSCK_WRITE_FIELDS = 7,     /* a header to be written */
     LFSCK_SLOT_NUMBERS = 5,     /* a slot */
     LFSCK_POSITION_NUMBERS = 3, /* a position: stage, row, part */
-    LFSCK_CLASS_NUMBERS = 4,    /* a class and what it carries */
-    LFSCK_REPORT_NUMBERS = 9    /* the report of a run */
-};
-
-/* The numbers of a report: the steps done, and the repairs of each class among them. */
-enum {
-    LFSCK_REPORT_STEPS = 0,
-    LFSCK_REPORT_SELF = 1,
-    LFSCK_REPORT_MULTIPLE = 2,
-    LFSCK_REPORT_DANGLING = 3,
-    LFSCK_REPORT_BLANK = 4,
-    LFSCK_REPORT_UNMATCHED = 5,
-    LFSCK_REPORT_OWNER = 6,
-    LFSCK_REPORT_EMPTY = 7,
-    LFSCK_REPORT_ORPHAN = 8
+    LFSCK_CLASS_NUMBERS = 4     /* a class and what it carries */
 };
 
 /* The classes of a header, a slot and an object. */
@@ -174,104 +160,6 @@ uint32_t lfsck_class(const uint8_t *parents, size_t parents_bytes,
                      const uint8_t *objects, size_t objects_bytes,
                      uint64_t stage, uint64_t row, uint64_t part,
                      uint64_t *out, size_t out_count);
-
-/*
- * Checks the input as lfsck_check does, then repairs in place, step by step.
- *
- *   parents, objects  the tables, changed
- *   reserve           FIDs for new objects, 16 bytes each
- *   policy            0 to 3
- *   most              the greatest number of steps
- *   position          exactly 3 numbers, changed: where to begin, then where the run stands
- *   report            9 numbers, written
- *
- * LFSCK_OK           the end is reached
- * LFSCK_STEPS_USED   the steps are used up before the end; the next step was not looked at
- * LFSCK_NO_RESERVE, LFSCK_NO_OBJECT_ROW, LFSCK_NO_PARENT_ROW
- *                    the position rests on a step that could not be made; tables and report
- *                    are those after the steps before it
- * LFSCK_BAD_TABLE to LFSCK_NO_POSITION
- *                    as lfsck_check; a position of fewer or more than 3 numbers is none
- * LFSCK_NO_ROOM      fewer than 9 numbers for the report
- */
-uint32_t lfsck_run(uint8_t *parents, size_t parents_bytes,
-                   uint8_t *objects, size_t objects_bytes,
-                   const uint8_t *reserve, size_t reserve_bytes,
-                   uint64_t policy, uint64_t most,
-                   uint64_t *position, size_t position_count,
-                   uint64_t *report, size_t report_count);
-
-/*
- * A header is version (1 or 3), pattern, own id, own sequence, stripe size, stripe count and
- * generation, in this order; one that was read ends with the place where the slots start.
- *
- * A slot is five numbers: 1, sequence, id, generation and OST index where it names an object,
- * and five zeros where it is a hole.
- */
-
-/*
- * Reads a layout's header.
- *
- *   layout  the layout, exactly its bytes
- *   fields  8 numbers, written
- *
- * LFSCK_OK          the header is in the first 8 fields
- * LFSCK_BAD_LAYOUT  the bytes are no layout
- * LFSCK_NO_ROOM     fewer than 8 fields
- */
-uint32_t lfsck_layout_read(const uint8_t *layout, size_t layout_bytes,
-                           uint64_t *fields, size_t fields_count);
-
-/*
- * Reads one slot of a layout.
- *
- *   layout  the layout, exactly its bytes
- *   index   which slot, from 0
- *   out     5 numbers, written
- *
- * LFSCK_OK           the slot is in the first 5 numbers
- * LFSCK_BAD_LAYOUT   the bytes are no layout
- * LFSCK_NO_POSITION  the index is not below the stripe count
- * LFSCK_NO_ROOM      fewer than 5 numbers
- */
-uint32_t lfsck_layout_slot(const uint8_t *layout, size_t layout_bytes,
-                           uint64_t index,
-                           uint64_t *out, size_t out_count);
-
-/*
- * Writes a layout.
- *
- *   fields       exactly 7 numbers
- *   pool         the pool name: 16 bytes with version 3, none with version 1
- *   slots        5 numbers for each slot, as many slots as the stripe count
- *   destination  takes the layout; bytes past it stay
- *   out          1 number, written: the bytes of the layout
- *
- * LFSCK_OK          the layout is in the destination and its length in out
- * LFSCK_BAD_LAYOUT  another amount of anything that is handed in, a number that does not fit
- *                   its field, or a layout against the rules
- * LFSCK_NO_ROOM     the destination is shorter than the layout, or out has no place
- */
-uint32_t lfsck_layout_write(const uint64_t *fields, size_t fields_count,
-                            const uint8_t *pool, size_t pool_bytes,
-                            const uint64_t *slots, size_t slots_count,
-                            uint8_t *destination, size_t destination_bytes,
-                            uint64_t *out, size_t out_count);
-
-/*
- * Puts another slot in the place of one of a layout's. Only that slot's 24 bytes change.
- *
- *   layout  the layout, exactly its bytes
- *   index   which slot, from 0
- *   slot    exactly 5 numbers
- *
- * LFSCK_OK           the slot is written
- * LFSCK_BAD_LAYOUT   the bytes are no layout, or the slot is none that its pattern allows
- * LFSCK_NO_POSITION  the index is not below the stripe count
- */
-uint32_t lfsck_slot_rewrite(uint8_t *layout, size_t layout_bytes,
-                            uint64_t index,
-                            const uint64_t *slot, size_t slot_count);
 
 #ifdef __cplusplus
 }

@@ -4,7 +4,7 @@ use std::io::Write;
 use std::time::Duration;
 
 use bench::input::Tables;
-use bench::measure::{Timed, Times, side_by_side, timed};
+use bench::measure::{Times, side_by_side, timed};
 use bench::plain;
 
 /// The ratio that the library is to keep to.
@@ -16,9 +16,6 @@ const SLOTS: usize = 160;
 /// The sizes between which the growth is measured.
 const SIZES: [usize; 5] = [10_000, 20_000, 40_000, 80_000, 160_000];
 
-/// Answer, position, report and tables after a run.
-type Ran = (u32, [u64; 3], [u64; 9], Tables);
-
 fn main() {
     let rounds = std::env::args().nth(1);
     let rounds = rounds.map_or(ROUNDS, |word| word.parse().expect("a number of rounds"));
@@ -27,7 +24,6 @@ fn main() {
     println!("|---|---|---|---|");
     measure_check(rounds);
     let growth = SIZES.map(|slots| measure_classes(slots, rounds));
-    measure_run(rounds);
     print_growth(&growth);
 }
 
@@ -46,82 +42,19 @@ fn measure_check(rounds: usize) {
     print_line(what, times);
 }
 
-/// The class of every position of clean tables: a run under policy 0, which finds every one of
-/// them quiet and changes nothing.
+/// The class of every position of clean tables, in one call.
 fn measure_classes(slots: usize, rounds: usize) -> Times {
-    let objects = slots * 65_536 / 160_000;
-    let tables = Tables::clean(slots, objects, 0);
+    let count = slots * 65_536 / 160_000;
+    let tables = Tables::clean(slots, count, 0);
+    let (parents, objects) = (&tables.parents, &tables.objects);
     let times = side_by_side(
         rounds,
-        || run(&tables, 0, lfsck_run),
-        || run(&tables, 0, plain::run),
+        || timed(|| lfsck_sys::measure_classes(parents, objects)),
+        || timed(|| plain::classes(parents, objects)),
     );
-    let what = format!("classes of all positions: {slots} slots, {objects} objects, clean");
+    let what = format!("classes of all positions: {slots} slots, {count} objects, clean");
     print_line(&what, times);
     times
-}
-
-/// A whole run on damaged tables.
-fn measure_run(rounds: usize) {
-    let slots = 1000 * SLOTS;
-    let mut tables = Tables::clean(slots, 65_536, 65_536);
-    tables.damage(slots);
-    let times = side_by_side(
-        rounds,
-        || run(&tables, 3, lfsck_run),
-        || run(&tables, 3, plain::run),
-    );
-    let what = "run, policy 3: 160000 slots, 65,536 objects, one slot in a hundred damaged";
-    print_line(what, times);
-}
-
-/// A run by either side.
-type RunCall = fn(&mut [u8], &mut [u8], &[u8], u64, u64, &mut [u64; 3], &mut [u64; 9]) -> u32;
-
-/// The library's run.
-fn lfsck_run(
-    parents: &mut [u8],
-    objects: &mut [u8],
-    reserve: &[u8],
-    policy: u64,
-    most: u64,
-    position: &mut [u64; 3],
-    report: &mut [u64; 9],
-) -> u32 {
-    lfsck_sys::run(parents, objects, reserve, policy, most, position, report)
-}
-
-/// Times a run from the start, which must get to the end.
-fn run(tables: &Tables, policy: u64, call: RunCall) -> Timed<Ran> {
-    let Tables {
-        mut parents,
-        mut objects,
-        reserve,
-    } = tables.clone();
-    let (mut position, mut report) = ([1, 0, 0], [0; 9]);
-    let Timed { result, took } = timed(|| {
-        call(
-            &mut parents,
-            &mut objects,
-            &reserve,
-            policy,
-            u64::MAX,
-            &mut position,
-            &mut report,
-        )
-    });
-    let repairs: u64 = report[1..].iter().sum();
-    assert_eq!((result, position), (0, [3, 0, 0]));
-    assert_eq!(repairs > 0, policy > 0);
-    let after = Tables {
-        parents,
-        objects,
-        reserve,
-    };
-    Timed {
-        result: (result, position, report, after),
-        took,
-    }
 }
 
 fn print_line(what: &str, times: Times) {

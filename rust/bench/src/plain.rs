@@ -10,9 +10,7 @@ mod check;
 mod class;
 mod layout;
 mod position;
-mod repair;
-mod run;
 mod search;
 
 pub use check::check;
-pub use run::run;
+pub use class::classes;

@@ -1,47 +1,57 @@
-//! The class at a position.
+//! The class of every position.
 
 use super::bytes::{CLAIM, FRESH, Fid, NO_FID, OBJECT, OWNER, PARENT, PARENT_OWNER, is_used, row};
+use super::check::check;
 use super::layout::{holes_allowed, is_hole, layout_of};
-use super::search::{
-    claim_of, first_naming, is_named_else, keeper, object_row, parent_row, slot_at,
-};
+use super::position::{END, width};
+use super::search::{claim_of, is_named_else, keeper, object_row, parent_row, slot_at};
 
+/// Classes every position of tables that pass the check, and counts those that are neither clean nor a hole, unused or
+/// named.
+pub fn classes(parents: &[u8], objects: &[u8]) -> u64 {
+    if check(parents, objects, &[], 0, END) != 0 {
+        return 0;
+    }
+    let parents_rows = parents.len() / PARENT;
+    let mut faults = 0;
+    for at in 0..parents_rows {
+        faults += u64::from(header(row(parents, PARENT, at)));
+        for index in 0..width(parents, at) as usize {
+            faults += u64::from(slot(parents, objects, at, index));
+        }
+    }
+    for at in 0..objects.len() / OBJECT {
+        faults += u64::from(object(parents, objects, at));
+    }
+    faults
+}
+
+/// The class at a position; an unused row and a hole are clean here.
 #[derive(Clone, Copy, PartialEq, Eq)]
-pub enum Class {
-    Quiet,
+enum Class {
+    Clean,
     SelfId,
     Multiple,
     Dangling,
-    Blank(usize),
-    Unmatched(usize),
-    Owner(usize),
+    Blank,
+    Unmatched,
+    Owner,
+    Kept,
+    Spare,
     Empty,
-    Orphan(Way),
+    Orphan,
+    Conflict,
 }
 
-/// How the claimed place of an orphan can be had.
-#[derive(Clone, Copy, PartialEq, Eq)]
-pub enum Way {
-    MakeParent,
-    FillHole(usize),
-    Grow(usize),
-    ReplaceFresh(usize, usize),
-}
-
-/// Classes that a repair has nothing to do with are all `Quiet`.
-pub fn class(parents: &[u8], objects: &[u8], [stage, at, part]: [u64; 3]) -> Class {
-    let at = at as usize;
-    match (stage, part) {
-        (1, 0) => header(row(parents, PARENT, at)),
-        (1, part) => slot(parents, objects, at, part as usize - 1),
-        (2, _) => object(parents, objects, at),
-        _ => Class::Quiet,
+impl From<Class> for u64 {
+    fn from(class: Class) -> u64 {
+        u64::from(!matches!(class, Class::Clean | Class::Kept))
     }
 }
 
 fn header(row: &[u8]) -> Class {
     if !is_used(row) {
-        return Class::Quiet;
+        return Class::Clean;
     }
     let layout = layout_of(row);
     let fid = Fid::read(row, 1);
@@ -50,7 +60,7 @@ fn header(row: &[u8]) -> Class {
         super::bytes::number64(layout, 8),
     );
     if own == (fid.sequence, fid.id.into()) {
-        Class::Quiet
+        Class::Clean
     } else {
         Class::SelfId
     }
@@ -58,7 +68,7 @@ fn header(row: &[u8]) -> Class {
 
 fn slot(parents: &[u8], objects: &[u8], at: usize, index: usize) -> Class {
     let Some(slot) = slot_at(parents, at, index).filter(|slot| !is_hole(slot)) else {
-        return Class::Quiet;
+        return Class::Clean;
     };
     let fid = Fid::read(slot, 0);
     let found = object_row(objects, fid);
@@ -76,53 +86,56 @@ fn slot(parents: &[u8], objects: &[u8], at: usize, index: usize) -> Class {
         ..Fid::read(parent, 1)
     };
     if claim == NO_FID {
-        Class::Blank(object)
+        Class::Blank
     } else if claim != own {
-        Class::Unmatched(object)
+        Class::Unmatched
     } else if *owner != parent[PARENT_OWNER..PARENT_OWNER + 8] {
-        Class::Owner(object)
+        Class::Owner
     } else {
-        Class::Quiet
+        Class::Clean
     }
 }
 
 fn object(parents: &[u8], objects: &[u8], at: usize) -> Class {
     let own = row(objects, OBJECT, at);
-    if !is_used(own) || first_naming(parents, Fid::read(own, 1)).is_some() {
-        return Class::Quiet;
+    if !is_used(own) {
+        return Class::Clean;
     }
     let claim = Fid::read(own, CLAIM);
+    if keeper(parents, Fid::read(own, 1), claim).is_some() {
+        return Class::Kept;
+    }
     if claim == NO_FID {
-        Class::Quiet
+        Class::Spare
     } else if own[FRESH] == 1 {
         Class::Empty
+    } else if can_be_had(parents, objects, claim) {
+        Class::Orphan
     } else {
-        way(parents, objects, claim).map_or(Class::Quiet, Class::Orphan)
+        Class::Conflict
     }
 }
 
-fn way(parents: &[u8], objects: &[u8], claim: Fid) -> Option<Way> {
+/// Whether the claimed place can be had.
+fn can_be_had(parents: &[u8], objects: &[u8], claim: Fid) -> bool {
     let index = claim.version as usize;
     if index >= 160 {
-        return None;
+        return false;
     }
     let Some(at) = parent_row(parents, claim.file()) else {
-        return Some(Way::MakeParent);
+        return true;
     };
     match slot_at(parents, at, index) {
-        Some(slot) if is_hole(slot) => Some(Way::FillHole(at)),
+        Some(slot) if is_hole(slot) => true,
         Some(slot) => {
             let named = Fid::read(slot, 0);
-            let object = object_row(objects, named)?;
-            let row = row(objects, OBJECT, object);
-            let fresh = row[FRESH] == 1
-                && Fid::read(row, CLAIM) == claim
-                && !is_named_else(parents, named, (at, index));
-            fresh.then_some(Way::ReplaceFresh(at, object))
+            object_row(objects, named).is_some_and(|object| {
+                let row = row(objects, OBJECT, object);
+                row[FRESH] == 1
+                    && Fid::read(row, CLAIM) == claim
+                    && !is_named_else(parents, named, (at, index))
+            })
         }
-        None => {
-            let layout = layout_of(row(parents, PARENT, at));
-            holes_allowed(layout).then_some(Way::Grow(at))
-        }
+        None => holes_allowed(layout_of(row(parents, PARENT, at))),
     }
 }
