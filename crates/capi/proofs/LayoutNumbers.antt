@@ -1,8 +1,8 @@
 -- Layouts as numbers, case by case. Assumes nothing.
-use mathlib.Core.Path.{_≡_, refl, sym, ap, _∙_}
-use mathlib.Core.List.{List, [], _∷_, _++_}
-use mathlib.Core.Bool.{Bool, true, false, cond, _&&_, _||_}
-use Prim.Native.Nat.{ℕ, _+_, _≤_, _<_}
+use mathlib.Core.Path.{_≡_, refl, sym, _∙_}
+use mathlib.Core.List.{List, [], _∷_}
+use mathlib.Core.Bool.{Bool, true, false, cond, _&&_}
+use Prim.Native.Nat.{ℕ, _≤_, _<_}
 use borrow.Author.Tests.{eq-eqb, ne-eqb, le-leb, lt-leb, eqb-true, leb-true}
 use native.Mathlib.Omega.{arith}
 use lib.Dec.{eqb, leb}
@@ -10,7 +10,7 @@ use lib.ListN.{length, getD, set}
 use lib.Seq.{sets}
 use Rattle.wire.proofs.Both.{and-first, and-second}
 use Rattle.layout.specs.Layout.{magicOne, magicThree, headerSize, layoutSize}
-use Rattle.layout.specs.Answers.{readLayout, readNumber, readSlot, slotReadNumber, givenFrom, givenAt, writable, writeLayout, writtenNumber, leftBy, writeBytes, rewriteAnswer, rewriteBytes}
+use Rattle.layout.specs.Answers.{readNumber, slotReadNumber, givenFrom, givenAt, writable, writeLayout, writtenNumber, leftBy, writeBytes, rewriteAnswer, rewriteBytes}
 use Rattle.fid.specs.declared.OstFid.{OstFid}
 use Rattle.layout.specs.declared.Header.{Header}
 use Rattle.layout.specs.declared.Slot.{Slot}

@@ -1,3 +1,4 @@
 pub mod OutLaws
 pub mod LayoutNumbers
 pub mod TableNumbers
+pub mod ClassLaws

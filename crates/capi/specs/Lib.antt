@@ -1,3 +1,4 @@
 pub mod Out
 pub mod Layouts
 pub mod Tables
+pub mod Classes

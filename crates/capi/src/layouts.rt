@@ -7,13 +7,12 @@ use layout::Slot;
 use layout::SlotRead;
 use layout::Written;
 ghost use mathlib.Core.Path.{_≡_};
-ghost use mathlib.Core.List.{[], _∷_};
 ghost use Prim.Native.Nat.{_≤_};
 ghost use lib.ListN.{length};
 ghost use lib.Seq.{sets};
 ghost use Rattle.layout.specs.Answers.{readLayout, readNumber, readSlot, slotReadNumber};
 ghost use Rattle.capi.specs.Out.{outAnswer, outNumbers};
-ghost use Rattle.capi.specs.Layouts.{versionOf, headerFields, readFields, slotFields, slotReadFields, magicOf, isVersion, fieldsFit, fieldsHeader, fieldsCount, headerGiven, headerAnswer, headerDest, headerOut, writeNumber, writeValues, writeAnswer, writeDest, rewriteNumber, rewriteLeft};
+ghost use Rattle.capi.specs.Layouts.{versionOf, headerFields, readFields, slotFields, slotReadFields, magicOf, isVersion, fieldsFit, headerGiven, headerAnswer, headerDest, headerOut, writeNumber, writeValues, writeAnswer, writeDest, rewriteNumber, rewriteLeft};
 
 // A header that is handed in as numbers.
 pub enum HeaderGiven {

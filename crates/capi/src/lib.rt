@@ -1,4 +1,5 @@
 // What C calls: thin exports over the public functions, on numbers and lent slices.
 pub mod checks;
+pub mod classes;
 pub mod layouts;
 pub mod out;
