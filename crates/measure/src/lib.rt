@@ -51,7 +51,10 @@ fn row_faults(parents: &[u8], objects: &[u8], r: usize) -> u64
     let mut faults = header_fault(classify::headers::header_class(parents, r));
     let n = positions::width(parents, r) as usize;
     for j in 0..n {
-        faults = wrapping_add_u64(faults, slot_fault(classify::slots::slot_class(parents, objects, r, j)));
+        faults = wrapping_add_u64(
+            faults,
+            slot_fault(classify::slots::slot_class(parents, objects, r, j)),
+        );
     }
     faults
 }
@@ -75,7 +78,10 @@ fn object_faults(parents: &[u8], objects: &[u8]) -> u64
     let n = positions::object_count(objects);
     let mut faults: u64 = 0;
     for o in 0..n {
-        faults = wrapping_add_u64(faults, object_fault(classify::objects::object_class(parents, objects, o)));
+        faults = wrapping_add_u64(
+            faults,
+            object_fault(classify::objects::object_class(parents, objects, o)),
+        );
     }
     faults
 }
@@ -86,5 +92,8 @@ pub extern "C" fn measure_classes(parents: &[u8], objects: &[u8]) -> u64 {
     if tables::check_tables(parents, objects) != 0 {
         return 0;
     }
-    wrapping_add_u64(parent_faults(parents, objects), object_faults(parents, objects))
+    wrapping_add_u64(
+        parent_faults(parents, objects),
+        object_faults(parents, objects),
+    )
 }
