@@ -3,6 +3,5 @@ pub mod PlaceSearch
 pub mod ParsedRows
 pub mod SlotArea
 pub mod NamingLaws
-pub mod Distinctness
 pub mod KeeperLaws
 pub mod ReserveLaws

@@ -25,7 +25,8 @@ use Rattle.rules.specs.declared.Row.the-variants.{RowIs, NoRow}
 use Rattle.rules.specs.declared.Lookup.{Lookup}
 use Rattle.rules.specs.declared.Lookup.the-variants.{Present, Missing}
 use Rattle.tables.specs.declared.Claim.{Claim}
-use Rattle.search.proofs.RowSearch.{rowsLeft, row-start, row-found}
+use Rattle.rules.proofs.Searches.{from-row-is}
+use Rattle.search.proofs.RowSearch.{rowsLeft, row-start}
 
 -- ## Rows
 
@@ -141,28 +142,28 @@ module _ (o : List ℕ) where
 module _ (p o : List ℕ) where
   pub parent-inside : (f : MdtFid) (r : ℕ) → parentRow (parse p o) f ≡ RowIs r → r < length p / parentSize
   unfolding parentRow
-  parent-inside f r e = let k = row-found _ _ 0 r e .1 in omega (arith, parsed-parents p o)
+  parent-inside f r e = let k = from-row-is _ 0 _ r e .1 in omega (arith, parsed-parents p o)
 
   pub free-parent-inside : (r : ℕ) → freeParent (parse p o) ≡ RowIs r → r < length p / parentSize
   unfolding freeParent
-  free-parent-inside r e = let k = row-found _ _ 0 r e .1 in omega (arith, parsed-parents p o)
+  free-parent-inside r e = let k = from-row-is _ 0 _ r e .1 in omega (arith, parsed-parents p o)
 
   pub object-inside : (f : OstFid) (i : ℕ) → objectRow (parse p o) f ≡ RowIs i → i < length o / objectSize
   unfolding objectRow
-  object-inside f i e = let k = row-found _ _ 0 i e .1 in omega (arith, parsed-objects p o)
+  object-inside f i e = let k = from-row-is _ 0 _ i e .1 in omega (arith, parsed-objects p o)
 
   pub free-object-inside : (i : ℕ) → freeObject (parse p o) ≡ RowIs i → i < length o / objectSize
   unfolding freeObject
-  free-object-inside i e = let k = row-found _ _ 0 i e .1 in omega (arith, parsed-objects p o)
+  free-object-inside i e = let k = from-row-is _ 0 _ i e .1 in omega (arith, parsed-objects p o)
 
   -- and passes the test
   pub parent-found : (f : MdtFid) (r : ℕ) → parentRow (parse p o) f ≡ RowIs r → isParent f (rowAt (parse p o) r) ≡ true
   unfolding parentRow
-  parent-found f r e = row-found (λ r. isParent f (rowAt (parse p o) r)) _ 0 r e .0
+  parent-found f r e = from-row-is _ 0 (λ r. isParent f (rowAt (parse p o) r)) r e .0
 
   pub object-found : (f : OstFid) (i : ℕ) → objectRow (parse p o) f ≡ RowIs i → isObject f (objectAt (parse p o) i) ≡ true
   unfolding objectRow
-  object-found f i e = row-found (λ i. isObject f (objectAt (parse p o) i)) _ 0 i e .0
+  object-found f i e = from-row-is _ 0 (λ i. isObject f (objectAt (parse p o) i)) i e .0
 
 -- the row of an object that is found is used
 pub found-used : (p o : List ℕ) (f : OstFid) (i : ℕ) (row : List ℕ) → objectRow (parse p o) f ≡ RowIs i →

@@ -11,12 +11,14 @@ use Rattle.fid.specs.Fid.{decodeFid}
 use Rattle.fid.specs.declared.Fid.{Fid}
 use Rattle.fid.specs.declared.OstFid.{OstFid}
 use Rattle.tables.specs.Records.{Tables}
-use Rattle.tables.specs.Bytes.{entrySize, reserveEntries, reserveFid, parseReserve}
+use Rattle.tables.specs.Bytes.{entrySize, reserveEntries, reserveFid, parseReserve, parse}
 use Rattle.rules.specs.Search.{isRow}
 use Rattle.rules.specs.Rows.{objectRow, named}
 use Rattle.rules.specs.Repairs.{usable}
+use Rattle.rules.specs.declared.Row.{Row}
 use Rattle.rules.specs.declared.Usable.{Usable}
 use Rattle.rules.specs.declared.Usable.the-variants.{Takes, UsedUp}
+use Rattle.search.proofs.ParsedRows.{object-row-alone, named-alone}
 
 -- the first that can be taken, from entry k of n on
 pub usableFrom : Tables → List ℕ → ℕ → ℕ → Usable
@@ -42,3 +44,12 @@ module _ (T : Tables) (l : List ℕ) where
     pub usable-skips : (isRow (objectRow T (record { 0 = f })) || named T (record { 0 = f })) ≡ true → x ≡ usableFrom T l n (k + 1)
     unfolding usableFrom usable reserveFid
     usable-skips t = rw (e, rows-step entrySize n k l h, ← at, ← q, usable, t)
+
+-- ## In use: in the object table, or named by a slot
+
+module _ (p o : List ℕ) (f : OstFid) (a : Row) (b : Bool) (e : a ≡ objectRow (parse [] o) f) (t : b ≡ isRow a) where
+  pub used-row : b ≡ true → true ≡ (isRow (objectRow (parse p o) f) || named (parse p o) f)
+  used-row h = rw (← object-row-alone p o f, ← e, ← t, h)
+
+  pub used-slot : b ≡ false → (d : Bool) → d ≡ named (parse p []) f → d ≡ (isRow (objectRow (parse p o) f) || named (parse p o) f)
+  used-slot h d q = rw (← object-row-alone p o f, ← e, ← t, h) (q ∙ named-alone p o f)

@@ -1,8 +1,8 @@
 -- "A FID twice": in tables that pass, two used rows with the same self FID are the same row, of the bytes and of the records. Assumes nothing.
 use mathlib.Core.Path.{_≡_, refl, sym, ap, _∙_}
-use mathlib.Core.List.{List, [], _∷_, map}
+use mathlib.Core.List.{List, [], _∷_}
 use mathlib.Core.Bool.{Bool, true, false, cond, not, _&&_, _||_}
-use Prim.Native.Nat.{ℕ, zero, suc, _+_, _*_, _/_, _≤_, _<_}
+use Prim.Native.Nat.{ℕ, zero, suc, _*_, _/_, _≤_, _<_}
 use native.Mathlib.Nat.{not-suc-le-zero}
 use native.Mathlib.Omega.{arith}
 use borrow.Author.Tests.{ltb-true, ltb-false}
@@ -13,7 +13,7 @@ use Rattle.wire.proofs.Both.{and-first, and-second}
 use Rattle.wire.proofs.RowLaws.{rows-length, rows-at}
 use Rattle.fid.specs.Fid.{sameFid}
 use Rattle.fid.specs.declared.Fid.{Fid}
-use Rattle.tables.specs.Records.{Parent, ParentRow, noParent, parent, ObjectRow, noObject, object, Tables}
+use Rattle.tables.specs.Records.{Parent, noParent, parent, noObject, object, Tables}
 use Rattle.tables.specs.Bytes.{parentSize, objectSize, isUsed, decodeParent, decodeObject, parseParent, parseObject, parentRows, objectRows, parse}
 use Rattle.tables.specs.Positions.{rowAt}
 use Rattle.tables.specs.declared.Object.{Object}

@@ -1,11 +1,10 @@
 -- The number that the check gives, case by case, and 0 exactly where every condition holds. Assumes nothing.
-use mathlib.Core.Path.{_≡_, refl, sym, ap, _∙_}
+use mathlib.Core.Path.{_≡_, refl, sym, _∙_}
 use mathlib.Core.List.{List, []}
 use mathlib.Core.Bool.{Bool, true, false, cond, _&&_}
 use Prim.Native.Nat.{ℕ, _≤_, _<_}
 use native.Mathlib.Omega.{arith}
 use borrow.Author.Tests.{le-leb, lt-leb, eq-eqb, ne-eqb}
-use Rattle.wire.proofs.Both.{and-first}
 use Rattle.wire.specs.Rows.{rows}
 use Rattle.tables.specs.Bytes.{parentRows, objectRows, reserveEntries, parse}
 use Rattle.tables.specs.Positions.{isPosition, start, countSteps}

@@ -1,13 +1,13 @@
 -- Rows that can be written: what they say fits its fields and keeps the rules, and is read back as it was written. Assumes nothing.
 use mathlib.Core.Path.{_≡_, refl, sym, ap, _∙_}
 use mathlib.Core.List.{List, [], _∷_, _++_, append-assoc, append-nil}
-use mathlib.Core.Bool.{Bool, true, false, cond, _&&_}
-use Prim.Native.Nat.{ℕ, zero, suc, _+_, _-_, _*_, _%_, _≤_, _<_, _^_}
+use mathlib.Core.Bool.{Bool, true, false}
+use Prim.Native.Nat.{ℕ, suc, _+_, _-_, _≤_, _<_, _^_}
 use native.Mathlib.Nat.{mod-eq-of-lt}
 use native.Mathlib.Omega.{arith}
 use borrow.Author.Tests.{eqb-true, ne-eqb}
 use lib.Dec.{eqb}
-use lib.ListN.{length, getD, take, drop, length-append}
+use lib.ListN.{length, getD, drop, length-append}
 use lib.Seq.{drop-drop, drop-at, take-at, getD-drop}
 use Rattle.wire.specs.Numbers.{le, bytes}
 use Rattle.wire.proofs.Both.{and-second}
@@ -16,7 +16,7 @@ use Rattle.fid.specs.Fid.{decodeFid, encodeFid, goodFid, goodNumber, sameFid, z
 use Rattle.fid.specs.declared.Fid.{Fid}
 use Rattle.fid.proofs.FidLaws.{Fits, length-encode, decode-encode, good-positive}
 use Rattle.layout.specs.Slot.{maxIndex}
-use Rattle.layout.specs.Layout.{Layout, decodeLayout, encodeLayout}
+use Rattle.layout.specs.Layout.{decodeLayout, encodeLayout}
 use Rattle.layout.proofs.HeaderLaws.{field}
 use Rattle.layout.proofs.LayoutLaws.{Writable, read-back}
 use Rattle.tables.specs.Records.{Parent, ParentRow, noParent, parent, ObjectRow, noObject, object}

@@ -1,32 +1,32 @@
 -- Tables whose rows can be written, not too many and no FID twice, pass the check once written. Assumes nothing.
 use mathlib.Core.Path.{_≡_, refl, sym, ap, _∙_}
-use mathlib.Core.List.{List, [], _∷_, _++_, map}
+use mathlib.Core.List.{List, [], _∷_, map}
 use mathlib.Core.Bool.{Bool, true, false, cond, not, _&&_, _||_}
-use Prim.Native.Nat.{ℕ, zero, suc, _+_, _-_, _*_, _/_, _≤_, _<_}
-use native.Mathlib.Nat.{not-suc-le-zero, mul-div-right}
+use Prim.Native.Nat.{ℕ, zero, suc, _-_, _*_, _/_, _≤_, _<_}
+use native.Mathlib.Nat.{mul-div-right}
 use native.Mathlib.Omega.{arith}
 use borrow.Author.Tests.{eq-eqb, ne-eqb, le-leb}
 use lib.Dec.{leb, eqb}
-use lib.ListN.{length, getD, take, drop, length-map}
+use lib.ListN.{length, getD, drop}
 use Rattle.wire.specs.Numbers.{le}
 use Rattle.wire.specs.Rows.{rows}
 use Rattle.wire.proofs.Both.{and-first, and-second, and-both}
-use Rattle.fid.specs.Fid.{decodeFid, goodFid, goodNumber, sameFid, zeroFid}
+use Rattle.fid.specs.Fid.{goodFid, goodNumber, sameFid, zeroFid}
 use Rattle.fid.specs.declared.Fid.{Fid}
 use Rattle.fid.proofs.FidLaws.{good-positive}
 use Rattle.layout.specs.Slot.{maxIndex}
-use Rattle.layout.specs.Layout.{acceptedLayout, encodeLayout}
+use Rattle.layout.specs.Layout.{acceptedLayout}
 use Rattle.layout.proofs.LayoutLaws.{written-accepted}
 use Rattle.tables.specs.Records.{Parent, ParentRow, noParent, parent, ObjectRow, noObject, object, Tables}
-use Rattle.tables.specs.Bytes.{parentSize, objectSize, layoutRoom, isUsed, layoutLength, layoutBytes, renderParent, claimFid, mark, renderObject, parentRows, objectRows, join, renderParents, renderObjects}
-use Rattle.tables.specs.Check.{all, whenUsed, maxParents, maxObjects, wholeRows, isMark, usedMark, freshMark, parentsWhole, objectsWhole, tablesWhole, goodLayout, goodLayouts, selfFid, goodSelf, goodIndex, claimed, goodClaim, freshClaims, goodObject, hasSelf, noneTwice, allDifferent, Sound}
+use Rattle.tables.specs.Bytes.{parentSize, objectSize, layoutRoom, isUsed, layoutLength, layoutBytes, renderParent, claimFid, mark, renderObject, parentRows, objectRows, renderParents, renderObjects}
+use Rattle.tables.specs.Check.{all, whenUsed, maxParents, maxObjects, wholeRows, isMark, usedMark, freshMark, parentsWhole, objectsWhole, goodLayout, goodLayouts, selfFid, goodSelf, goodIndex, claimed, goodClaim, freshClaims, goodObject, hasSelf, noneTwice, allDifferent, Sound}
 use Rattle.tables.specs.declared.Claim.{Claim}
 use Rattle.tables.specs.declared.Claim.the-variants.{Unclaimed, Claims}
 use Rattle.tables.specs.declared.Object.{Object}
 use Rattle.tables.proofs.SameLaws.{same-self, same-is}
 use Rattle.tables.proofs.ApartLaws.{Apart}
 use Rattle.tables.proofs.CheckLaws.{tables-sound}
-use Rattle.tables.proofs.FitLaws.{FitFile, FitParent, FitClaim, hasClaim, FitThing, FitObject, parent-length, object-length, file-self, file-room, file-layout, thing-self, thing-index, thing-claim, thing-fresh}
+use Rattle.tables.proofs.FitLaws.{FitParent, FitClaim, hasClaim, FitObject, parent-length, object-length, file-self, file-room, file-layout, thing-self, thing-index, thing-claim, thing-fresh}
 use Rattle.tables.proofs.ParseLaws.{FitTables, join-length, rows-join}
 
 -- ## Rows

@@ -1,6 +1,6 @@
 -- A row written into a table is that row of the records, and rendered tables are read back. Assumes nothing.
 use mathlib.Core.Path.{_≡_, refl, sym, ap, _∙_}
-use mathlib.Core.List.{List, [], _∷_, _++_, map}
+use mathlib.Core.List.{List, [], _∷_, map}
 use Prim.Native.Nat.{ℕ, zero, suc, _+_, _-_, _*_, _/_, _≤_, _<_}
 use native.Mathlib.Nat.{mul-zero, mul-suc, add-zero, mul-le-mul-left, mul-div-right, mul-div-le}
 use native.Mathlib.Omega.{arith}
@@ -9,7 +9,7 @@ use lib.Seq.{sets, length-sets, take-at, drop-at}
 use Rattle.wire.specs.Rows.{rows}
 use Rattle.wire.proofs.Splice.{sets-whole}
 use Rattle.wire.proofs.RowLaws.{rows-at, rows-inside}
-use Rattle.tables.specs.Records.{Parent, ParentRow, noParent, parent, ObjectRow, noObject, object, Tables}
+use Rattle.tables.specs.Records.{ParentRow, noParent, parent, ObjectRow, noObject, object, Tables}
 use Rattle.tables.specs.Bytes.{parentSize, objectSize, parseParent, renderParent, parseObject, renderObject, parentRows, objectRows, parse, join, renderParents, renderObjects}
 use Rattle.tables.proofs.AllLaws.{part-length}
 use Rattle.tables.proofs.FitLaws.{FitParent, FitObject, parent-read-back, parent-length, object-read-back, object-length}

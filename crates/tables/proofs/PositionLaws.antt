@@ -1,12 +1,11 @@
 -- Positions of parsed tables, read off the bytes: the number of rows, a row's slots, and the answers case by case. Assumes nothing.
-use mathlib.Core.Path.{_≡_, refl, sym, ap, _∙_}
-use mathlib.Core.List.{List, [], _∷_, map}
-use mathlib.Core.Bool.{Bool, true, false, cond, _&&_, _||_}
-use Prim.Native.Nat.{ℕ, zero, suc, _+_, _-_, _*_, _/_, _≤_, _<_}
-use native.Mathlib.Nat.{sub-zero, mul-zero, add-assoc, suc-add}
+use mathlib.Core.Path.{_≡_, refl, ap, _∙_}
+use mathlib.Core.List.{List, [], map}
+use mathlib.Core.Bool.{Bool, true, false, _||_}
+use Prim.Native.Nat.{ℕ, suc, _+_, _-_, _*_, _/_, _≤_, _<_}
 use native.Mathlib.Numerals.{add-one}
 use native.Mathlib.Omega.{arith}
-use borrow.Author.Tests.{le-leb, lt-leb, eq-eqb, ne-eqb, lt-ltb, le-ltb, ltb-true}
+use borrow.Author.Tests.{eq-eqb, ne-eqb, lt-ltb, le-ltb, ltb-true}
 use lib.Dec.{leb, ltb, eqb}
 use lib.ListN.{length, getD, take, drop, length-map, List·getD-map}
 use Rattle.wire.specs.Rows.{rows}
@@ -14,9 +13,9 @@ use Rattle.wire.proofs.RowLaws.{rows-length, rows-at, rows-start, rows-step, ro
 use Rattle.wire.proofs.Both.{and-first}
 use Rattle.layout.specs.Layout.{decodeLayout, stripeCount, slotStart}
 use Rattle.layout.proofs.SlotLaws.{length-slots}
-use Rattle.tables.specs.Records.{ParentRow, noParent, parent, ObjectRow, noObject, Tables}
+use Rattle.tables.specs.Records.{noObject, Tables}
 use Rattle.tables.specs.Bytes.{parentSize, objectSize, isUsed, layoutBytes, decodeParent, parseParent, parseObject, parentRows, objectRows, parse}
-use Rattle.tables.specs.Positions.{slotsOf, rowAt, width, inStageOne, inStageTwo, isEnd, isPosition, place, fromObject, fromParent, start, afterPart, next, rowSteps, countSteps}
+use Rattle.tables.specs.Positions.{slotsOf, rowAt, width, inStageOne, inStageTwo, isEnd, isPosition, place, fromObject, fromParent, afterPart, next, rowSteps, countSteps}
 use Rattle.tables.specs.declared.Position.{Position}
 
 -- ## Rows

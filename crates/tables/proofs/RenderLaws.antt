@@ -1,30 +1,28 @@
 -- Tables that pass are written back as the same bytes. Assumes nothing.
-use mathlib.Core.Path.{_≡_, refl, sym, ap, ap₂, _∙_}
-use mathlib.Core.List.{List, [], _∷_, _++_, map, append-assoc}
-use mathlib.Core.Bool.{Bool, true, false, cond, _&&_}
+use mathlib.Core.Path.{_≡_, refl, sym, ap, _∙_}
+use mathlib.Core.List.{List, [], _∷_, _++_, map}
+use mathlib.Core.Bool.{Bool, true, false, cond}
 use Prim.Native.Nat.{ℕ, zero, suc, _+_, _-_, _*_, _/_, _≤_, _<_}
 use native.Mathlib.Nat.{mul-zero, mul-suc}
 use native.Mathlib.Omega.{arith}
-use borrow.Author.Tests.{eqb-true, eqb-false, eq-eqb, ne-eqb, ltb-true, ltb-false}
-use lib.Dec.{ltb, eqb}
-use lib.ListN.{length, getD, take, drop, length-drop, length-take, take-append-drop, drop-of-length-le}
-use lib.Seq.{drop-drop, take-add, getD-take, getD-drop, length-take-le, drop-cons, drop-length, take-length}
-use Rattle.wire.specs.Numbers.{le, bytes}
+use borrow.Author.Tests.{eqb-true, eqb-false}
+use lib.Dec.{eqb}
+use lib.ListN.{length, getD, take, drop, length-drop, take-append-drop, drop-of-length-le}
+use lib.Seq.{drop-drop, take-add, drop-cons}
+use Rattle.wire.specs.Numbers.{bytes}
 use Rattle.wire.specs.Rows.{rows}
-use Rattle.wire.proofs.Both.{and-first, and-second}
 use Rattle.wire.proofs.NumberLaws.{Bytes, bytes-drop, bytes-take, bytes-le}
-use Rattle.fid.specs.Fid.{decodeFid, encodeFid, sameFid, zeroFid}
+use Rattle.fid.specs.Fid.{decodeFid, sameFid, zeroFid}
 use Rattle.fid.specs.declared.Fid.{Fid}
 use Rattle.fid.proofs.FidLaws.{encode-decode}
 use Rattle.layout.specs.Layout.{decodeLayout, encodeLayout}
 use Rattle.layout.proofs.LayoutLaws.{written-back}
-use Rattle.tables.specs.Records.{Parent, ParentRow, noParent, parent, ObjectRow, noObject, object, Tables}
+use Rattle.tables.specs.Records.{noParent, parent, noObject, object, Tables}
 use Rattle.tables.specs.Bytes.{parentSize, objectSize, isUsed, decodeOwner, encodeOwner, layoutLength, layoutBytes, decodeParent, encodeParent, parseParent, renderParent, claimFrom, claimFid, decodeObject, mark, encodeObject, parseObject, renderObject, parentRows, objectRows, parse, join, renderParents, renderObjects}
 use Rattle.tables.specs.Check.{Sound}
-use Rattle.tables.specs.declared.Claim.{Claim}
 use Rattle.tables.specs.declared.Claim.the-variants.{Unclaimed, Claims}
 use Rattle.tables.proofs.SameLaws.{same-is}
-use Rattle.tables.proofs.SoundLaws.{SoundFacts, sound-facts, ParentFacts, ObjectFacts, parent-size, parent-mark, parent-facts, object-size, object-mark, object-facts}
+use Rattle.tables.proofs.SoundLaws.{sound-facts, ParentFacts, ObjectFacts, parent-size, parent-mark, parent-facts, object-size, object-mark, object-facts}
 
 -- ## Bytes
 

@@ -1,12 +1,11 @@
 -- Tables that pass the check are tables whose rows can be written. Assumes nothing.
-use mathlib.Core.Path.{_≡_, refl, sym, ap, subst, _∙_}
-use mathlib.Core.List.{List, [], _∷_, _++_}
-use mathlib.Core.Bool.{Bool, true, false, cond, not, _&&_, _||_}
-use Prim.Native.Nat.{ℕ, zero, suc, _+_, _-_, _*_, _/_, _≤_, _<_, _^_}
+use mathlib.Core.Path.{_≡_, refl, ap, _∙_}
+use mathlib.Core.List.{List, [], _∷_}
+use mathlib.Core.Bool.{Bool, true, false, cond, _||_}
+use Prim.Native.Nat.{ℕ, zero, suc, _+_, _-_, _*_, _/_, _<_, _^_}
 use native.Mathlib.Nat.{pow-suc, one-le-pow}
 use native.Mathlib.Omega.{arith}
-use borrow.Author.Tests.{eqb-true, leb-true}
-use lib.Dec.{leb, eqb}
+use borrow.Author.Tests.{eqb-true}
 use lib.ListN.{length, getD, take, drop, length-drop}
 use lib.Seq.{length-take-le}
 use Rattle.wire.specs.Numbers.{le}
@@ -16,17 +15,15 @@ use Rattle.fid.specs.Fid.{decodeFid, goodFid, goodNumber, sameFid, zeroFid}
 use Rattle.fid.specs.declared.Fid.{Fid}
 use Rattle.fid.proofs.FidLaws.{Fits}
 use Rattle.layout.specs.Slot.{decodeSlot, decodeSlots, slotFrom, zeroSlot}
-use Rattle.layout.specs.Layout.{decodeHeader, decodeLayout, encodeLayout, headerSize, slotStart, exactLength, layoutRules, acceptedLayout}
-use Rattle.layout.specs.declared.Slot.{Slot}
+use Rattle.layout.specs.Layout.{decodeHeader, decodeLayout, encodeLayout, slotStart, exactLength, layoutRules, acceptedLayout}
 use Rattle.layout.specs.declared.Slot.the-variants.{Hole, Names}
 use Rattle.layout.proofs.SlotLaws.{FitSlot, FitSlots}
 use Rattle.layout.proofs.HeaderLaws.{FitHeader}
 use Rattle.layout.proofs.LayoutLaws.{Writable, written-back, accepted-facts}
-use Rattle.tables.specs.Records.{Parent, ParentRow, noParent, parent, ObjectRow, noObject, object, Tables}
+use Rattle.tables.specs.Records.{noParent, parent, noObject, object, Tables}
 use Rattle.tables.specs.Bytes.{parentSize, objectSize, isUsed, decodeOwner, layoutLength, layoutBytes, decodeParent, parseParent, claimFrom, decodeObject, parseObject, parse}
 use Rattle.tables.specs.Positions.{rowAt}
 use Rattle.tables.specs.Check.{selfFid, claimed, goodClaim, Sound}
-use Rattle.tables.specs.declared.Claim.{Claim}
 use Rattle.tables.specs.declared.Claim.the-variants.{Unclaimed, Claims}
 use Rattle.tables.proofs.PositionLaws.{parsed-parents, parsed-objects, parsed-row, parsed-object}
 use Rattle.tables.proofs.SoundLaws.{ParentFacts, ObjectFacts, parent-size, parent-facts, object-size, object-facts}

@@ -1,28 +1,24 @@
 -- What is known of tables that pass the check, table by table and row by row: the facts that later functions draw on. Assumes nothing.
-use mathlib.Core.Path.{_≡_, refl, sym, ap, _∙_}
-use mathlib.Core.List.{List, [], _∷_}
-use mathlib.Core.Bool.{Bool, true, false, cond, not, _&&_}
-use Prim.Native.Nat.{ℕ, zero, suc, _+_, _-_, _*_, _/_, _≤_, _<_}
-use native.Mathlib.Nat.{not-suc-le-zero}
+use mathlib.Core.Path.{_≡_, refl, sym}
+use mathlib.Core.List.{List, []}
+use mathlib.Core.Bool.{Bool, true, false, not, _&&_}
+use Prim.Native.Nat.{ℕ, _-_, _*_, _/_, _≤_, _<_}
 use native.Mathlib.Omega.{arith}
-use borrow.Author.Tests.{eqb-true, leb-true, eq-eqb, not-true, not-false}
+use borrow.Author.Tests.{eqb-true, leb-true, eq-eqb}
 use lib.Dec.{leb, eqb}
-use lib.ListN.{length, getD, take, drop, length-drop}
-use lib.Seq.{length-take-le}
+use lib.ListN.{length, getD, take, drop}
 use Rattle.wire.specs.Numbers.{le}
 use Rattle.wire.specs.Rows.{rows}
 use Rattle.wire.proofs.Both.{and-first, and-second}
-use Rattle.wire.proofs.RowLaws.{rows-length, rows-at}
 use Rattle.fid.specs.Fid.{goodFid, sameFid, zeroFid}
-use Rattle.fid.specs.declared.Fid.{Fid}
 use Rattle.layout.specs.Slot.{maxIndex}
-use Rattle.layout.specs.Layout.{acceptedLayout, stripeCount, slotStart}
+use Rattle.layout.specs.Layout.{acceptedLayout}
 use Rattle.layout.proofs.LayoutLaws.{LayoutFacts, accepted-facts}
 use Rattle.tables.specs.Bytes.{parentSize, objectSize, entrySize, layoutRoom, isUsed, layoutLength, layoutBytes, parentRows, objectRows, reserveEntries}
-use Rattle.tables.specs.Check.{all, whenUsed, maxParents, maxObjects, maxReserve, wholeRows, isMark, usedMark, freshMark, parentsWhole, objectsWhole, reserveWhole, tablesWhole, goodLayout, goodLayouts, selfFid, goodSelf, goodIndex, claimed, goodClaim, freshClaims, goodObject, goodEntry, goodFids, hasSelf, noneTwice, allDifferent, Sound, SoundReserve}
-use Rattle.tables.proofs.AllLaws.{row-fits, part-length, all-at}
+use Rattle.tables.specs.Check.{all, whenUsed, maxParents, maxObjects, wholeRows, isMark, usedMark, freshMark, parentsWhole, objectsWhole, reserveWhole, tablesWhole, goodLayout, goodLayouts, selfFid, goodSelf, goodIndex, claimed, goodClaim, freshClaims, goodObject, goodEntry, goodFids, noneTwice, allDifferent, Sound, SoundReserve}
+use Rattle.tables.proofs.AllLaws.{part-length, all-at}
 use Rattle.tables.proofs.RowReads.{layout-bytes}
-use Rattle.tables.proofs.CheckLaws.{TablesPass, sound-pass}
+use Rattle.tables.proofs.CheckLaws.{sound-pass}
 
 -- ## The tables
 

@@ -1,8 +1,8 @@
 -- The tests of a row, case by case, in the order in which the code asks them. Assumes nothing.
-use mathlib.Core.Path.{_≡_, refl, sym, ap, _∙_}
+use mathlib.Core.Path.{_≡_, refl}
 use mathlib.Core.List.{List}
 use mathlib.Core.Bool.{Bool, true, false, not, _&&_}
-use Prim.Native.Nat.{ℕ, _+_, _*_, _/_, _≤_, _<_}
+use Prim.Native.Nat.{ℕ, _*_, _/_, _≤_, _<_}
 use borrow.Author.Tests.{le-leb, lt-leb, eq-eqb, ne-eqb}
 use lib.Dec.{leb, eqb}
 use lib.ListN.{length, getD, drop}
@@ -13,7 +13,7 @@ use Rattle.fid.specs.declared.Fid.{Fid}
 use Rattle.layout.specs.Slot.{maxIndex}
 use Rattle.layout.specs.Layout.{acceptedLayout}
 use Rattle.tables.specs.Bytes.{parentSize, objectSize, layoutRoom, layoutLength, layoutBytes, isUsed, parentRows, objectRows}
-use Rattle.tables.specs.Check.{all, whenUsed, goodLayout, maxParents, maxObjects, wholeRows, parentsWhole, objectsWhole, allDifferent, noneTwice, isMark, usedMark, freshMark, selfFid, goodSelf, goodIndex, claimed, goodClaim, freshClaims, goodObject, goodEntry}
+use Rattle.tables.specs.Check.{all, whenUsed, goodLayout, maxParents, maxObjects, wholeRows, parentsWhole, objectsWhole, allDifferent, noneTwice, isMark, usedMark, freshMark, selfFid, goodSelf, goodIndex, claimed, goodClaim, freshClaims, goodObject}
 
 module _ (test : List ℕ → Bool) (row : List ℕ) where
   pub when-unused : isUsed row ≡ false → true ≡ whenUsed test row

@@ -1,10 +1,9 @@
 -- 15: the search for a self FID, and for one that stands twice, from a row on. Assumes nothing.
-use mathlib.Core.Path.{_≡_, refl, sym, ap, _∙_}
-use mathlib.Core.List.{List, [], _∷_}
+use mathlib.Core.Path.{_≡_, refl, ap}
+use mathlib.Core.List.{List}
 use mathlib.Core.Bool.{Bool, true, false, _&&_}
-use Prim.Native.Nat.{ℕ, suc, _+_, _-_, _*_, _/_, _≤_, _<_}
-use native.Mathlib.Omega.{arith}
-use lib.ListN.{length, take, drop}
+use Prim.Native.Nat.{ℕ, _+_, _-_, _*_, _≤_, _<_}
+use lib.ListN.{take, drop}
 use Rattle.wire.specs.Rows.{rows}
 use Rattle.wire.proofs.RowLaws.{rows-start, rows-step, rows-end}
 use Rattle.fid.specs.Fid.{sameFid}

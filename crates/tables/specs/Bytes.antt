@@ -1,7 +1,7 @@
 -- The tables as bytes and back: `parse` and `render`. Document 01: "Rows are bytes, their fields packed in the order named here".
-use Prim.Native.Nat.{ℕ, _+_, _-_, _*_, _/_}
+use Prim.Native.Nat.{ℕ, _+_, _-_, _/_}
 use mathlib.Core.List.{List, [], _∷_, _++_, map}
-use mathlib.Core.Bool.{Bool, true, false, cond, _&&_}
+use mathlib.Core.Bool.{Bool, cond}
 use lib.ListN.{length, getD, take, drop}
 use lib.Dec.{eqb}
 use Rattle.wire.specs.Numbers.{le, bytes}
@@ -9,7 +9,7 @@ use Rattle.wire.specs.Rows.{rows}
 use Rattle.fid.specs.Fid.{decodeFid, encodeFid, zeroFid, sameFid}
 use Rattle.fid.specs.declared.Fid.{Fid}
 use Rattle.fid.specs.declared.OstFid.{OstFid}
-use Rattle.layout.specs.Layout.{Layout, decodeLayout, encodeLayout}
+use Rattle.layout.specs.Layout.{decodeLayout, encodeLayout}
 use Rattle.tables.specs.Records.{Parent, ParentRow, noParent, parent, ObjectRow, noObject, object, Tables}
 use Rattle.tables.specs.declared.Owner.{Owner}
 use Rattle.tables.specs.declared.Claim.{Claim}

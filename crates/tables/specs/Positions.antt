@@ -1,11 +1,11 @@
 -- Which positions exist, the start, the next one, and the count of steps. Document 01, "Steps and positions".
-use Prim.Native.Nat.{ℕ, zero, suc, _+_}
+use Prim.Native.Nat.{ℕ, suc, _+_}
 use mathlib.Core.List.{List, [], _∷_}
-use mathlib.Core.Bool.{Bool, true, false, cond, _&&_, _||_}
+use mathlib.Core.Bool.{Bool, cond, _&&_, _||_}
 use lib.ListN.{length, getD}
 use lib.Dec.{leb, ltb, eqb}
 use Rattle.layout.specs.declared.Slot.{Slot}
-use Rattle.tables.specs.Records.{Parent, ParentRow, noParent, parent, ObjectRow, Tables}
+use Rattle.tables.specs.Records.{ParentRow, noParent, parent, Tables}
 use Rattle.tables.specs.declared.Position.{Position}
 
 -- the slots of a row: none where it is unused

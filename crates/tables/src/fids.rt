@@ -3,15 +3,13 @@ use super::rows;
 use super::rows::ENTRY_SIZE;
 use super::rows::OBJECT_SIZE;
 use super::rows::PARENT_SIZE;
+use layout::MAX_INDEX;
 ghost use mathlib.Core.Path.{_≡_};
 ghost use mathlib.Core.Bool.{_&&_};
 ghost use lib.ListN.{length};
 ghost use Prim.Native.Nat.{_≤_};
 ghost use Rattle.tables.specs.Bytes.{objectSize, parentRows, objectRows, reserveEntries};
 ghost use Rattle.tables.specs.Check.{all, whenUsed, goodSelf, goodClaim, freshClaims, goodObject, goodEntry};
-
-// The greatest OST index.
-pub const MAX_INDEX: u32 = 65535;
 
 // Whether the self FID of a parent row is good, where it is examined.
 pub fn good_parent(row: &[u8]) -> bool

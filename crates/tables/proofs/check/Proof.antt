@@ -1,4 +1,4 @@
-use mathlib.Core.Path.{_≡_, refl, sym, ap, _∙_}
+use mathlib.Core.Path.{sym, _∙_}
 use native.Mathlib.Omega.{arith}
 use borrow.Author.Tests.{not-true, not-false}
 use denote.Ref.{now}
@@ -16,22 +16,18 @@ use Rattle.tables.proofs.twice.all_different.Reads as all-different-rea
 use Rattle.tables.proofs.whole.both_whole.Reads as both-whole-reads
 use Rattle.tables.proofs.whole.reserve_whole.Reads as reserve-whole-reads
 
--- src/lib.rt:81:9
 both-whole-requires : tie.Need-both-whole-requires
 both-whole-requires c κs = search needs
 
--- src/lib.rt:82:9
 returns : tie.Need-returns
 returns c =
     let a = c .before .before .before .before .before .args in
     check-11 (now (a .parents)) (now (a .objects)) (now (a .reserve)) (a .policy) (a .at)
     (sym (c .before .both-whole .ensures) ∙ not-true _ (c .if1 .taken))
 
--- src/lib.rt:84:9
 reserve-whole-requires : tie.Need-reserve-whole-requires
 reserve-whole-requires c κs = search needs
 
--- src/lib.rt:85:9
 returns-2 : tie.Need-returns-2
 returns-2 c =
     let a = c .before .before .before .before .before .before .before .args in
@@ -39,7 +35,6 @@ returns-2 c =
     (sym (c .before .before .before .both-whole .ensures) ∙ not-false _ (c .before .before .if1 .left))
     (sym (c .before .reserve-whole .ensures) ∙ not-true _ (c .if2 .taken))
 
--- src/lib.rt:88:9
 returns-3 : tie.Need-returns-3
 returns-3 c =
     let a = c .before .before .before .before .before .before .before .before .args in
@@ -48,11 +43,9 @@ returns-3 c =
     (sym (c .before .before .reserve-whole .ensures) ∙ not-false _ (c .before .if2 .left))
     (omega arith)
 
--- src/lib.rt:90:9
 good-layouts-requires : tie.Need-good-layouts-requires
 good-layouts-requires c κs = search needs
 
--- src/lib.rt:91:9
 returns-4 : tie.Need-returns-4
 returns-4 c =
     let a = c .before .before .before .before .before .before .before .before .before .before .args in
@@ -62,11 +55,9 @@ returns-4 c =
     (omega arith)
     (sym (c .before .good-layouts .ensures) ∙ not-true _ (c .if4 .taken))
 
--- src/lib.rt:93:9
 good-rows-requires : tie.Need-good-rows-requires
 good-rows-requires c κs = search needs
 
--- src/lib.rt:94:9
 returns-5 : tie.Need-returns-5
 returns-5 c =
     let a = c .before .before .before .before .before .before .before .before .before .before .before .before .args in
@@ -77,11 +68,9 @@ returns-5 c =
     (sym (c .before .before .before .good-layouts .ensures) ∙ not-false _ (c .before .before .if4 .left))
     (sym (c .before .good-rows .ensures) ∙ not-true _ (c .if5 .taken))
 
--- src/lib.rt:96:9
 good-reserve-requires : tie.Need-good-reserve-requires
 good-reserve-requires c κs = search needs
 
--- src/lib.rt:97:9
 returns-6 : tie.Need-returns-6
 returns-6 c =
     let a = c .before .before .before .before .before .before .before .before .before .before .before .before .before .before .args in
@@ -93,11 +82,9 @@ returns-6 c =
     (sym (c .before .before .before .good-rows .ensures) ∙ not-false _ (c .before .before .if5 .left))
     (sym (c .before .good-reserve .ensures) ∙ not-true _ (c .if6 .taken))
 
--- src/lib.rt:99:9
 all-different-requires : tie.Need-all-different-requires
 all-different-requires c κs = search needs
 
--- src/lib.rt:100:9
 returns-7 : tie.Need-returns-7
 returns-7 c =
     let a = c .before .before .before .before .before .before .before .before .before .before .before .before .before .before .before .before .args in
@@ -110,7 +97,6 @@ returns-7 c =
     (sym (c .before .before .before .good-reserve .ensures) ∙ not-false _ (c .before .before .if6 .left))
     (sym (c .before .all-different .ensures) ∙ not-true _ (c .if7 .taken))
 
--- src/lib.rt:102:9
 is-position-requires : tie.Need-is-position-requires
 is-position-requires c κs =
     let a = c .before .before .before .before .before .before .before .before .before .before .before .before .before .before .before .before .args in
@@ -120,7 +106,6 @@ is-position-requires c κs =
     (sym (c .before .before .before .before .before .good-rows .ensures) ∙ not-false _ (c .before .before .before .before .if5 .left))
     (sym (c .before .all-different .ensures) ∙ not-false _ (c .if7 .left))
 
--- src/lib.rt:103:9
 returns-8 : tie.Need-returns-8
 returns-8 c =
     let a = c .before .before .before .before .before .before .before .before .before .before .before .before .before .before .before .before .before .before .args in
@@ -134,7 +119,6 @@ returns-8 c =
     (sym (c .before .before .before .all-different .ensures) ∙ not-false _ (c .before .before .if7 .left))
     (sym (c .before .is-position .ensures) ∙ not-true _ (c .if8 .taken))
 
--- src/lib.rt:78:1
 returns-9 : tie.Need-returns-9
 returns-9 c =
     let a = c .before .before .before .before .before .before .before .before .before .before .before .before .before .before .before .before .before .before .args in

@@ -1,4 +1,4 @@
-use mathlib.Core.Path.{_≡_, refl, sym, ap, _∙_}
+use mathlib.Core.Path.{sym, _∙_}
 use borrow.Author.Tests.{not-true, not-false}
 use denote.Ref.{now}
 use Rattle.tables.proofs.CheckLaws.{tables-11, tables-13, tables-14, tables-15, tables-0}
@@ -12,22 +12,18 @@ use Rattle.tables.proofs.layouts.good_layouts.Reads as good-layouts-rea
 use Rattle.tables.proofs.twice.all_different.Reads as all-different-reads
 use Rattle.tables.proofs.whole.both_whole.Reads as both-whole-reads
 
--- src/lib.rt:62:9
 both-whole-requires : tie.Need-both-whole-requires
 both-whole-requires c κs = search needs
 
--- src/lib.rt:63:9
 returns : tie.Need-returns
 returns c =
     let a = c .before .before .before .before .args in
     tables-11 (now (a .parents)) (now (a .objects))
     (sym (c .before .both-whole .ensures) ∙ not-true _ (c .if1 .taken))
 
--- src/lib.rt:65:9
 good-layouts-requires : tie.Need-good-layouts-requires
 good-layouts-requires c κs = search needs
 
--- src/lib.rt:66:9
 returns-2 : tie.Need-returns-2
 returns-2 c =
     let a = c .before .before .before .before .before .before .args in
@@ -35,11 +31,9 @@ returns-2 c =
     (sym (c .before .before .before .both-whole .ensures) ∙ not-false _ (c .before .before .if1 .left))
     (sym (c .before .good-layouts .ensures) ∙ not-true _ (c .if2 .taken))
 
--- src/lib.rt:68:9
 good-rows-requires : tie.Need-good-rows-requires
 good-rows-requires c κs = search needs
 
--- src/lib.rt:69:9
 returns-3 : tie.Need-returns-3
 returns-3 c =
     let a = c .before .before .before .before .before .before .before .before .args in
@@ -48,11 +42,9 @@ returns-3 c =
     (sym (c .before .before .before .good-layouts .ensures) ∙ not-false _ (c .before .before .if2 .left))
     (sym (c .before .good-rows .ensures) ∙ not-true _ (c .if3 .taken))
 
--- src/lib.rt:71:9
 all-different-requires : tie.Need-all-different-requires
 all-different-requires c κs = search needs
 
--- src/lib.rt:72:9
 returns-4 : tie.Need-returns-4
 returns-4 c =
     let a = c .before .before .before .before .before .before .before .before .before .before .args in
@@ -62,7 +54,6 @@ returns-4 c =
     (sym (c .before .before .before .good-rows .ensures) ∙ not-false _ (c .before .before .if3 .left))
     (sym (c .before .all-different .ensures) ∙ not-true _ (c .if4 .taken))
 
--- src/lib.rt:59:1
 returns-5 : tie.Need-returns-5
 returns-5 c =
     let a = c .before .before .before .before .before .before .before .before .before .before .args in

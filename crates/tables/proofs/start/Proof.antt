@@ -1,4 +1,3 @@
-use mathlib.Core.Path.{_≡_, refl, sym, ap, _∙_}
 use native.Mathlib.Omega.{arith}
 use denote.Ref.{now}
 use Rattle.tables.proofs.CheckLaws.{no-start, start-is}
@@ -10,19 +9,15 @@ use Rattle.tables.proofs.start.Lts as lts
 use Rattle.tables.proofs.check_tables.Reads as check-tables-reads
 use Rattle.tables.proofs.positions.first.Reads as first-reads
 
--- src/lib.rt:112:9
 check-tables-requires : tie.Need-check-tables-requires
 check-tables-requires c κs = search needs
 
--- src/lib.rt:114:9
 returns : tie.Need-returns
 returns c = let a = c .before .before .before .before .args in no-start (now (a .parents)) (now (a .objects)) _ (c .before .check-tables .ensures) (c .if1 .taken)
 
--- src/lib.rt:116:26
 first-requires : tie.Need-first-requires
 first-requires c κs = search needs
 
--- src/lib.rt:109:1
 returns-2 : tie.Need-returns-2
 returns-2 c = let a = c .before .before .before .before .before .args in start-is (now (a .parents)) (now (a .objects)) _ (c .before .before .check-tables .ensures) (omega arith) _ (c .first .ensures)
 

@@ -1,4 +1,3 @@
-use mathlib.Core.Path.{_≡_, refl, sym, ap, _∙_}
 use native.Mathlib.Omega.{arith}
 use denote.Ref.{now}
 use Rattle.tables.proofs.CheckLaws.{no-steps, steps-are, number-sound}
@@ -10,19 +9,15 @@ use Rattle.tables.proofs.steps.Lts as lts
 use Rattle.tables.proofs.check_tables.Reads as check-tables-reads
 use Rattle.tables.proofs.positions.count_steps.Reads as count-steps-reads
 
--- src/lib.rt:123:9
 check-tables-requires : tie.Need-check-tables-requires
 check-tables-requires c κs = search needs
 
--- src/lib.rt:125:9
 returns : tie.Need-returns
 returns c = let a = c .before .before .before .before .args in no-steps (now (a .parents)) (now (a .objects)) _ (c .before .check-tables .ensures) (c .if1 .taken)
 
--- src/lib.rt:127:27
 count-steps-requires : tie.Need-count-steps-requires
 count-steps-requires c κs = let a = c .before .before .before .before .args in number-sound (now (a .parents)) (now (a .objects)) _ (c .before .check-tables .ensures) (omega arith)
 
--- src/lib.rt:120:1
 returns-2 : tie.Need-returns-2
 returns-2 c = let a = c .before .before .before .before .before .args in steps-are (now (a .parents)) (now (a .objects)) _ (c .before .before .check-tables .ensures) (omega arith) _ (c .count-steps .ensures)
 

@@ -53,7 +53,7 @@ slot-area-requires c κs = (c .row-at .ensures .1, layout-at (now (c .before .be
 area : (c : tie.After-slot-area Inv-loop μ-loop Inv-rows μ-rows) →
     let l = now (c .slot-area .result) in
     slotsOf (rowAt (parse (now (c .before .before .before .before .before .args .parents)) []) (c .before .before .before .rows .k)) ≡ decodeSlots (length l / 24) l
-area c = area-of _ _ _ _ (omega arith) (c .before .row-at .ensures .0) (c .slot-area .ensures)
+area c = area-of _ _ _ (now (c .slot-area .result)) (omega arith) (c .before .row-at .ensures .0) (c .slot-area .ensures)
 
 -- src/naming.rt:80:9
 loop-holds : tie.Need-loop-holds Inv-loop μ-loop Inv-rows μ-rows

@@ -1,4 +1,4 @@
-use mathlib.Core.Path.{_≡_, refl, sym, ap, _∙_}
+use mathlib.Core.Path.{ap, _∙_}
 use native.Mathlib.Omega.{arith}
 use mathlib.Core.Bool.{not}
 use denote.Ref.{now}
@@ -11,23 +11,18 @@ use Rattle.tables.proofs.fids.fresh_claims.Lts as lts
 use Rattle.fid.proofs.read_fid.Reads as read-fid-reads
 use Rattle.tables.proofs.rows.is_zero.Reads as is-zero-reads
 
--- src/fids.rt:55:8
 shared-slice-read-if1 : tie.Need-shared-slice-read-if1
 shared-slice-read-if1 c = search needs
 
--- src/fids.rt:56:9
 returns : tie.Need-returns
 returns c = let a = c .before .before .before .args in fresh-not (now (a .row)) (c .if1 .taken)
 
--- src/fids.rt:58:20
 read-fid-requires : tie.Need-read-fid-requires
 read-fid-requires c κs = search needs
 
--- src/fids.rt:58:6
 is-zero-requires : tie.Need-is-zero-requires
 is-zero-requires c κs = search needs
 
--- src/fids.rt:51:1
 returns-2 : tie.Need-returns-2
 returns-2 c =
     let a = c .before .before .before .before .before .args in

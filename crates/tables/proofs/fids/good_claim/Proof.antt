@@ -1,4 +1,4 @@
-use mathlib.Core.Path.{_≡_, refl, sym, ap, _∙_}
+use mathlib.Core.Path.{sym, _∙_}
 use denote.Ref.{now}
 use Rattle.tables.proofs.TestLaws.{claim-zero, claim-number}
 use borrow.Author.Needs.{needs}
@@ -10,25 +10,20 @@ use Rattle.fid.proofs.is_good_number.Reads as is-good-number-reads
 use Rattle.fid.proofs.read_fid.Reads as read-fid-reads
 use Rattle.tables.proofs.rows.is_zero.Reads as is-zero-reads
 
--- src/fids.rt:43:9
 read-fid-requires : tie.Need-read-fid-requires
 read-fid-requires c κs = search needs
 
--- src/fids.rt:44:8
 is-zero-requires : tie.Need-is-zero-requires
 is-zero-requires c κs = search needs
 
--- src/fids.rt:45:9
 returns : tie.Need-returns
 returns c =
     let a = c .before .before .before .before .args in
     claim-zero (now (a .row)) _ (c .before .before .read-fid .ensures) (sym (c .before .is-zero .ensures) ∙ c .if1 .taken)
 
--- src/fids.rt:47:5
 is-good-number-requires : tie.Need-is-good-number-requires
 is-good-number-requires c κs = search needs
 
--- src/fids.rt:39:1
 returns-2 : tie.Need-returns-2
 returns-2 c =
     let a = c .before .before .before .before .before .args in

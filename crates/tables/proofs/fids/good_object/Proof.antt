@@ -1,4 +1,4 @@
-use mathlib.Core.Path.{_≡_, refl, sym, ap, _∙_}
+use mathlib.Core.Path.{sym, ap, _∙_}
 use native.Mathlib.Omega.{arith}
 use borrow.Author.Tests.{not-true, not-false}
 use denote.Ref.{now}
@@ -17,45 +17,36 @@ use Rattle.tables.proofs.rows.is_used.Reads as is-used-reads
 use Rattle.tables.proofs.rows.self_fid.Reads as self-fid-reads
 use Rattle.wire.proofs.le32.Reads as le32-reads
 
--- src/fids.rt:66:9
 is-used-requires : tie.Need-is-used-requires
 is-used-requires c κs = search needs
 
--- src/fids.rt:67:9
 returns : tie.Need-returns
 returns c = when-unused _ _ (sym (c .before .is-used .ensures) ∙ not-true _ (c .if1 .taken))
 
--- src/fids.rt:69:22
 self-fid-requires : tie.Need-self-fid-requires
 self-fid-requires c κs = search needs
 
--- src/fids.rt:69:9
 is-good-requires : tie.Need-is-good-requires
 is-good-requires c κs = search needs
 
--- src/fids.rt:70:9
 returns-2 : tie.Need-returns-2
 returns-2 c =
     let a = c .before .before .before .before .before .before .args in
     object-self (now (a .row)) (ap goodFid (sym (c .before .before .self-fid .ensures)) ∙ sym (c .before .is-good .ensures) ∙ not-true _ (c .if2 .taken))
     ∙ when-used goodObject (now (a .row)) (sym (c .before .before .before .before .is-used .ensures) ∙ not-false _ (c .before .before .before .if1 .left))
 
--- src/fids.rt:72:20
 le32-requires : tie.Need-le32-requires
 le32-requires c κs = search needs
 
--- src/fids.rt:73:9
 returns-3 : tie.Need-returns-3
 returns-3 c =
     let a = c .before .before .before .before .before .before .before .before .args in
     object-index (now (a .row)) (ap goodFid (sym (c .before .before .before .before .self-fid .ensures)) ∙ sym (c .before .before .before .is-good .ensures) ∙ not-false _ (c .before .before .if2 .left)) (omega arith)
     ∙ when-used goodObject (now (a .row)) (sym (c .before .before .before .before .before .before .is-used .ensures) ∙ not-false _ (c .before .before .before .before .before .if1 .left))
 
--- src/fids.rt:75:9
 good-claim-requires : tie.Need-good-claim-requires
 good-claim-requires c κs = search needs
 
--- src/fids.rt:76:9
 returns-4 : tie.Need-returns-4
 returns-4 c =
     let a = c .before .before .before .before .before .before .before .before .before .before .args in
@@ -63,11 +54,9 @@ returns-4 c =
     (sym (c .before .good-claim .ensures) ∙ not-true _ (c .if4 .taken))
     ∙ when-used goodObject (now (a .row)) (sym (c .before .before .before .before .before .before .before .before .is-used .ensures) ∙ not-false _ (c .before .before .before .before .before .before .before .if1 .left))
 
--- src/fids.rt:78:5
 fresh-claims-requires : tie.Need-fresh-claims-requires
 fresh-claims-requires c κs = search needs
 
--- src/fids.rt:62:1
 returns-5 : tie.Need-returns-5
 returns-5 c =
     let a = c .before .before .before .before .before .before .before .before .before .before .before .args in

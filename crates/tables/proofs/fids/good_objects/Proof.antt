@@ -1,5 +1,5 @@
 use Prim.Native.Nat.{_-_, _≤_}
-use mathlib.Core.Path.{_≡_, refl, sym, ap, _∙_}
+use mathlib.Core.Path.{_≡_, sym, _∙_}
 use native.Mathlib.Omega.{arith}
 use borrow.Author.Tests.{not-true, not-false}
 use Rattle.tables.specs.Bytes.{objectSize, objectRows}
@@ -18,42 +18,34 @@ Inv-loop objects n r₀ r = (r ≤ n) × (all (whenUsed goodObject) (objectRows 
 abbrev μ-loop : tie.MeasureT-loop
 μ-loop objects n r₀ r = n - r
 
--- src/fids.rt:85:5
 loop-holds : tie.Need-loop-holds Inv-loop μ-loop
 unfolding objectRows
 loop-holds c = (omega arith, all-start (whenUsed goodObject) objectSize _ _)
 
--- src/fids.rt:86:25
 row-at-requires : tie.Need-row-at-requires Inv-loop μ-loop
 row-at-requires c κs = omega arith
 
--- src/fids.rt:86:13
 good-object-requires : tie.Need-good-object-requires Inv-loop μ-loop
 good-object-requires c κs = omega arith
 
--- src/fids.rt:87:13
 returns : tie.Need-returns Inv-loop μ-loop
 returns c =
     let d = c .before .before in
     let i = d .before .before .loop .inv in
     all-fail (whenUsed goodObject) objectSize _ _ _ _ _ (i .1) (omega arith) (d .row-at .ensures .0) (sym (c .before .good-object .ensures) ∙ not-true _ (c .if1 .taken))
 
--- src/fids.rt:85:9
 add-r : tie.Need-add-r Inv-loop μ-loop
 add-r c = omega arith
 
--- src/fids.rt:85:5
 loop-less : tie.Need-loop-less Inv-loop μ-loop
 loop-less c = omega arith
 
--- src/fids.rt:85:5
 loop-again : tie.Need-loop-again Inv-loop μ-loop
 loop-again c =
     let d = c .before .before in
     let i = d .before .before .loop .inv in
     (omega arith, all-pass (whenUsed goodObject) objectSize _ _ _ _ _ (i .1) (omega arith) (d .row-at .ensures .0) (sym (c .before .good-object .ensures) ∙ not-false _ (c .if1 .left)))
 
--- src/fids.rt:81:1
 returns-2 : tie.Need-returns-2 Inv-loop μ-loop
 returns-2 c = all-end (whenUsed goodObject) objectSize _ _ _ _ (c .before .loop .inv .1) (omega arith)
 

@@ -1,4 +1,4 @@
-use mathlib.Core.Path.{_≡_, refl, sym, ap, _∙_}
+use mathlib.Core.Path.{sym, ap, _∙_}
 use borrow.Author.Tests.{not-true, not-false}
 use Rattle.tables.proofs.TestLaws.{when-unused, when-used}
 use Rattle.fid.specs.Fid.{goodFid}
@@ -12,23 +12,18 @@ use Rattle.fid.proofs.is_good.Reads as is-good-reads
 use Rattle.tables.proofs.rows.is_used.Reads as is-used-reads
 use Rattle.tables.proofs.rows.self_fid.Reads as self-fid-reads
 
--- src/fids.rt:20:9
 is-used-requires : tie.Need-is-used-requires
 is-used-requires c κs = search needs
 
--- src/fids.rt:21:9
 returns : tie.Need-returns
 returns c = when-unused _ _ (sym (c .before .is-used .ensures) ∙ not-true _ (c .if1 .taken))
 
--- src/fids.rt:23:18
 self-fid-requires : tie.Need-self-fid-requires
 self-fid-requires c κs = search needs
 
--- src/fids.rt:23:5
 is-good-requires : tie.Need-is-good-requires
 is-good-requires c κs = search needs
 
--- src/fids.rt:16:1
 returns-2 : tie.Need-returns-2
 unfolding goodSelf
 returns-2 c = c .is-good .ensures ∙ ap goodFid (c .before .self-fid .ensures) ∙ when-used goodSelf _ (sym (c .before .before .before .is-used .ensures) ∙ not-false _ (c .before .before .if1 .left))

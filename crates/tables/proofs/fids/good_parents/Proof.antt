@@ -1,5 +1,5 @@
 use Prim.Native.Nat.{_-_, _≤_}
-use mathlib.Core.Path.{_≡_, refl, sym, ap, _∙_}
+use mathlib.Core.Path.{_≡_, sym, _∙_}
 use native.Mathlib.Omega.{arith}
 use borrow.Author.Tests.{not-true, not-false}
 use Rattle.tables.specs.Bytes.{parentSize, parentRows}
@@ -18,42 +18,34 @@ Inv-loop parents n r₀ r = (r ≤ n) × (all (whenUsed goodSelf) (parentRows pa
 abbrev μ-loop : tie.MeasureT-loop
 μ-loop parents n r₀ r = n - r
 
--- src/fids.rt:30:5
 loop-holds : tie.Need-loop-holds Inv-loop μ-loop
 unfolding parentRows
 loop-holds c = (omega arith, all-start (whenUsed goodSelf) parentSize _ _)
 
--- src/fids.rt:31:25
 row-at-requires : tie.Need-row-at-requires Inv-loop μ-loop
 row-at-requires c κs = omega arith
 
--- src/fids.rt:31:13
 good-parent-requires : tie.Need-good-parent-requires Inv-loop μ-loop
 good-parent-requires c κs = omega arith
 
--- src/fids.rt:32:13
 returns : tie.Need-returns Inv-loop μ-loop
 returns c =
     let d = c .before .before in
     let i = d .before .before .loop .inv in
     all-fail (whenUsed goodSelf) parentSize _ _ _ _ _ (i .1) (omega arith) (d .row-at .ensures .0) (sym (c .before .good-parent .ensures) ∙ not-true _ (c .if1 .taken))
 
--- src/fids.rt:30:9
 add-r : tie.Need-add-r Inv-loop μ-loop
 add-r c = omega arith
 
--- src/fids.rt:30:5
 loop-less : tie.Need-loop-less Inv-loop μ-loop
 loop-less c = omega arith
 
--- src/fids.rt:30:5
 loop-again : tie.Need-loop-again Inv-loop μ-loop
 loop-again c =
     let d = c .before .before in
     let i = d .before .before .loop .inv in
     (omega arith, all-pass (whenUsed goodSelf) parentSize _ _ _ _ _ (i .1) (omega arith) (d .row-at .ensures .0) (sym (c .before .good-parent .ensures) ∙ not-false _ (c .if1 .left)))
 
--- src/fids.rt:26:1
 returns-2 : tie.Need-returns-2 Inv-loop μ-loop
 returns-2 c = all-end (whenUsed goodSelf) parentSize _ _ _ _ (c .before .loop .inv .1) (omega arith)
 

@@ -1,6 +1,6 @@
 use Rattle.fid.specs.Fid.{goodFid}
 use Prim.Native.Nat.{_-_, _≤_}
-use mathlib.Core.Path.{_≡_, refl, sym, ap, _∙_}
+use mathlib.Core.Path.{_≡_, sym, ap, _∙_}
 use native.Mathlib.Omega.{arith}
 use borrow.Author.Tests.{not-true, not-false}
 use Rattle.tables.specs.Bytes.{entrySize, reserveEntries}
@@ -20,24 +20,19 @@ Inv-loop reserve n r₀ r = (r ≤ n) × (all (goodEntry) (reserveEntries reserv
 abbrev μ-loop : tie.MeasureT-loop
 μ-loop reserve n r₀ r = n - r
 
--- src/fids.rt:98:5
 loop-holds : tie.Need-loop-holds Inv-loop μ-loop
 unfolding reserveEntries
 loop-holds c = (omega arith, all-start (goodEntry) entrySize _ _)
 
--- src/fids.rt:99:13
 row-at-requires : tie.Need-row-at-requires Inv-loop μ-loop
 row-at-requires c κs = omega arith
 
--- src/fids.rt:100:26
 read-fid-requires : tie.Need-read-fid-requires Inv-loop μ-loop
 read-fid-requires c κs = omega arith
 
--- src/fids.rt:100:13
 is-good-requires : tie.Need-is-good-requires Inv-loop μ-loop
 is-good-requires c κs = omega arith
 
--- src/fids.rt:101:13
 returns : tie.Need-returns Inv-loop μ-loop
 unfolding goodEntry
 returns c =
@@ -46,15 +41,12 @@ returns c =
     all-fail goodEntry entrySize _ _ _ _ _ (i .1) (omega arith) (d .row-at .ensures .0)
     (ap goodFid (sym (c .before .before .read-fid .ensures)) ∙ sym (c .before .is-good .ensures) ∙ not-true _ (c .if1 .taken))
 
--- src/fids.rt:98:9
 add-r : tie.Need-add-r Inv-loop μ-loop
 add-r c = omega arith
 
--- src/fids.rt:98:5
 loop-less : tie.Need-loop-less Inv-loop μ-loop
 loop-less c = omega arith
 
--- src/fids.rt:98:5
 loop-again : tie.Need-loop-again Inv-loop μ-loop
 unfolding goodEntry
 loop-again c =
@@ -65,7 +57,6 @@ loop-again c =
           (ap goodFid (sym (c .before .before .read-fid .ensures)) ∙ sym (c .before .is-good .ensures) ∙ not-false _ (c .if1 .left)),
     )
 
--- src/fids.rt:94:1
 returns-2 : tie.Need-returns-2 Inv-loop μ-loop
 returns-2 c = all-end (goodEntry) entrySize _ _ _ _ (c .before .loop .inv .1) (omega arith)
 

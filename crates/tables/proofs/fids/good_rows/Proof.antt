@@ -1,4 +1,4 @@
-use mathlib.Core.Path.{_≡_, refl, sym, ap, _∙_}
+use mathlib.Core.Path.{sym, _∙_}
 use borrow.Author.Tests.{not-true, not-false}
 use denote.Ref.{now}
 use Rattle.tables.proofs.TestLaws.{first-off, first-on}
@@ -12,21 +12,17 @@ use Rattle.tables.proofs.fids.good_rows.Lts as lts
 use Rattle.tables.proofs.fids.good_objects.Reads as good-objects-reads
 use Rattle.tables.proofs.fids.good_parents.Reads as good-parents-reads
 
--- src/fids.rt:112:9
 good-parents-requires : tie.Need-good-parents-requires
 good-parents-requires c κs = search needs
 
--- src/fids.rt:113:9
 returns : tie.Need-returns
 returns c =
     let a = c .before .before .before .before .args in
     first-off (all (whenUsed goodSelf) (parentRows (now (a .parents)))) (all (whenUsed goodObject) (objectRows (now (a .objects)))) (sym (c .before .good-parents .ensures) ∙ not-true _ (c .if1 .taken))
 
--- src/fids.rt:115:5
 good-objects-requires : tie.Need-good-objects-requires
 good-objects-requires c κs = search needs
 
--- src/fids.rt:109:1
 returns-2 : tie.Need-returns-2
 returns-2 c =
     let a = c .before .before .before .before .before .args in

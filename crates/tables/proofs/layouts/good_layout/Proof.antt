@@ -1,4 +1,4 @@
-use mathlib.Core.Path.{_≡_, refl, sym, ap, _∙_}
+use mathlib.Core.Path.{sym, ap, _∙_}
 use native.Mathlib.Omega.{arith}
 use borrow.Author.Tests.{not-true, not-false}
 use denote.Ref.{now}
@@ -15,35 +15,27 @@ use Rattle.tables.proofs.rows.is_used.Reads as is-used-reads
 use Rattle.tables.proofs.rows.layout_len.Reads as layout-len-reads
 use Rattle.tables.proofs.rows.layout_of.Reads as layout-of-reads
 
--- src/layouts.rt:15:9
 is-used-requires : tie.Need-is-used-requires
 is-used-requires c κs = search needs
 
--- src/layouts.rt:16:9
 returns : tie.Need-returns
 returns c = when-unused _ _ (sym (c .before .is-used .ensures) ∙ not-true _ (c .if1 .taken))
 
--- src/layouts.rt:18:22
 layout-len-requires : tie.Need-layout-len-requires
 layout-len-requires c κs = search needs
 
--- src/layouts.rt:18:22
 cast-if2 : tie.Need-cast-if2
 cast-if2 c = search needs
 
--- src/layouts.rt:19:9
 returns-2 : tie.Need-returns-2
 returns-2 c = let a = c .before .before .before .before .before .args in layout-long (now (a .row)) (omega arith) ∙ when-used goodLayout (now (a .row)) (sym (c .before .before .before .is-used .ensures) ∙ not-false _ (c .before .before .if1 .left))
 
--- src/layouts.rt:21:22
 layout-of-requires : tie.Need-layout-of-requires
 layout-of-requires c κs = search needs
 
--- src/layouts.rt:21:5
 accepted-requires : tie.Need-accepted-requires
 accepted-requires c κs = search needs
 
--- src/layouts.rt:11:1
 returns-3 : tie.Need-returns-3
 returns-3 c =
     let a = c .before .before .before .before .before .before .before .args in

@@ -1,9 +1,9 @@
 use Prim.Native.Nat.{_-_, _≤_}
-use mathlib.Core.Path.{_≡_, refl, sym, ap, _∙_}
+use mathlib.Core.Path.{_≡_, sym, _∙_}
 use native.Mathlib.Omega.{arith}
 use borrow.Author.Tests.{not-true, not-false}
 use Rattle.tables.specs.Bytes.{parentSize, parentRows}
-use Rattle.tables.specs.Check.{all, whenUsed, goodLayout, goodLayouts}
+use Rattle.tables.specs.Check.{whenUsed, goodLayout, goodLayouts}
 use Rattle.tables.proofs.AllLaws.{allFrom, all-start, all-end, all-pass, all-fail}
 use Rattle.tables.proofs.layouts.good_layouts.Statement.{statement}
 use Rattle.tables.proofs.layouts.good_layouts.Tie as tie
@@ -18,42 +18,34 @@ Inv-loop parents n r₀ r = (r ≤ n) × (goodLayouts parents ≡ allFrom (whenU
 abbrev μ-loop : tie.MeasureT-loop
 μ-loop parents n r₀ r = n - r
 
--- src/layouts.rt:28:5
 loop-holds : tie.Need-loop-holds Inv-loop μ-loop
 unfolding goodLayouts parentRows
 loop-holds c = (omega arith, all-start (whenUsed goodLayout) parentSize _ _)
 
--- src/layouts.rt:29:25
 row-at-requires : tie.Need-row-at-requires Inv-loop μ-loop
 row-at-requires c κs = omega arith
 
--- src/layouts.rt:29:13
 good-layout-requires : tie.Need-good-layout-requires Inv-loop μ-loop
 good-layout-requires c κs = omega arith
 
--- src/layouts.rt:30:13
 returns : tie.Need-returns Inv-loop μ-loop
 returns c =
     let d = c .before .before in
     let i = d .before .before .loop .inv in
     all-fail (whenUsed goodLayout) parentSize _ _ _ _ _ (i .1) (omega arith) (d .row-at .ensures .0) (sym (c .before .good-layout .ensures) ∙ not-true _ (c .if1 .taken))
 
--- src/layouts.rt:28:9
 add-r : tie.Need-add-r Inv-loop μ-loop
 add-r c = omega arith
 
--- src/layouts.rt:28:5
 loop-less : tie.Need-loop-less Inv-loop μ-loop
 loop-less c = omega arith
 
--- src/layouts.rt:28:5
 loop-again : tie.Need-loop-again Inv-loop μ-loop
 loop-again c =
     let d = c .before .before in
     let i = d .before .before .loop .inv in
     (omega arith, all-pass (whenUsed goodLayout) parentSize _ _ _ _ _ (i .1) (omega arith) (d .row-at .ensures .0) (sym (c .before .good-layout .ensures) ∙ not-false _ (c .if1 .left)))
 
--- src/layouts.rt:24:1
 returns-2 : tie.Need-returns-2 Inv-loop μ-loop
 returns-2 c = all-end (whenUsed goodLayout) parentSize _ _ _ _ (c .before .loop .inv .1) (omega arith)
 

@@ -1,7 +1,6 @@
-use mathlib.Core.Path.{_≡_, refl, sym, ap, _∙_}
+use mathlib.Core.Path.{_∙_}
 use native.Mathlib.Omega.{arith}
 use denote.Ref.{now}
-use mathlib.Core.List.{List, [], map}
 use Rattle.tables.specs.Bytes.{parse}
 use Rattle.tables.specs.Positions.{place}
 use Rattle.tables.proofs.PositionLaws.{width-alone, part-past, part-next}
@@ -13,23 +12,18 @@ use Rattle.tables.proofs.positions.after_part.Lts as lts
 use Rattle.tables.proofs.positions.from_parent.Reads as from-parent-reads
 use Rattle.tables.proofs.positions.width.Reads as width-reads
 
--- src/positions.rt:147:8
 width-requires : tie.Need-width-requires
 width-requires c κs = search needs
 
--- src/positions.rt:147:8
 cast-if1 : tie.Need-cast-if1
 cast-if1 c = search needs
 
--- src/positions.rt:148:46
 add-from-parent : tie.Need-add-from-parent
 add-from-parent c = omega arith
 
--- src/positions.rt:148:9
 from-parent-requires : tie.Need-from-parent-requires
 from-parent-requires c κs = search needs
 
--- src/positions.rt:148:9
 returns : tie.Need-returns
 returns c =
     let a = c .before .before .before .before .before .args in
@@ -37,11 +31,9 @@ returns c =
     ∙ part-past (parse (now (a .parents)) (now (a .objects))) (a .row) (a .part) _
     (c .before .before .width .ensures ∙ width-alone (now (a .parents)) (now (a .objects)) (a .row)) (omega arith)
 
--- src/positions.rt:153:15
 add-t7 : tie.Need-add-t7
 add-t7 c = search needs
 
--- src/positions.rt:142:1
 returns-2 : tie.Need-returns-2
 unfolding place
 returns-2 c =

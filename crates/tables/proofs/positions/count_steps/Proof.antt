@@ -1,4 +1,3 @@
-use mathlib.Core.Path.{_≡_, refl, sym, ap, _∙_}
 use native.Mathlib.Omega.{arith}
 use denote.Ref.{now}
 use Rattle.tables.proofs.PositionLaws.{count-is}
@@ -11,23 +10,18 @@ use Rattle.tables.proofs.positions.count_steps.Lts as lts
 use Rattle.tables.proofs.positions.object_count.Reads as object-count-reads
 use Rattle.tables.proofs.positions.row_steps.Reads as row-steps-reads
 
--- src/positions.rt:190:5
 row-steps-requires : tie.Need-row-steps-requires
 row-steps-requires c κs = let k = sound-facts _ _ (c .before .before .pre) in (k .layouts, k .parents-few)
 
--- src/positions.rt:190:5
 cast-result : tie.Need-cast-result
 cast-result c = omega arith
 
--- src/positions.rt:190:33
 object-count-requires : tie.Need-object-count-requires
 object-count-requires c κs = search needs
 
--- src/positions.rt:190:5
 add-result : tie.Need-add-result
 add-result c = omega arith
 
--- src/positions.rt:186:1
 returns : tie.Need-returns
 returns c = let a = c .before .before .before .before .args in count-is (now (a .parents)) (now (a .objects)) _ _ (c .before .row-steps .ensures) (c .object-count .ensures)
 

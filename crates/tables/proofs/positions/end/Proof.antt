@@ -5,7 +5,6 @@ use Rattle.tables.proofs.positions.end.Tie as tie
 use Rattle.tables.proofs.positions.end.Reads as reads
 use Rattle.tables.proofs.positions.end.Lts as lts
 
--- src/positions.rt:96:1
 returns : tie.Need-returns
 unfolding place
 returns c = refl

@@ -6,11 +6,9 @@ use Rattle.tables.proofs.positions.first.Reads as reads
 use Rattle.tables.proofs.positions.first.Lts as lts
 use Rattle.tables.proofs.positions.from_parent.Reads as from-parent-reads
 
--- src/positions.rt:138:5
 from-parent-requires : tie.Need-from-parent-requires
 from-parent-requires c κs = search needs
 
--- src/positions.rt:135:1
 returns : tie.Need-returns
 unfolding start
 returns c = c .from-parent .ensures

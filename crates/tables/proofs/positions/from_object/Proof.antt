@@ -1,7 +1,7 @@
-use mathlib.Core.Path.{_≡_, refl, sym, ap, _∙_}
+use mathlib.Core.Path.{_∙_}
 use native.Mathlib.Omega.{arith}
 use denote.Ref.{now}
-use mathlib.Core.List.{List, []}
+use mathlib.Core.List.{[]}
 use Rattle.tables.specs.Positions.{place}
 use Rattle.tables.proofs.PositionLaws.{object-past, object-is}
 use borrow.Author.Needs.{needs}
@@ -12,19 +12,15 @@ use Rattle.tables.proofs.positions.from_object.Lts as lts
 use Rattle.tables.proofs.positions.end.Reads as end-reads
 use Rattle.tables.proofs.positions.object_count.Reads as object-count-reads
 
--- src/positions.rt:110:8
 object-count-requires : tie.Need-object-count-requires
 object-count-requires c κs = search needs
 
--- src/positions.rt:111:9
 end-requires : tie.Need-end-requires
 end-requires c κs = search needs
 
--- src/positions.rt:111:9
 returns : tie.Need-returns
 returns c = let a = c .before .before .before .before .args in c .end .ensures ∙ object-past [] (now (a .objects)) (a .o) (omega arith)
 
--- src/positions.rt:107:1
 returns-2 : tie.Need-returns-2
 unfolding place
 returns-2 c = let a = c .before .before .before .args in object-is [] (now (a .objects)) (a .o) (omega arith)

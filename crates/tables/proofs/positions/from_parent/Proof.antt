@@ -1,4 +1,4 @@
-use mathlib.Core.Path.{_≡_, refl, sym, ap, _∙_}
+use mathlib.Core.Path.{_∙_}
 use native.Mathlib.Omega.{arith}
 use denote.Ref.{now}
 use Rattle.tables.specs.Positions.{place}
@@ -11,19 +11,15 @@ use Rattle.tables.proofs.positions.from_parent.Lts as lts
 use Rattle.tables.proofs.positions.from_object.Reads as from-object-reads
 use Rattle.tables.proofs.positions.parent_count.Reads as parent-count-reads
 
--- src/positions.rt:124:8
 parent-count-requires : tie.Need-parent-count-requires
 parent-count-requires c κs = search needs
 
--- src/positions.rt:125:9
 from-object-requires : tie.Need-from-object-requires
 from-object-requires c κs = search needs
 
--- src/positions.rt:125:9
 returns : tie.Need-returns
 returns c = let a = c .before .before .before .before .before .args in c .from-object .ensures ∙ object-alone (now (a .parents)) (now (a .objects)) 0 ∙ parent-past (now (a .parents)) (now (a .objects)) (a .r) (omega arith)
 
--- src/positions.rt:121:1
 returns-2 : tie.Need-returns-2
 unfolding place
 returns-2 c = let a = c .before .before .before .before .args in parent-is (now (a .parents)) (now (a .objects)) (a .r) (omega arith)

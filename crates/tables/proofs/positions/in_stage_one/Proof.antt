@@ -1,7 +1,6 @@
-use mathlib.Core.Path.{_≡_, refl, sym, ap, _∙_}
 use native.Mathlib.Omega.{arith}
 use denote.Ref.{now}
-use mathlib.Core.List.{List, [], map}
+use mathlib.Core.List.{[]}
 use Rattle.tables.proofs.PositionLaws.{one-past, one-part}
 use borrow.Author.Needs.{needs}
 use Rattle.tables.proofs.positions.in_stage_one.Statement.{statement}
@@ -11,23 +10,18 @@ use Rattle.tables.proofs.positions.in_stage_one.Lts as lts
 use Rattle.tables.proofs.positions.parent_count.Reads as parent-count-reads
 use Rattle.tables.proofs.positions.width.Reads as width-reads
 
--- src/positions.rt:54:8
 parent-count-requires : tie.Need-parent-count-requires
 parent-count-requires c κs = search needs
 
--- src/positions.rt:55:9
 returns : tie.Need-returns
 returns c = let a = c .before .before .before .args in one-past (now (a .parents)) [] (a .row) (a .part) (omega arith)
 
--- src/positions.rt:57:13
 width-requires : tie.Need-width-requires
 width-requires c κs = search needs
 
--- src/positions.rt:57:13
 cast-result : tie.Need-cast-result
 cast-result c = search needs
 
--- src/positions.rt:49:1
 returns-2 : tie.Need-returns-2
 returns-2 c = let a = c .before .before .before .before .args in one-part (now (a .parents)) [] (a .row) (a .part) (omega arith) _ (c .width .ensures)
 

@@ -1,7 +1,6 @@
-use mathlib.Core.Path.{_≡_, refl, sym, ap, _∙_}
 use native.Mathlib.Omega.{arith}
 use denote.Ref.{now}
-use mathlib.Core.List.{List, [], map}
+use mathlib.Core.List.{[]}
 use Rattle.tables.proofs.PositionLaws.{two-past, two-part}
 use borrow.Author.Needs.{needs}
 use Rattle.tables.proofs.positions.in_stage_two.Statement.{statement}
@@ -10,15 +9,12 @@ use Rattle.tables.proofs.positions.in_stage_two.Reads as reads
 use Rattle.tables.proofs.positions.in_stage_two.Lts as lts
 use Rattle.tables.proofs.positions.object_count.Reads as object-count-reads
 
--- src/positions.rt:64:8
 object-count-requires : tie.Need-object-count-requires
 object-count-requires c κs = search needs
 
--- src/positions.rt:65:9
 returns : tie.Need-returns
 returns c = let a = c .before .before .before .args in two-past [] (now (a .objects)) (a .row) (a .part) (omega arith)
 
--- src/positions.rt:61:1
 returns-2 : tie.Need-returns-2
 returns-2 c = let a = c .before .before .before .args in two-part [] (now (a .objects)) (a .row) (a .part) (omega arith)
 

@@ -5,15 +5,12 @@ use Rattle.tables.proofs.positions.is_end.Tie as tie
 use Rattle.tables.proofs.positions.is_end.Reads as reads
 use Rattle.tables.proofs.positions.is_end.Lts as lts
 
--- src/positions.rt:74:9
 returns : tie.Need-returns
 returns c = end-stage _ (c .if1 .taken)
 
--- src/positions.rt:77:9
 returns-2 : tie.Need-returns-2
 returns-2 c = end-row _ (omega arith) (c .if2 .taken)
 
--- src/positions.rt:70:1
 returns-3 : tie.Need-returns-3
 returns-3 c = end-part _ (omega arith) (omega arith)
 

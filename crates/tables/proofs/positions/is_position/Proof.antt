@@ -1,4 +1,4 @@
-use mathlib.Core.Path.{_≡_, refl, sym, ap, _∙_}
+use mathlib.Core.Path.{_∙_}
 use native.Mathlib.Omega.{arith}
 use denote.Ref.{now}
 use Rattle.tables.specs.Bytes.{parse}
@@ -13,33 +13,27 @@ use Rattle.tables.proofs.positions.in_stage_one.Reads as in-stage-one-r
 use Rattle.tables.proofs.positions.in_stage_two.Reads as in-stage-two-reads
 use Rattle.tables.proofs.positions.is_end.Reads as is-end-reads
 
--- src/positions.rt:88:9
 in-stage-one-requires : tie.Need-in-stage-one-requires
 in-stage-one-requires c κs = sound-facts _ _ (c .before .before .before .before .pre) .layouts
 
--- src/positions.rt:88:9
 returns : tie.Need-returns
 returns c =
     let a = c .before .before .before .before .before .args in
     c .in-stage-one .ensures ∙ one-alone (now (a .parents)) (now (a .objects)) (a .at .row) (a .at .part)
     ∙ position-one (parse (now (a .parents)) (now (a .objects))) (a .at) (omega arith)
 
--- src/positions.rt:91:9
 in-stage-two-requires : tie.Need-in-stage-two-requires
 in-stage-two-requires c κs = search needs
 
--- src/positions.rt:91:9
 returns-2 : tie.Need-returns-2
 returns-2 c =
     let a = c .before .before .before .before .before .before .before .args in
     c .in-stage-two .ensures ∙ two-alone (now (a .parents)) (now (a .objects)) (a .at .row) (a .at .part)
     ∙ position-two (parse (now (a .parents)) (now (a .objects))) (a .at) (omega arith)
 
--- src/positions.rt:93:5
 is-end-requires : tie.Need-is-end-requires
 is-end-requires c κs = search needs
 
--- src/positions.rt:83:1
 returns-3 : tie.Need-returns-3
 returns-3 c =
     let a = c .before .before .before .before .before .before .before .args in

@@ -1,4 +1,4 @@
-use mathlib.Core.Path.{_≡_, refl, sym, ap, _∙_}
+use mathlib.Core.Path.{_∙_}
 use native.Mathlib.Omega.{arith}
 use denote.Ref.{now}
 use Rattle.tables.specs.Bytes.{parse}
@@ -13,7 +13,6 @@ use Rattle.tables.proofs.positions.after_part.Reads as after-part-reads
 use Rattle.tables.proofs.positions.end.Reads as end-reads
 use Rattle.tables.proofs.positions.from_object.Reads as from-object-reads
 
--- src/positions.rt:163:9
 after-part-requires : tie.Need-after-part-requires
 after-part-requires c κs =
     let d = c .before .before .before .before in
@@ -23,13 +22,11 @@ after-part-requires c κs =
           (position-one (parse (now (a .parents)) (now (a .objects))) (a .at) (omega arith) ∙ d .pre .1),
     )
 
--- src/positions.rt:163:9
 returns : tie.Need-returns
 returns c =
     let a = c .before .before .before .before .before .args in
     c .after-part .ensures ∙ next-one (parse (now (a .parents)) (now (a .objects))) (a .at) (omega arith)
 
--- src/positions.rt:167:37
 add-from-object : tie.Need-add-from-object
 add-from-object c =
     let d = c .before .before .before .before .before .before in
@@ -40,21 +37,17 @@ add-from-object c =
           (position-two (parse (now (a .parents)) (now (a .objects))) (a .at) (omega arith) ∙ d .pre .1),
     )
 
--- src/positions.rt:167:9
 from-object-requires : tie.Need-from-object-requires
 from-object-requires c κs = search needs
 
--- src/positions.rt:167:9
 returns-2 : tie.Need-returns-2
 returns-2 c =
     let a = c .before .before .before .before .before .before .before .args in
     c .from-object .ensures ∙ object-alone (now (a .parents)) (now (a .objects)) _ ∙ next-two (parse (now (a .parents)) (now (a .objects))) (a .at) (omega arith)
 
--- src/positions.rt:169:5
 end-requires : tie.Need-end-requires
 end-requires c κs = search needs
 
--- src/positions.rt:158:1
 returns-3 : tie.Need-returns-3
 returns-3 c =
     let a = c .before .before .before .before .before .before .before .args in

@@ -4,7 +4,6 @@ use Rattle.tables.proofs.positions.object_count.Tie as tie
 use Rattle.tables.proofs.positions.object_count.Reads as reads
 use Rattle.tables.proofs.positions.object_count.Lts as lts
 
--- src/positions.rt:23:1
 returns : tie.Need-returns
 returns c = refl
 

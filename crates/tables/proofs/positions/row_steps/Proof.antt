@@ -1,8 +1,8 @@
 use Prim.Native.Nat.{_+_, _-_, _*_, _≤_}
-use mathlib.Core.Path.{_≡_, refl, sym, ap, _∙_}
+use mathlib.Core.Path.{_≡_}
 use native.Mathlib.Omega.{arith}
 use denote.Ref.{now}
-use mathlib.Core.List.{List, [], map}
+use mathlib.Core.List.{map}
 use Rattle.tables.specs.Bytes.{parentRows, parseParent}
 use Rattle.tables.specs.Positions.{rowSteps}
 use Rattle.tables.proofs.PositionLaws.{stepsFrom, steps-start, steps-end, steps-step}
@@ -20,45 +20,35 @@ Inv-loop parents n steps₀ r₀ steps r = (r ≤ n) × (steps ≤ 65536 * r) ×
 abbrev μ-loop : tie.MeasureT-loop
 μ-loop parents n steps₀ r₀ steps r = n - r
 
--- src/positions.rt:179:5
 loop-holds : tie.Need-loop-holds Inv-loop μ-loop
 loop-holds c = (omega arith, omega arith, steps-start _)
 
--- src/positions.rt:180:17
 add-steps : tie.Need-add-steps Inv-loop μ-loop
 add-steps c = omega arith
 
--- src/positions.rt:180:39
 row-at-requires : tie.Need-row-at-requires Inv-loop μ-loop
 row-at-requires c κs = omega arith
 
--- src/positions.rt:180:29
 row-width-requires : tie.Need-row-width-requires Inv-loop μ-loop
 row-width-requires c κs = let d = c .before .before .before .before in (c .row-at .ensures .1, layout-at (now (d .args .parents)) _ (c .before .before .loop .r) (d .pre .0) (omega arith) (c .row-at .ensures .0))
 
--- src/positions.rt:180:29
 cast-steps : tie.Need-cast-steps Inv-loop μ-loop
 cast-steps c = omega arith
 
--- src/positions.rt:180:17
 add-steps-2 : tie.Need-add-steps-2 Inv-loop μ-loop
 add-steps-2 c = omega arith
 
--- src/positions.rt:179:9
 add-r : tie.Need-add-r Inv-loop μ-loop
 add-r c = omega arith
 
--- src/positions.rt:179:5
 loop-less : tie.Need-loop-less Inv-loop μ-loop
 loop-less c = omega arith
 
--- src/positions.rt:179:5
 loop-again : tie.Need-loop-again Inv-loop μ-loop
 loop-again c =
     let d = c .before .before .before in
     (omega arith, omega arith, steps-step _ _ _ _ _ _ _ (d .loop .inv .2) (omega arith) (c .before .row-at .ensures .0) (c .row-width .ensures))
 
--- src/positions.rt:173:1
 returns : tie.Need-returns Inv-loop μ-loop
 returns c = steps-end _ _ _ _ _ (c .before .loop .inv .2) (omega arith)
 

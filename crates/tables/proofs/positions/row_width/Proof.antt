@@ -1,4 +1,4 @@
-use mathlib.Core.Path.{_≡_, refl, sym, ap, _∙_}
+use mathlib.Core.Path.{sym, ap, _∙_}
 use native.Mathlib.Omega.{arith}
 use denote.Ref.{now}
 use borrow.Author.Tests.{not-true, not-false}
@@ -14,26 +14,21 @@ use Rattle.tables.proofs.rows.is_used.Reads as is-used-reads
 use Rattle.tables.proofs.rows.layout_of.Reads as layout-of-reads
 use Rattle.layout.proofs.stripe_count.Reads as stripe-count-reads
 
--- src/positions.rt:34:9
 is-used-requires : tie.Need-is-used-requires
 is-used-requires c κs = search needs
 
--- src/positions.rt:35:9
 returns : tie.Need-returns
 returns c = slots-unused (now (c .before .before .before .args .row)) (sym (c .before .is-used .ensures) ∙ not-true _ (c .if1 .taken))
 
--- src/positions.rt:37:16
 facts : (c : tie.Else1) → LayoutOf (now (c .before .before .before .args .row))
 facts c = layout-of-row _ (c .before .before .before .pre .0) (c .before .before .before .pre .1) (sym (c .before .is-used .ensures) ∙ not-false _ (c .if1 .left))
 
 layout-of-requires : tie.Need-layout-of-requires
 layout-of-requires c κs = (c .before .before .before .pre .0, facts c .room)
 
--- src/positions.rt:37:5
 stripe-count-requires : tie.Need-stripe-count-requires
 stripe-count-requires c κs = omega (arith, facts (c .before))
 
--- src/positions.rt:30:1
 returns-2 : tie.Need-returns-2
 returns-2 c =
     c .stripe-count .ensures ∙ ap stripeCount (c .before .layout-of .ensures .0)

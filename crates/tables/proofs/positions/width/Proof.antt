@@ -1,7 +1,6 @@
-use mathlib.Core.Path.{_≡_, refl, sym, ap, _∙_}
 use native.Mathlib.Omega.{arith}
 use denote.Ref.{now}
-use mathlib.Core.List.{List, [], map}
+use mathlib.Core.List.{[]}
 use Rattle.tables.proofs.PositionLaws.{parsed-width}
 use Rattle.tables.proofs.SoundLaws.{layout-at}
 use Rattle.tables.proofs.positions.width.Statement.{statement}
@@ -11,15 +10,12 @@ use Rattle.tables.proofs.positions.width.Lts as lts
 use Rattle.tables.proofs.positions.row_width.Reads as row-width-reads
 use Rattle.tables.proofs.rows.row_at.Reads as row-at-reads
 
--- src/positions.rt:45:15
 row-at-requires : tie.Need-row-at-requires
 row-at-requires c κs = omega arith
 
--- src/positions.rt:45:5
 row-width-requires : tie.Need-row-width-requires
 row-width-requires c κs = let d = c .before .before in (c .row-at .ensures .1, layout-at (now (d .args .parents)) _ (d .args .r) (d .pre .0) (d .pre .1) (c .row-at .ensures .0))
 
--- src/positions.rt:41:1
 returns : tie.Need-returns
 returns c = let d = c .before .before .before in parsed-width (now (d .args .parents)) [] (d .args .r) (d .pre .1) _ _ (c .before .row-at .ensures .0) (c .row-width .ensures)
 

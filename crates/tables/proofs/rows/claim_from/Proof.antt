@@ -1,4 +1,4 @@
-use mathlib.Core.Path.{_≡_, refl, sym, ap, _∙_}
+use mathlib.Core.Path.{sym, _∙_}
 use Rattle.tables.proofs.RowReads.{claim-none, claim-some}
 use borrow.Author.Needs.{needs}
 use Rattle.tables.proofs.rows.claim_from.Statement.{statement}
@@ -7,15 +7,12 @@ use Rattle.tables.proofs.rows.claim_from.Reads as reads
 use Rattle.tables.proofs.rows.claim_from.Lts as lts
 use Rattle.tables.proofs.rows.is_zero.Reads as is-zero-reads
 
--- src/rows.rt:77:8
 is-zero-requires : tie.Need-is-zero-requires
 is-zero-requires c κs = search needs
 
--- src/rows.rt:78:9
 returns : tie.Need-returns
 returns c = claim-none _ (sym (c .before .is-zero .ensures) ∙ c .if1 .taken)
 
--- src/rows.rt:74:1
 returns-2 : tie.Need-returns-2
 returns-2 c = claim-some _ (sym (c .before .is-zero .ensures) ∙ c .if1 .left)
 

@@ -10,31 +10,24 @@ use Rattle.tables.proofs.rows.claim_from.Reads as claim-from-reads
 use Rattle.tables.proofs.rows.owner_at.Reads as owner-at-reads
 use Rattle.wire.proofs.le32.Reads as le32-reads
 
--- src/rows.rt:93:9
 read-fid-requires : tie.Need-read-fid-requires
 read-fid-requires c κs = search needs
 
--- src/rows.rt:94:9
 le32-requires : tie.Need-le32-requires
 le32-requires c κs = search needs
 
--- src/rows.rt:95:9
 owner-at-requires : tie.Need-owner-at-requires
 owner-at-requires c κs = search needs
 
--- src/rows.rt:96:28
 read-fid-requires-2 : tie.Need-read-fid-requires-2
 read-fid-requires-2 c κs = search needs
 
--- src/rows.rt:96:9
 claim-from-requires : tie.Need-claim-from-requires
 claim-from-requires c κs = search needs
 
--- src/rows.rt:97:17
 shared-slice-read-fresh : tie.Need-shared-slice-read-fresh
 shared-slice-read-fresh c = search needs
 
--- src/rows.rt:89:1
 returns : tie.Need-returns
 returns c =
     let a = c .before .before .before .before .before .before .before .args in

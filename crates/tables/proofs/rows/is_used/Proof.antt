@@ -6,11 +6,9 @@ use Rattle.tables.proofs.rows.is_used.Tie as tie
 use Rattle.tables.proofs.rows.is_used.Reads as reads
 use Rattle.tables.proofs.rows.is_used.Lts as lts
 
--- src/rows.rt:39:5
 shared-slice-read-result : tie.Need-shared-slice-read-result
 shared-slice-read-result c = search needs
 
--- src/rows.rt:35:1
 returns : tie.Need-returns
 unfolding isUsed
 returns c = refl

@@ -6,11 +6,9 @@ use Rattle.tables.proofs.rows.is_zero.Reads as reads
 use Rattle.tables.proofs.rows.is_zero.Lts as lts
 use Rattle.fid.proofs.same_fid.Reads as same-fid-reads
 
--- src/rows.rt:70:5
 same-fid-requires : tie.Need-same-fid-requires
 same-fid-requires c κs = search needs
 
--- src/rows.rt:62:1
 returns : tie.Need-returns
 unfolding zeroFid
 returns c = c .same-fid .ensures

@@ -6,11 +6,9 @@ use Rattle.tables.proofs.rows.layout_len.Reads as reads
 use Rattle.tables.proofs.rows.layout_len.Lts as lts
 use Rattle.wire.proofs.le16.Reads as le16-reads
 
--- src/rows.rt:128:5
 le16-requires : tie.Need-le16-requires
 le16-requires c κs = search needs
 
--- src/rows.rt:124:1
 returns : tie.Need-returns
 unfolding layoutLength
 returns c = c .le16 .ensures

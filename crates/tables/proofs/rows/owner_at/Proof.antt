@@ -7,19 +7,15 @@ use Rattle.tables.proofs.rows.owner_at.Reads as reads
 use Rattle.tables.proofs.rows.owner_at.Lts as lts
 use Rattle.wire.proofs.le32.Reads as le32-reads
 
--- src/rows.rt:56:14
 le32-requires : tie.Need-le32-requires
 le32-requires c κs = search needs
 
--- src/rows.rt:57:30
 add-le32 : tie.Need-add-le32
 add-le32 c = search needs
 
--- src/rows.rt:57:14
 le32-requires-2 : tie.Need-le32-requires-2
 le32-requires-2 c κs = search needs
 
--- src/rows.rt:51:1
 returns : tie.Need-returns
 returns c = let a = c .before .before .before .args in owner-is (now (a .row)) (a .at) _ _ (c .before .le32 .ensures) (c .le322 .ensures)
 

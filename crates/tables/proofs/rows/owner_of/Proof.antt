@@ -6,11 +6,9 @@ use Rattle.tables.proofs.rows.owner_of.Reads as reads
 use Rattle.tables.proofs.rows.owner_of.Lts as lts
 use Rattle.tables.proofs.rows.owner_at.Reads as owner-at-reads
 
--- src/rows.rt:120:5
 owner-at-requires : tie.Need-owner-at-requires
 owner-at-requires c κs = search needs
 
--- src/rows.rt:116:1
 returns : tie.Need-returns
 unfolding decodeParent
 returns c = c .owner-at .ensures

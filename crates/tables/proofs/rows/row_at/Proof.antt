@@ -1,4 +1,4 @@
-use mathlib.Core.Path.{_≡_, refl, sym, ap, _∙_}
+use mathlib.Core.Path.{ap, _∙_}
 use denote.Ref.{now}
 use Rattle.tables.proofs.AllLaws.{part-is, part-length}
 use Prim.Native.Nat.{_*_}
@@ -11,27 +11,21 @@ use Rattle.tables.proofs.rows.row_at.Tie as tie
 use Rattle.tables.proofs.rows.row_at.Reads as reads
 use Rattle.tables.proofs.rows.row_at.Lts as lts
 
--- src/rows.rt:29:13
 mul-a : tie.Need-mul-a
 mul-a c = search needs
 
--- src/rows.rt:30:13
 add-e : tie.Need-add-e
 add-e c = search needs
 
--- src/rows.rt:31:5
 sub-result : tie.Need-sub-result
 sub-result c = search needs
 
--- src/rows.rt:31:5
 part-result-start : tie.Need-part-result-start
 part-result-start c = search needs
 
--- src/rows.rt:31:5
 part-result-end : tie.Need-part-result-end
 part-result-end c = search needs
 
--- src/rows.rt:25:1
 returns : tie.Need-returns
 returns c =
     let a = c .before .args in

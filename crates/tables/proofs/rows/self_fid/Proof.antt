@@ -6,11 +6,9 @@ use Rattle.tables.proofs.rows.self_fid.Reads as reads
 use Rattle.tables.proofs.rows.self_fid.Lts as lts
 use Rattle.fid.proofs.read_fid.Reads as read-fid-reads
 
--- src/rows.rt:47:5
 read-fid-requires : tie.Need-read-fid-requires
 read-fid-requires c κs = search needs
 
--- src/rows.rt:43:1
 returns : tie.Need-returns
 unfolding selfFid
 returns c = c .read-fid .ensures

@@ -1,4 +1,4 @@
-use mathlib.Core.Path.{_≡_, refl, sym, ap, _∙_}
+use mathlib.Core.Path.{sym, _∙_}
 use borrow.Author.Tests.{not-true, not-false}
 use Rattle.tables.specs.Bytes.{parentRows, objectRows}
 use Rattle.tables.proofs.TestLaws.{parents-twice, objects-twice}
@@ -9,20 +9,16 @@ use Rattle.tables.proofs.twice.all_different.Reads as reads
 use Rattle.tables.proofs.twice.all_different.Lts as lts
 use Rattle.tables.proofs.twice.none_twice.Reads as none-twice-reads
 
--- src/twice.rt:66:9
 none-twice-requires : tie.Need-none-twice-requires
 none-twice-requires c κs = search needs
 
--- src/twice.rt:67:9
 returns : tie.Need-returns
 unfolding parentRows
 returns c = parents-twice _ _ (sym (c .before .none-twice .ensures) ∙ not-true _ (c .if1 .taken))
 
--- src/twice.rt:69:5
 none-twice-requires-2 : tie.Need-none-twice-requires-2
 none-twice-requires-2 c κs = search needs
 
--- src/twice.rt:63:1
 returns-2 : tie.Need-returns-2
 unfolding parentRows objectRows
 returns-2 c = c .none-twice2 .ensures ∙ objects-twice _ _ (sym (c .before .before .none-twice .ensures) ∙ not-false _ (c .before .if1 .left))

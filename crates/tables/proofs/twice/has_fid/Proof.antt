@@ -1,4 +1,4 @@
-use mathlib.Core.Path.{_≡_, refl, sym, ap, _∙_}
+use mathlib.Core.Path.{_∙_}
 use native.Mathlib.Omega.{arith}
 use denote.Ref.{now}
 use Rattle.tables.proofs.TestLaws.{has-oid, has-seq, has-ver, has-used}
@@ -10,35 +10,27 @@ use Rattle.tables.proofs.twice.has_fid.Lts as lts
 use Rattle.wire.proofs.le32.Reads as le32-reads
 use Rattle.wire.proofs.le64.Reads as le64-reads
 
--- src/twice.rt:20:8
 le32-requires : tie.Need-le32-requires
 le32-requires c κs = search needs
 
--- src/twice.rt:21:9
 returns : tie.Need-returns
 returns c = let a = c .before .before .before .before .args in has-oid (now (a .row)) (a .f) (λ e. c .if1 .taken (c .before .before .le32 .ensures ∙ e))
 
--- src/twice.rt:23:8
 le64-requires : tie.Need-le64-requires
 le64-requires c κs = search needs
 
--- src/twice.rt:24:9
 returns-2 : tie.Need-returns-2
 returns-2 c = let a = c .before .before .before .before .before .before .before .args in has-seq (now (a .row)) (a .f) (λ e. c .if2 .taken (c .before .before .le64 .ensures ∙ e))
 
--- src/twice.rt:26:8
 le32-requires-2 : tie.Need-le32-requires-2
 le32-requires-2 c κs = search needs
 
--- src/twice.rt:27:9
 returns-3 : tie.Need-returns-3
 returns-3 c = let a = c .before .before .before .before .before .before .before .before .before .before .args in has-ver (now (a .row)) (a .f) (λ e. c .if3 .taken (c .before .before .le322 .ensures ∙ e))
 
--- src/twice.rt:29:5
 shared-slice-read-result : tie.Need-shared-slice-read-result
 shared-slice-read-result c = search needs
 
--- src/twice.rt:16:1
 returns-4 : tie.Need-returns-4
 returns-4 c = let a = c .before .before .before .before .before .before .before .before .before .before .before .args in has-used (now (a .row)) (a .f) (omega arith) (omega arith) (omega arith)
 

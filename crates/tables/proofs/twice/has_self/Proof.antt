@@ -1,6 +1,6 @@
 use native.Mathlib.Nat.{div-le-self}
-use Prim.Native.Nat.{_-_, _≤_, _/_}
-use mathlib.Core.Path.{_≡_, refl, sym, ap, _∙_}
+use Prim.Native.Nat.{_-_}
+use mathlib.Core.Path.{_≡_, refl, sym, _∙_}
 use native.Mathlib.Omega.{arith}
 use denote.Ref.{now}
 use lib.ListN.{length}
@@ -19,43 +19,34 @@ Inv-loop table size from f n r₀ r = hasFrom f size table n from ≡ hasFrom f 
 abbrev μ-loop : tie.MeasureT-loop
 μ-loop table size from f n r₀ r = n - r
 
--- src/twice.rt:37:13
 div-n : tie.Need-div-n Inv-loop μ-loop
 div-n c = omega arith
 
--- src/twice.rt:38:5
 loop-holds : tie.Need-loop-holds Inv-loop μ-loop
 loop-holds c = refl
 
--- src/twice.rt:39:20
 row-at-requires : tie.Need-row-at-requires Inv-loop μ-loop
 row-at-requires c κs = let a = c .before .before .before .args in row-fits (a .size) _ (length (now (a .table))) (omega arith) (omega arith)
 
--- src/twice.rt:39:12
 has-fid-requires : tie.Need-has-fid-requires Inv-loop μ-loop
 has-fid-requires c κs = omega arith
 
--- src/twice.rt:40:13
 returns : tie.Need-returns Inv-loop μ-loop
 returns c =
     let d = c .before .before in
     has-hit _ _ _ _ _ _ _ (d .before .before .loop .inv) (omega arith) (d .row-at .ensures .0) (sym (c .before .has-fid .ensures) ∙ c .if1 .taken) ∙ has-from _ _ _ _ _
 
--- src/twice.rt:38:9
 add-r : tie.Need-add-r Inv-loop μ-loop
 add-r c = let a = c .before .before .before .before .before .before .args in omega (arith, div-le-self (length (now (a .table))) (a .size))
 
--- src/twice.rt:38:5
 loop-less : tie.Need-loop-less Inv-loop μ-loop
 loop-less c = omega arith
 
--- src/twice.rt:38:5
 loop-again : tie.Need-loop-again Inv-loop μ-loop
 loop-again c =
     let d = c .before .before in
     has-pass _ _ _ _ _ _ _ (d .before .before .loop .inv) (omega arith) (d .row-at .ensures .0) (sym (c .before .has-fid .ensures) ∙ c .if1 .left)
 
--- src/twice.rt:33:1
 returns-2 : tie.Need-returns-2 Inv-loop μ-loop
 returns-2 c = has-none _ _ _ _ _ _ (c .before .loop .inv) (omega arith) ∙ has-from _ _ _ _ _
 

@@ -1,5 +1,5 @@
-use Prim.Native.Nat.{_-_, _≤_, _/_}
-use mathlib.Core.Path.{_≡_, refl, sym, ap, _∙_}
+use Prim.Native.Nat.{_-_, _≤_}
+use mathlib.Core.Path.{_≡_, sym, _∙_}
 use native.Mathlib.Omega.{arith}
 use denote.Ref.{now}
 use native.Mathlib.Nat.{div-le-self}
@@ -24,50 +24,39 @@ Inv-loop table size n r₀ r = (r ≤ n) × (noneTwice (rows size n table) ≡ n
 abbrev μ-loop : tie.MeasureT-loop
 μ-loop table size n r₀ r = n - r
 
--- src/twice.rt:51:13
 div-n : tie.Need-div-n Inv-loop μ-loop
 div-n c = omega arith
 
--- src/twice.rt:52:5
 loop-holds : tie.Need-loop-holds Inv-loop μ-loop
 loop-holds c = (omega arith, none-start _ _ _)
 
--- src/twice.rt:53:13
 row-at-requires : tie.Need-row-at-requires Inv-loop μ-loop
 row-at-requires c κs = let a = c .before .before .before .args in row-fits (a .size) _ (length (now (a .table))) (omega arith) (omega arith)
 
--- src/twice.rt:54:12
 is-used-requires : tie.Need-is-used-requires Inv-loop μ-loop
 is-used-requires c κs = omega arith
 
--- src/twice.rt:55:38
 add-has-self : tie.Need-add-has-self Inv-loop μ-loop
 add-has-self c = let a = c .before .before .before .before .before .before .args in omega (arith, div-le-self (length (now (a .table))) (a .size))
 
--- src/twice.rt:55:45
 self-fid-requires : tie.Need-self-fid-requires Inv-loop μ-loop
 self-fid-requires c κs = omega arith
 
--- src/twice.rt:55:16
 has-self-requires : tie.Need-has-self-requires Inv-loop μ-loop
 has-self-requires c κs = omega arith
 
--- src/twice.rt:56:17
 returns : tie.Need-returns Inv-loop μ-loop
 returns c =
     let d = c .before .before .before .before .before in
     none-fail _ _ _ _ _ _ (d .before .before .loop .inv .1) (omega arith) (d .row-at .ensures .0) (sym (c .before .before .before .before .is-used .ensures) ∙ c .before .before .before .if1 .taken)
     _ (c .before .before .self-fid .ensures) (sym (c .before .has-self .ensures) ∙ c .if2 .taken)
 
--- src/twice.rt:52:9
 add-r : tie.Need-add-r Inv-loop μ-loop
 add-r c = let a = c .before .before .before .before .before .before .args in omega (arith, div-le-self (length (now (a .table))) (a .size))
 
--- src/twice.rt:52:5
 loop-less : tie.Need-loop-less Inv-loop μ-loop
 loop-less c = omega arith
 
--- src/twice.rt:52:5
 loop-again : tie.Need-loop-again Inv-loop μ-loop
 loop-again c =
     let d = c .before .before in
@@ -81,7 +70,6 @@ loop-again c =
     (λ w. (omega arith, none-unused _ _ _ _ _ _ (i .1) (omega arith) (d .row-at .ensures .0) (sym (c .before .is-used .ensures) ∙ w .left)))
     (c .if1 .came)
 
--- src/twice.rt:47:1
 returns-2 : tie.Need-returns-2 Inv-loop μ-loop
 returns-2 c = none-end _ _ _ _ _ (c .before .loop .inv .1) (omega arith)
 

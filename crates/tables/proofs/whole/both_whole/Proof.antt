@@ -1,4 +1,4 @@
-use mathlib.Core.Path.{_≡_, refl, sym, ap, _∙_}
+use mathlib.Core.Path.{sym, _∙_}
 use borrow.Author.Tests.{not-true, not-false}
 use denote.Ref.{now}
 use Rattle.tables.proofs.TestLaws.{first-off, first-on}
@@ -11,19 +11,15 @@ use Rattle.tables.proofs.whole.both_whole.Lts as lts
 use Rattle.tables.proofs.whole.objects_whole.Reads as objects-whole-reads
 use Rattle.tables.proofs.whole.parents_whole.Reads as parents-whole-reads
 
--- src/whole.rt:101:9
 parents-whole-requires : tie.Need-parents-whole-requires
 parents-whole-requires c κs = search needs
 
--- src/whole.rt:102:9
 returns : tie.Need-returns
 returns c = let a = c .before .before .before .before .args in first-off (parentsWhole (now (a .parents))) (objectsWhole (now (a .objects))) (sym (c .before .parents-whole .ensures) ∙ not-true _ (c .if1 .taken))
 
--- src/whole.rt:104:5
 objects-whole-requires : tie.Need-objects-whole-requires
 objects-whole-requires c κs = search needs
 
--- src/whole.rt:98:1
 returns-2 : tie.Need-returns-2
 returns-2 c = let a = c .before .before .before .before .before .args in c .objects-whole .ensures ∙ first-on (parentsWhole (now (a .parents))) (objectsWhole (now (a .objects))) (sym (c .before .before .parents-whole .ensures) ∙ not-false _ (c .before .if1 .left))
 

@@ -1,4 +1,4 @@
-use mathlib.Core.Path.{_≡_, refl, sym, ap, _∙_}
+use mathlib.Core.Path.{sym, _∙_}
 use borrow.Author.Tests.{not-true, not-false}
 use Rattle.tables.proofs.TestLaws.{when-unused, when-used}
 use Rattle.tables.specs.Check.{freshMark, isMark}
@@ -9,19 +9,15 @@ use Rattle.tables.proofs.whole.fresh_mark.Reads as reads
 use Rattle.tables.proofs.whole.fresh_mark.Lts as lts
 use Rattle.tables.proofs.rows.is_used.Reads as is-used-reads
 
--- src/whole.rt:50:9
 is-used-requires : tie.Need-is-used-requires
 is-used-requires c κs = search needs
 
--- src/whole.rt:51:9
 returns : tie.Need-returns
 returns c = when-unused _ _ (sym (c .before .is-used .ensures) ∙ not-true _ (c .if1 .taken))
 
--- src/whole.rt:53:5
 shared-slice-read-result : tie.Need-shared-slice-read-result
 shared-slice-read-result c = search needs
 
--- src/whole.rt:46:1
 returns-2 : tie.Need-returns-2
 unfolding freshMark isMark
 returns-2 c = when-used freshMark _ (sym (c .before .before .is-used .ensures) ∙ not-false _ (c .before .if1 .left))

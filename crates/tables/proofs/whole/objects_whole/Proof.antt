@@ -1,4 +1,4 @@
-use mathlib.Core.Path.{_≡_, refl, sym, ap, _∙_}
+use mathlib.Core.Path.{sym, _∙_}
 use borrow.Author.Tests.{not-true, not-false}
 use Rattle.tables.specs.Bytes.{objectRows}
 use Rattle.tables.proofs.TestLaws.{objects-not, objects-used, objects-fresh}
@@ -11,28 +11,22 @@ use Rattle.tables.proofs.whole.fresh_marks.Reads as fresh-marks-reads
 use Rattle.tables.proofs.whole.used_marks.Reads as used-marks-reads
 use Rattle.tables.proofs.whole.whole_rows.Reads as whole-rows-reads
 
--- src/whole.rt:81:9
 whole-rows-requires : tie.Need-whole-rows-requires
 whole-rows-requires c κs = search needs
 
--- src/whole.rt:82:9
 returns : tie.Need-returns
 returns c = objects-not _ (sym (c .before .whole-rows .ensures) ∙ not-true _ (c .if1 .taken))
 
--- src/whole.rt:84:9
 used-marks-requires : tie.Need-used-marks-requires
 used-marks-requires c κs = search needs
 
--- src/whole.rt:85:9
 returns-2 : tie.Need-returns-2
 unfolding objectRows
 returns-2 c = objects-used _ (sym (c .before .before .before .whole-rows .ensures) ∙ not-false _ (c .before .before .if1 .left)) (sym (c .before .used-marks .ensures) ∙ not-true _ (c .if2 .taken))
 
--- src/whole.rt:87:5
 fresh-marks-requires : tie.Need-fresh-marks-requires
 fresh-marks-requires c κs = search needs
 
--- src/whole.rt:78:1
 returns-3 : tie.Need-returns-3
 unfolding objectRows
 returns-3 c = c .fresh-marks .ensures ∙ objects-fresh _ (sym (c .before .before .before .before .whole-rows .ensures) ∙ not-false _ (c .before .before .before .if1 .left)) (sym (c .before .before .used-marks .ensures) ∙ not-false _ (c .before .if2 .left))

@@ -1,4 +1,4 @@
-use mathlib.Core.Path.{_≡_, refl, sym, ap, _∙_}
+use mathlib.Core.Path.{sym, _∙_}
 use borrow.Author.Tests.{not-true, not-false}
 use Rattle.tables.specs.Bytes.{parentRows}
 use Rattle.tables.proofs.TestLaws.{parents-not, parents-marks}
@@ -10,19 +10,15 @@ use Rattle.tables.proofs.whole.parents_whole.Lts as lts
 use Rattle.tables.proofs.whole.used_marks.Reads as used-marks-reads
 use Rattle.tables.proofs.whole.whole_rows.Reads as whole-rows-reads
 
--- src/whole.rt:72:9
 whole-rows-requires : tie.Need-whole-rows-requires
 whole-rows-requires c κs = search needs
 
--- src/whole.rt:73:9
 returns : tie.Need-returns
 returns c = parents-not _ (sym (c .before .whole-rows .ensures) ∙ not-true _ (c .if1 .taken))
 
--- src/whole.rt:75:5
 used-marks-requires : tie.Need-used-marks-requires
 used-marks-requires c κs = search needs
 
--- src/whole.rt:69:1
 returns-2 : tie.Need-returns-2
 unfolding parentRows
 returns-2 c = c .used-marks .ensures ∙ parents-marks _ (sym (c .before .before .whole-rows .ensures) ∙ not-false _ (c .before .if1 .left))

@@ -6,11 +6,9 @@ use Rattle.tables.proofs.whole.reserve_whole.Reads as reads
 use Rattle.tables.proofs.whole.reserve_whole.Lts as lts
 use Rattle.tables.proofs.whole.whole_rows.Reads as whole-rows-reads
 
--- src/whole.rt:93:5
 whole-rows-requires : tie.Need-whole-rows-requires
 whole-rows-requires c κs = search needs
 
--- src/whole.rt:90:1
 returns : tie.Need-returns
 unfolding reserveWhole
 returns c = c .whole-rows .ensures

@@ -1,6 +1,6 @@
 use native.Mathlib.Nat.{div-le-self}
-use Prim.Native.Nat.{_-_, _≤_, _/_}
-use mathlib.Core.Path.{_≡_, refl, sym, ap, _∙_}
+use Prim.Native.Nat.{_-_, _≤_}
+use mathlib.Core.Path.{_≡_}
 use native.Mathlib.Omega.{arith}
 use denote.Ref.{now}
 use lib.ListN.{length}
@@ -20,43 +20,34 @@ Inv-loop table size n r₀ r = (r ≤ n) × (all usedMark (rows size n table) �
 abbrev μ-loop : tie.MeasureT-loop
 μ-loop table size n r₀ r = n - r
 
--- src/whole.rt:35:13
 div-n : tie.Need-div-n Inv-loop μ-loop
 div-n c = omega arith
 
--- src/whole.rt:36:5
 loop-holds : tie.Need-loop-holds Inv-loop μ-loop
 loop-holds c = (omega arith, all-start usedMark _ _ _)
 
--- src/whole.rt:37:13
 row-at-requires : tie.Need-row-at-requires Inv-loop μ-loop
 row-at-requires c κs = let a = c .before .before .before .args in row-fits (a .size) _ (length (now (a .table))) (omega arith) (omega arith)
 
--- src/whole.rt:38:16
 shared-slice-read-if1 : tie.Need-shared-slice-read-if1 Inv-loop μ-loop
 shared-slice-read-if1 c = omega arith
 
--- src/whole.rt:39:13
 returns : tie.Need-returns Inv-loop μ-loop
 returns c =
     let d = c .before .before in
     all-fail usedMark _ _ _ _ _ _ (d .before .before .loop .inv .1) (omega arith) (d .row-at .ensures .0) (mark-bad (now (d .row-at .result)) (c .if1 .taken))
 
--- src/whole.rt:36:9
 add-r : tie.Need-add-r Inv-loop μ-loop
 add-r c = let a = c .before .before .before .before .before .before .args in omega (arith, div-le-self (length (now (a .table))) (a .size))
 
--- src/whole.rt:36:5
 loop-less : tie.Need-loop-less Inv-loop μ-loop
 loop-less c = omega arith
 
--- src/whole.rt:36:5
 loop-again : tie.Need-loop-again Inv-loop μ-loop
 loop-again c =
     let d = c .before .before in
     (omega arith, all-pass usedMark _ _ _ _ _ _ (d .before .before .loop .inv .1) (omega arith) (d .row-at .ensures .0) (mark-good (now (d .row-at .result)) (c .if1 .left)))
 
--- src/whole.rt:31:1
 returns-2 : tie.Need-returns-2 Inv-loop μ-loop
 returns-2 c = all-end usedMark _ _ _ _ _ (c .before .loop .inv .1) (omega arith)
 

@@ -1,4 +1,3 @@
-use mathlib.Core.Path.{_≡_, refl, sym, ap, _∙_}
 use native.Mathlib.Omega.{arith}
 use denote.Ref.{now}
 use native.Mathlib.Nat.{mul-div-le}
@@ -10,19 +9,15 @@ use Rattle.tables.proofs.whole.whole_rows.Tie as tie
 use Rattle.tables.proofs.whole.whole_rows.Reads as reads
 use Rattle.tables.proofs.whole.whole_rows.Lts as lts
 
--- src/whole.rt:23:13
 div-n : tie.Need-div-n
 div-n c = search needs
 
--- src/whole.rt:24:8
 mul-if1 : tie.Need-mul-if1
 mul-if1 c = let a = c .args in omega (arith, mul-div-le (length (now (a .table))) (a .size))
 
--- src/whole.rt:25:9
 returns : tie.Need-returns
 returns c = whole-not _ _ (now (c .before .args .table)) (c .if1 .taken)
 
--- src/whole.rt:19:1
 returns-2 : tie.Need-returns-2
 returns-2 c = whole-most _ _ (now (c .before .args .table)) (omega arith)
 

@@ -1,0 +1,93 @@
+-- How a claimed place can be had, case by case as the code asks. Assumes nothing.
+use mathlib.Core.Path.{_≡_, refl, sym, ap, _∙_}
+use mathlib.Core.List.{List, []}
+use mathlib.Core.Bool.{Bool, true, false, cond, not, _&&_}
+use Prim.Native.Nat.{ℕ, _≤_, _<_}
+use borrow.Author.Tests.{lt-ltb, le-ltb}
+use lib.Dec.{ltb}
+use Rattle.fid.specs.declared.MdtFid.{MdtFid}
+use Rattle.fid.specs.declared.OstFid.{OstFid}
+use Rattle.layout.specs.Layout.{maxSlots}
+use Rattle.layout.specs.declared.Slot.{Slot}
+use Rattle.layout.specs.declared.Slot.the-variants.{Names}
+use Rattle.tables.specs.Records.{Tables}
+use Rattle.tables.specs.Bytes.{parse}
+use Rattle.tables.specs.Positions.{rowAt, width}
+use Rattle.tables.proofs.PositionLaws.{width-alone}
+use Rattle.tables.specs.declared.Object.{Object}
+use Rattle.rules.specs.Rows.{holesIn, parentRow, slotAt, objectOf, namedElse}
+use Rattle.rules.specs.Places.{claimIs, takeable, slotWay, rowWay, way}
+use Rattle.rules.specs.declared.Row.the-variants.{RowIs, NoRow}
+use Rattle.rules.specs.declared.Lookup.{Lookup}
+use Rattle.rules.specs.declared.Lookup.the-variants.{Present, Missing}
+use Rattle.rules.specs.declared.Way.{Way}
+use Rattle.rules.specs.declared.Way.the-variants.{NoWay, NewParent, Grow, Take}
+use Rattle.search.proofs.ParsedRows.{row-alone, parent-alone, slot-alone, named-else-alone, object-of-alone}
+
+-- ## A fresh object's slot
+
+module _ (p o : List ℕ) (f : MdtFid) (g : OstFid) (r i : ℕ) (found : Lookup) (e : found ≡ objectOf (parse [] o) g) where
+  object-is : found ≡ objectOf (parse p o) g
+  object-is = e ∙ object-of-alone p o g
+
+  pub take-missing : found ≡ Missing → false ≡ takeable (parse p o) f g r i (objectOf (parse p o) g)
+  unfolding takeable
+  take-missing h = rw (← object-is, h)
+
+  module _ (x : Object) (h : found ≡ Present x) where
+    pub take-stale : x .fresh ≡ false → false ≡ takeable (parse p o) f g r i (objectOf (parse p o) g)
+    unfolding takeable
+    take-stale s = rw (← object-is, h, s)
+
+    pub take-other : x .fresh ≡ true → claimIs (x .claim) f i ≡ false → false ≡ takeable (parse p o) f g r i (objectOf (parse p o) g)
+    unfolding takeable
+    take-other s k = rw (← object-is, h, s, k)
+
+    pub take-alone : x .fresh ≡ true → claimIs (x .claim) f i ≡ true → (b : Bool) → b ≡ namedElse (parse p []) g r i →
+        not b ≡ takeable (parse p o) f g r i (objectOf (parse p o) g)
+    unfolding takeable
+    take-alone s k b t = rw (← object-is, h, s, k) (ap not (t ∙ named-else-alone p o g r i))
+
+-- ## A slot
+
+module _ (T : Tables) (f : MdtFid) (r i : ℕ) (s : Slot) (g : OstFid) (n k : ℕ) (e : s ≡ Names g n k) where
+  pub slot-taken : takeable T f g r i (objectOf T g) ≡ true → Take r ≡ slotWay T f r i s
+  unfolding slotWay
+  slot-taken h = rw (e, h)
+
+  pub slot-held : takeable T f g r i (objectOf T g) ≡ false → NoWay ≡ slotWay T f r i s
+  unfolding slotWay
+  slot-held h = rw (e, h)
+
+-- ## A row
+
+module _ (p o : List ℕ) (f : MdtFid) (i r w : ℕ) (e : w ≡ width (parse p []) r) where
+  width-is : width (parse p o) r ≡ w
+  width-is = sym (e ∙ width-alone p o r)
+
+  pub row-slot : i < w → (s : Slot) (a : Way) → s ≡ slotAt (parse p []) r i → a ≡ slotWay (parse p o) f r i s → a ≡ rowWay (parse p o) f i (RowIs r)
+  unfolding rowWay
+  row-slot h s a q t = rw (width-is, lt-ltb i w h, ← slot-alone p o r i, ← q) t
+
+  pub row-grows : w ≤ i → (b : Bool) → b ≡ holesIn (rowAt (parse p []) r) → b ≡ true → Grow r ≡ rowWay (parse p o) f i (RowIs r)
+  unfolding rowWay
+  row-grows h b q t = rw (width-is, le-ltb i w h, ← row-alone p o r, ← q, t)
+
+  pub row-full : w ≤ i → (b : Bool) → b ≡ holesIn (rowAt (parse p []) r) → b ≡ false → NoWay ≡ rowWay (parse p o) f i (RowIs r)
+  unfolding rowWay
+  row-full h b q t = rw (width-is, le-ltb i w h, ← row-alone p o r, ← q, t)
+
+-- ## A place
+
+module _ (p o : List ℕ) (f : MdtFid) (i : ℕ) where
+  pub way-far : maxSlots ≤ i → NoWay ≡ way (parse p o) f i
+  unfolding way
+  way-far h = rw (le-ltb i maxSlots h)
+
+  pub way-absent : i < maxSlots → parentRow (parse p []) f ≡ NoRow → NewParent ≡ way (parse p o) f i
+  unfolding way rowWay
+  way-absent h e = rw (lt-ltb i maxSlots h, ← parent-alone p o f, e)
+
+  pub way-row : i < maxSlots → (r : ℕ) (a : Way) → parentRow (parse p []) f ≡ RowIs r → a ≡ rowWay (parse p o) f i (RowIs r) → a ≡ way (parse p o) f i
+  unfolding way
+  way-row h r a e t = rw (lt-ltb i maxSlots h, ← parent-alone p o f, e) t

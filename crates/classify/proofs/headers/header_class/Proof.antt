@@ -1,0 +1,81 @@
+use mathlib.Core.Path.{_≡_, refl, sym, ap, _∙_}
+use native.Mathlib.Omega.{arith}
+use denote.Ref.{now}
+use borrow.Author.Tests.{not-true, not-false}
+use Rattle.tables.proofs.SoundLaws.{LayoutOf, layout-at, layout-of-row}
+use Rattle.classify.proofs.HeaderLaws.{header-unused, header-clean, header-self}
+use borrow.Author.Needs.{needs}
+use Rattle.classify.proofs.headers.header_class.Statement.{statement}
+use Rattle.classify.proofs.headers.header_class.Tie as tie
+use Rattle.classify.proofs.headers.header_class.Reads as reads
+use Rattle.classify.proofs.headers.header_class.Lts as lts
+use Rattle.classify.proofs.headers.own_right.Reads as own-right-reads
+use Rattle.layout.proofs.read_header.Reads as read-header-reads
+use Rattle.tables.proofs.rows.is_used.Reads as is-used-reads
+use Rattle.tables.proofs.rows.layout_of.Reads as layout-of-reads
+use Rattle.tables.proofs.rows.row_at.Reads as row-at-reads
+use Rattle.tables.proofs.rows.self_of.Reads as self-of-reads
+
+-- src/headers.rt:35:9
+row-at-requires : tie.Need-row-at-requires
+row-at-requires c κs = search needs
+
+-- src/headers.rt:36:9
+is-used-requires : tie.Need-is-used-requires
+is-used-requires c κs = search needs
+
+-- src/headers.rt:37:9
+returns : tie.Need-returns
+returns c =
+    let a = c .before .before .before .before in
+    header-unused (now (a .args .parents)) (a .args .r) _ (a .pre .1) (c .before .before .row-at .ensures .0) (sym (c .before .is-used .ensures) ∙ not-true _ (c .if1 .taken))
+
+facts : (c : tie.Else1) → LayoutOf (now (c .before .before .row-at .result))
+facts c =
+    let a = c .before .before .before .before in
+    layout-of-row _ (c .before .before .row-at .ensures .1) (layout-at (now (a .args .parents)) _ (a .args .r) (a .pre .0) (a .pre .1) (c .before .before .row-at .ensures .0))
+    (sym (c .before .is-used .ensures) ∙ not-false _ (c .if1 .left))
+
+-- src/headers.rt:39:38
+layout-of-requires : tie.Need-layout-of-requires
+layout-of-requires c κs = (c .before .before .row-at .ensures .1, facts c .room)
+
+-- src/headers.rt:39:9
+read-header-requires : tie.Need-read-header-requires
+read-header-requires c κs = omega (arith, facts (c .before), facts (c .before) .facts)
+
+-- src/headers.rt:40:26
+self-of-requires : tie.Need-self-of-requires
+self-of-requires c κs = search needs
+
+-- src/headers.rt:40:8
+own-right-requires : tie.Need-own-right-requires
+own-right-requires c κs = search needs
+
+-- src/headers.rt:31:1
+returns-2 : tie.Need-returns-2
+returns-2 c =
+    let a = c .before .before .before .before .before .before .before .before .before in
+    header-clean (now (a .args .parents)) (a .args .r) _ (a .pre .1) (c .before .before .before .before .before .before .before .row-at .ensures .0) (sym (c .before .before .before .before .before .before .is-used .ensures) ∙ not-false _ (c .before .before .before .before .before .if1 .left))
+    _ (c .before .before .before .before .layout-of .ensures .0) _ (c .before .before .before .read-header .ensures) _ (c .before .before .self-of .ensures) _ (c .before .own-right .ensures) (c .if2 .taken)
+
+-- src/headers.rt:31:1
+returns-3 : tie.Need-returns-3
+returns-3 c =
+    let a = c .before .before .before .before .before .before .before .before .before in
+    header-self (now (a .args .parents)) (a .args .r) _ (a .pre .1) (c .before .before .before .before .before .before .before .row-at .ensures .0) (sym (c .before .before .before .before .before .before .is-used .ensures) ∙ not-false _ (c .before .before .before .before .before .if1 .left))
+    _ (c .before .before .before .before .layout-of .ensures .0) _ (c .before .before .before .read-header .ensures) _ (c .before .before .self-of .ensures) _ (c .before .own-right .ensures) (c .if2 .left)
+
+pub header-class-spec : {M : Type 1} → statement M
+header-class-spec =
+    tie.close
+    (tie.spec
+    row-at-requires
+    is-used-requires
+    returns
+    layout-of-requires
+    read-header-requires
+    self-of-requires
+    own-right-requires
+    returns-2
+    returns-3)

@@ -1,0 +1,67 @@
+use mathlib.Core.Path.{_≡_, refl, sym, ap, _∙_}
+use native.Mathlib.Omega.{arith}
+use denote.Ref.{now}
+use borrow.Author.Tests.{not-true, not-false}
+use Rattle.tables.proofs.SoundLaws.{LayoutOf, layout-at, layout-of-row}
+use Rattle.classify.proofs.HeaderLaws.{holes-unused, holes-used}
+use borrow.Author.Needs.{needs}
+use Rattle.classify.proofs.headers.holes_in.Statement.{statement}
+use Rattle.classify.proofs.headers.holes_in.Tie as tie
+use Rattle.classify.proofs.headers.holes_in.Reads as reads
+use Rattle.classify.proofs.headers.holes_in.Lts as lts
+use Rattle.layout.proofs.read_header.Reads as read-header-reads
+use Rattle.layout.proofs.with_holes.Reads as with-holes-reads
+use Rattle.tables.proofs.rows.is_used.Reads as is-used-reads
+use Rattle.tables.proofs.rows.layout_of.Reads as layout-of-reads
+use Rattle.tables.proofs.rows.row_at.Reads as row-at-reads
+
+-- src/headers.rt:52:9
+row-at-requires : tie.Need-row-at-requires
+row-at-requires c κs = search needs
+
+-- src/headers.rt:53:9
+is-used-requires : tie.Need-is-used-requires
+is-used-requires c κs = search needs
+
+-- src/headers.rt:54:9
+returns : tie.Need-returns
+returns c =
+    let a = c .before .before .before .before in
+    holes-unused (now (a .args .parents)) (a .args .r) _ (a .pre .1) (c .before .before .row-at .ensures .0) (sym (c .before .is-used .ensures) ∙ not-true _ (c .if1 .taken))
+
+facts : (c : tie.Else1) → LayoutOf (now (c .before .before .row-at .result))
+facts c =
+    let a = c .before .before .before .before in
+    layout-of-row _ (c .before .before .row-at .ensures .1) (layout-at (now (a .args .parents)) _ (a .args .r) (a .pre .0) (a .pre .1) (c .before .before .row-at .ensures .0))
+    (sym (c .before .is-used .ensures) ∙ not-false _ (c .if1 .left))
+
+-- src/headers.rt:56:44
+layout-of-requires : tie.Need-layout-of-requires
+layout-of-requires c κs = (c .before .before .row-at .ensures .1, facts c .room)
+
+-- src/headers.rt:56:24
+read-header-requires : tie.Need-read-header-requires
+read-header-requires c κs = omega (arith, facts (c .before), facts (c .before) .facts)
+
+-- src/headers.rt:56:5
+with-holes-requires : tie.Need-with-holes-requires
+with-holes-requires c κs = search needs
+
+-- src/headers.rt:48:1
+returns-2 : tie.Need-returns-2
+returns-2 c =
+    let a = c .before .before .before .before .before .before .before in
+    holes-used (now (a .args .parents)) (a .args .r) _ (a .pre .1) (c .before .before .before .before .before .row-at .ensures .0) (sym (c .before .before .before .before .is-used .ensures) ∙ not-false _ (c .before .before .before .if1 .left))
+    _ (c .before .before .layout-of .ensures .0) _ (c .before .read-header .ensures) _ (c .with-holes .ensures)
+
+pub holes-in-spec : {M : Type 1} → statement M
+holes-in-spec =
+    tie.close
+    (tie.spec
+    row-at-requires
+    is-used-requires
+    returns
+    layout-of-requires
+    read-header-requires
+    with-holes-requires
+    returns-2)

@@ -1,0 +1,22 @@
+use native.Mathlib.Omega.{arith}
+use Rattle.classify.proofs.HeaderLaws.{own-id, own-sequence}
+use borrow.Author.Needs.{needs}
+use Rattle.classify.proofs.headers.own_right.Statement.{statement}
+use Rattle.classify.proofs.headers.own_right.Tie as tie
+use Rattle.classify.proofs.headers.own_right.Reads as reads
+use Rattle.classify.proofs.headers.own_right.Lts as lts
+
+-- src/headers.rt:24:17
+cast-if1 : tie.Need-cast-if1
+cast-if1 c = search needs
+
+-- src/headers.rt:25:9
+returns : tie.Need-returns
+returns c = let a = c .before .before .before .before .args in own-id (a .h) (a .f) (c .if1 .taken)
+
+-- src/headers.rt:20:1
+returns-2 : tie.Need-returns-2
+returns-2 c = let a = c .before .before .before .before .before .before .args in own-sequence (a .h) (a .f) (omega arith)
+
+pub own-right-spec : {M : Type 1} → statement M
+own-right-spec = tie.close (tie.spec cast-if1 returns returns-2)

@@ -1,0 +1,46 @@
+use mathlib.Core.Path.{_≡_, refl, sym, ap, _∙_}
+use denote.Ref.{now}
+use Rattle.tables.specs.Bytes.{parse}
+use Rattle.rules.specs.Places.{slotWay}
+use Rattle.classify.proofs.PlaceLaws.{slot-taken, slot-held}
+use borrow.Author.Needs.{needs}
+use Rattle.classify.proofs.places.slot_way.Statement.{statement}
+use Rattle.classify.proofs.places.slot_way.Tie as tie
+use Rattle.classify.proofs.places.slot_way.Reads as reads
+use Rattle.classify.proofs.places.slot_way.Lts as lts
+use Rattle.classify.proofs.places.takeable.Reads as takeable-reads
+
+-- src/places.rt:65:23
+enum-told : tie.Need-enum-told
+enum-told c = search needs
+
+-- src/places.rt:66:21
+enum-known-s : tie.Need-enum-known-s
+enum-known-s c = search needs
+
+-- src/places.rt:67:16
+takeable-requires : tie.Need-takeable-requires
+takeable-requires c κs = search needs
+
+-- src/places.rt:60:1
+returns : tie.Need-returns
+unfolding slotWay
+returns c = cc
+
+-- src/places.rt:60:1
+returns-2 : tie.Need-returns-2
+returns-2 c =
+    let a = c .before .before .before .before .before .before .before .args in
+    let v = c .before .before .before .s .given .0 in
+    slot-taken (parse (now (a .parents)) (now (a .objects))) (a .f) (a .r) (a .i) (a .s) (v .0) (v .1 .0) (v .1 .1 .0) (cc) (sym (c .before .takeable .ensures) ∙ c .if1 .taken)
+
+-- src/places.rt:60:1
+returns-3 : tie.Need-returns-3
+returns-3 c =
+    let a = c .before .before .before .before .before .before .before .args in
+    let v = c .before .before .before .s .given .0 in
+    slot-held (parse (now (a .parents)) (now (a .objects))) (a .f) (a .r) (a .i) (a .s) (v .0) (v .1 .0) (v .1 .1 .0) (cc) (sym (c .before .takeable .ensures) ∙ c .if1 .left)
+
+pub slot-way-spec : {M : Type 1} → statement M
+slot-way-spec =
+    tie.close (tie.spec enum-told enum-known-s takeable-requires returns returns-2 returns-3)
