@@ -9,12 +9,15 @@ use lib.Seq.{sets}
 use Rattle.wire.specs.Numbers.{bytes}
 use Rattle.wire.proofs.NumberLaws.{length-bytes}
 use Rattle.wire.proofs.Splice.{sets-at, sets-whole}
-use Rattle.fid.specs.Fid.{encodeFid}
+use Rattle.fid.specs.Fid.{encodeFid, zeroFid}
+use Rattle.fid.specs.declared.MdtFid.{MdtFid}
 use Rattle.fid.specs.declared.Fid.{Fid}
 use Rattle.fid.proofs.FidLaws.{length-encode}
 use Rattle.tables.specs.Records.{object}
 use Rattle.tables.specs.Bytes.{objectSize, encodeOwner, claimFid, mark, encodeObject, renderObject}
 use Rattle.tables.specs.declared.Owner.{Owner}
+use Rattle.tables.specs.declared.Claim.{Claim}
+use Rattle.tables.specs.declared.Claim.the-variants.{Unclaimed, Claims}
 use Rattle.tables.specs.declared.Object.{Object}
 use Rattle.rules.specs.Repairs.{destroyed}
 use Rattle.repair.proofs.StoreLaws.{length-owner}
@@ -56,3 +59,20 @@ zero-stores a b c d e f g h n s1 s2 s3 s4 s5 s6 s7 = rw (s7, s6, s5, s4, s3, s2,
 pub length-destroyed : length (renderObject destroyed) ≡ objectSize
 unfolding renderObject destroyed
 length-destroyed = refl
+
+-- the same as runs of stores, one in the other
+pub object-nested : (a : List ℕ) (x : Object) → length a ≡ objectSize →
+    set (sets (sets (sets (sets (set a 0 1) 1 (encodeFid (x .fid .0))) 17 (bytes 4 (x .ost))) 21 (encodeOwner (x .owner))) 29 (encodeFid (claimFid (x .claim)))) 45 (mark (x .fresh)) ≡ renderObject (object x)
+object-nested a x h = object-stores a _ _ _ _ _ _ x _ _ h refl refl refl refl refl refl refl refl
+
+pub zero-nested : (a : List ℕ) → length a ≡ objectSize →
+    sets (sets (sets (sets (sets (sets (sets a 0 (bytes 8 0)) 8 (bytes 8 0)) 16 (bytes 8 0)) 24 (bytes 8 0)) 32 (bytes 8 0)) 40 (bytes 4 0)) 44 (bytes 2 0) ≡ renderObject destroyed
+zero-nested a h = zero-stores a _ _ _ _ _ _ _ h refl refl refl refl refl refl refl
+
+pub claim-none : (k : Claim) → k ≡ Unclaimed → _≡_ {A = Fid} (record { seq = 0; oid = 0; ver = 0 }) (claimFid k)
+unfolding claimFid zeroFid
+claim-none k e = rw e
+
+pub claim-some : (k : Claim) (f : MdtFid) (i : ℕ) → k ≡ Claims f i → _≡_ {A = Fid} (record { seq = f .0 .seq; oid = f .0 .oid; ver = i }) (claimFid k)
+unfolding claimFid
+claim-some k f i e = rw e

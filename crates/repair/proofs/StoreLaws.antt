@@ -38,6 +38,9 @@ pub owner-stores : (l x y : List ℕ) (at : ℕ) (w : Owner) → x ≡ sets l at
 unfolding encodeOwner
 owner-stores l x y at w p q = rw (q, p) (sets-at (bytes 4 (w .uid)) (bytes 4 (w .gid)) l at 4 (length-bytes 4 (w .uid)))
 
+pub owner-nested : (l : List ℕ) (at : ℕ) (w : Owner) → sets (sets l at (bytes 4 (w .uid))) (at + 4) (bytes 4 (w .gid)) ≡ sets l at (encodeOwner w)
+owner-nested l at w = owner-stores l _ _ at w refl refl
+
 -- ## Holes
 
 -- the row with the first k holes

@@ -5,20 +5,18 @@ use layout::Header;
 use layout::Slot;
 use tables::rows;
 use tables::rows::LAYOUT_START;
-use tables::rows::PARENT_SIZE;
 use tables::Owner;
 ghost use mathlib.Core.Path.{_≡_};
-ghost use mathlib.Core.List.{[]};
-ghost use mathlib.Core.Bool.{true};
-ghost use Prim.Native.Nat.{suc, _+_, _*_, _/_, _≤_, _<_};
-ghost use lib.ListN.{length, drop};
+ghost use Prim.Native.Nat.{_≤_, _<_};
+ghost use lib.ListN.{length, set, drop};
 ghost use lib.Seq.{sets};
+ghost use Rattle.wire.specs.Numbers.{bytes};
+ghost use Rattle.fid.specs.Fid.{encodeFid};
 ghost use Rattle.layout.specs.Layout.{maxSlots, stripeCount};
-ghost use Rattle.tables.specs.Bytes.{parentSize, isUsed, layoutBytes, parseParent, renderParent, parse};
-ghost use Rattle.tables.specs.Positions.{rowAt};
-ghost use Rattle.tables.specs.Check.{goodLayout};
+ghost use Rattle.tables.specs.Bytes.{parentSize, encodeOwner, layoutBytes, parseParent, renderParent};
 ghost use Rattle.rules.specs.Repairs.{withOwn, withSlot, grown, made, ownHeader};
 ghost use Rattle.repair.specs.Made.{madeHeader};
+ghost use Rattle.repair.specs.UsedRow.{UsedRow};
 
 // The header with the own id and own sequence of its file.
 fn own_header(h: Header, f: MdtFid) -> Header
@@ -37,7 +35,7 @@ fn own_header(h: Header, f: MdtFid) -> Header
 
 // Writes own id and own sequence.
 pub fn put_own(row: &mut [u8])
-    requires { ⌜ (length (now row) ≡ parentSize) × (isUsed (now row) ≡ true) × (goodLayout (now row) ≡ true) ⌝ }
+    requires { ⌜ UsedRow (now row) ⌝ }
     ensures { λ _. ⌜ now (row .exit) ≡ renderParent (withOwn (parseParent (now (row .entry)))) ⌝ }
 {
     let f = rows::self_of(row);
@@ -49,7 +47,7 @@ pub fn put_own(row: &mut [u8])
 
 // Writes slot j.
 pub fn put_slot(row: &mut [u8], j: usize, s: Slot)
-    requires { ⌜ (length (now row) ≡ parentSize) × (isUsed (now row) ≡ true) × (goodLayout (now row) ≡ true) × (j < stripeCount (layoutBytes (now row))) ⌝ }
+    requires { ⌜ UsedRow (now row) × (j < stripeCount (layoutBytes (now row))) ⌝ }
     ensures { λ _. ⌜ now (row .exit) ≡ renderParent (withSlot (parseParent (now (row .entry))) j s) ⌝ }
 {
     let start = layout::slot_start(rows::layout_of(row));
@@ -58,7 +56,7 @@ pub fn put_slot(row: &mut [u8], j: usize, s: Slot)
 
 // Grows the layout to i + 1 slots, the last of which is s and the others new are holes.
 pub fn grow(row: &mut [u8], i: usize, s: Slot)
-    requires { ⌜ (length (now row) ≡ parentSize) × (isUsed (now row) ≡ true) × (goodLayout (now row) ≡ true) × (stripeCount (layoutBytes (now row)) ≤ i) × (i < maxSlots) ⌝ }
+    requires { ⌜ UsedRow (now row) × (stripeCount (layoutBytes (now row)) ≤ i) × (i < maxSlots) ⌝ }
     ensures { λ _. ⌜ now (row .exit) ≡ renderParent (withSlot (grown (parseParent (now (row .entry))) i) i s) ⌝ }
 {
     let l = rows::layout_of(row);
@@ -87,17 +85,25 @@ fn made_header(f: MdtFid) -> Header
     }
 }
 
+// What stands in front of a layout of this size: the mark, the file and its owner.
+fn put_front(row: &mut [u8], f: MdtFid, w: Owner, size: u16)
+    requires { ⌜ 27 ≤ length (now row) ⌝ }
+    ensures { λ _. ⌜ now (row .exit) ≡ sets (sets (sets (set (now (row .entry)) 0 1) 1 (encodeFid (f .0))) 17 (encodeOwner w)) 25 (bytes 2 size) ⌝ }
+{
+    let name = f.0;
+    stores::put_byte(row, 0, 1);
+    fid::write_fid(row, 1, name);
+    stores::put_owner(row, 17, w);
+    wire::put_le16(row, 25, size);
+}
+
 // Makes a parent of i + 1 slots, the last of which is s and the others are holes.
 pub fn make(row: &mut [u8], f: MdtFid, i: usize, w: Owner, s: Slot)
     requires { ⌜ (length (now row) ≡ parentSize) × (i < maxSlots) ⌝ }
     ensures { λ _. ⌜ now (row .exit) ≡ renderParent (withSlot (made f i w (drop 1 (now (row .entry)))) i s) ⌝ }
 {
-    let name = f.0;
     let size = 32 + 24 * (i + 1);
-    stores::put_byte(row, 0, 1);
-    fid::write_fid(row, 1, name);
-    stores::put_owner(row, 17, w);
-    wire::put_le16(row, 25, size as u16);
+    put_front(row, f, w, size as u16);
     stores::put_header(row, LAYOUT_START, made_header(f), (i + 1) as u16);
     stores::put_holes(row, 59, i + 1);
     stores::put_slot(row, 59 + 24 * i, s);

@@ -1,3 +1,10 @@
+use denote.Ref.{now}
+use Prim.Native.Nat.{ℕ, _+_, _*_}
+use native.Mathlib.Omega.{arith}
+use Rattle.rules.specs.Repairs.{destroyed}
+use Rattle.tables.specs.Bytes.{renderObject}
+use Rattle.repair.proofs.StoreLaws.{part-whole}
+use Rattle.repair.proofs.ObjectStores.{length-destroyed}
 use borrow.Author.Needs.{needs}
 use Rattle.repair.proofs.objects.destroy.Statement.{statement}
 use Rattle.repair.proofs.objects.destroy.Tie as tie
@@ -35,7 +42,7 @@ same-length c = search needs
 
 -- src/objects.rt:84:1
 returns : tie.Need-returns
-returns c = ?
+returns c = let a = c .before .before .before .before .before .args in part-whole (46 * a .o) 46 (now (a .objects)) (renderObject destroyed) _ (c .before .before .zero-row .ensures) length-destroyed (omega arith)
 
 pub destroy-spec : {M : Type 1} → statement M
 destroy-spec =

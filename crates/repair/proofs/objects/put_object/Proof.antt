@@ -1,3 +1,10 @@
+use denote.Ref.{now}
+use Prim.Native.Nat.{ℕ, _+_, _*_}
+use native.Mathlib.Omega.{arith}
+use Rattle.tables.specs.Records.{object}
+use Rattle.tables.specs.Bytes.{renderObject}
+use Rattle.repair.proofs.StoreLaws.{part-whole}
+use Rattle.repair.proofs.ObjectStores.{length-object}
 use borrow.Author.Needs.{needs}
 use Rattle.repair.proofs.objects.put_object.Statement.{statement}
 use Rattle.repair.proofs.objects.put_object.Tie as tie
@@ -35,7 +42,7 @@ same-length c = search needs
 
 -- src/objects.rt:74:1
 returns : tie.Need-returns
-returns c = ?
+returns c = let a = c .before .before .before .before .before .args in part-whole (46 * a .o) 46 (now (a .objects)) (renderObject (object (a .x))) _ (c .before .before .put-row .ensures) (length-object (a .x)) (omega arith)
 
 pub put-object-spec : {M : Type 1} → statement M
 put-object-spec =

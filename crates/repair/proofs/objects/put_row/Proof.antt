@@ -1,3 +1,6 @@
+use denote.Ref.{now}
+use native.Mathlib.Omega.{arith}
+use Rattle.repair.proofs.ObjectStores.{object-nested}
 use borrow.Author.Needs.{needs}
 use Rattle.repair.proofs.objects.put_row.Statement.{statement}
 use Rattle.repair.proofs.objects.put_row.Tie as tie
@@ -48,7 +51,7 @@ same-length c = search needs
 
 -- src/objects.rt:44:1
 returns : tie.Need-returns
-returns c = ?
+returns c = let a = c .before .before .before .before .before .before .before .before .before .before .before .before .before .before .before .before .before .before .before .before .before .before .before .before .before .before .before .before .before .args in cc (object-nested (now (a .row)) (a .x) (omega arith))
 
 pub put-row-spec : {M : Type 1} → statement M
 put-row-spec =

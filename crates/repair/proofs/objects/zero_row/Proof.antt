@@ -1,3 +1,6 @@
+use denote.Ref.{now}
+use native.Mathlib.Omega.{arith}
+use Rattle.repair.proofs.ObjectStores.{zero-nested}
 use borrow.Author.Needs.{needs}
 use Rattle.repair.proofs.objects.zero_row.Statement.{statement}
 use Rattle.repair.proofs.objects.zero_row.Tie as tie
@@ -41,7 +44,7 @@ same-length c = search needs
 
 -- src/objects.rt:60:1
 returns : tie.Need-returns
-returns c = ?
+returns c = let a = c .before .before .before .before .before .before .before .before .before .before .before .before .before .before .before .before .before .before .before .before .before .before .before .before .before .before .before .before .before .args in cc (zero-nested (now (a .row)) (omega arith))
 
 pub zero-row-spec : {M : Type 1} → statement M
 zero-row-spec =

@@ -1,3 +1,5 @@
+use mathlib.Core.Path.{refl}
+use Rattle.repair.specs.Made.{madeHeader}
 use borrow.Author.Needs.{needs}
 use Rattle.repair.proofs.parents.made_header.Statement.{statement}
 use Rattle.repair.proofs.parents.made_header.Tie as tie
@@ -10,7 +12,8 @@ cast-t3 c = search needs
 
 -- src/parents.rt:76:1
 returns : tie.Need-returns
-returns c = ?
+unfolding madeHeader
+returns c = refl
 
 pub made-header-spec : {M : Type 1} → statement M
 made-header-spec = tie.close (tie.spec cast-t3 returns)

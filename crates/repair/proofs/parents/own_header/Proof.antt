@@ -1,3 +1,5 @@
+use mathlib.Core.Path.{refl}
+use Rattle.rules.specs.Repairs.{ownHeader}
 use borrow.Author.Needs.{needs}
 use Rattle.repair.proofs.parents.own_header.Statement.{statement}
 use Rattle.repair.proofs.parents.own_header.Tie as tie
@@ -10,7 +12,8 @@ cast-t4 c = search needs
 
 -- src/parents.rt:24:1
 returns : tie.Need-returns
-returns c = ?
+unfolding ownHeader
+returns c = refl
 
 pub own-header-spec : {M : Type 1} → statement M
 own-header-spec = tie.close (tie.spec cast-t4 returns)

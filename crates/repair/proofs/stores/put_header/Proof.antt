@@ -1,3 +1,9 @@
+use denote.Ref.{now}
+use Prim.Native.Nat.{ℕ, _+_, _*_}
+use native.Mathlib.Omega.{arith}
+use Rattle.layout.specs.Layout.{encodeHeader}
+use Rattle.layout.proofs.HeaderLaws.{length-header}
+use Rattle.repair.proofs.StoreLaws.{part-over}
 use borrow.Author.Needs.{needs}
 use Rattle.repair.proofs.stores.put_header.Statement.{statement}
 use Rattle.repair.proofs.stores.put_header.Tie as tie
@@ -31,7 +37,7 @@ same-length c = search needs
 
 -- src/stores.rt:32:1
 returns : tie.Need-returns
-returns c = ?
+returns c = let a = c .before .before .before .before .before .args in part-over (a .at) 32 (now (a .row)) (encodeHeader (a .h) (a .count)) _ (c .before .before .write-header .ensures) (length-header (a .h) (a .count)) (omega arith)
 
 pub put-header-spec : {M : Type 1} → statement M
 put-header-spec =

@@ -1,3 +1,5 @@
+use denote.Ref.{now}
+use Rattle.repair.proofs.StoreLaws.{owner-nested}
 use borrow.Author.Needs.{needs}
 use Rattle.repair.proofs.stores.put_owner.Statement.{statement}
 use Rattle.repair.proofs.stores.put_owner.Tie as tie
@@ -23,7 +25,7 @@ same-length c = search needs
 
 -- src/stores.rt:23:1
 returns : tie.Need-returns
-returns c = ?
+returns c = let a = c .before .before .before .before .before .before .before .before .before .args in cc (owner-nested (now (a .row)) (a .at) (a .w))
 
 pub put-owner-spec : {M : Type 1} → statement M
 put-owner-spec =

@@ -1,3 +1,9 @@
+use denote.Ref.{now}
+use Prim.Native.Nat.{ℕ, _+_, _*_}
+use native.Mathlib.Omega.{arith}
+use Rattle.layout.specs.Slot.{encodeSlot}
+use Rattle.layout.proofs.SlotLaws.{length-slot}
+use Rattle.repair.proofs.StoreLaws.{part-whole}
 use borrow.Author.Needs.{needs}
 use Rattle.repair.proofs.stores.put_slot.Statement.{statement}
 use Rattle.repair.proofs.stores.put_slot.Tie as tie
@@ -31,7 +37,7 @@ same-length c = search needs
 
 -- src/stores.rt:41:1
 returns : tie.Need-returns
-returns c = ?
+returns c = let a = c .before .before .before .before .before .args in part-whole (a .at) 24 (now (a .row)) (encodeSlot (a .s)) _ (c .before .before .put-slot .ensures) (length-slot (a .s)) (omega arith)
 
 pub put-slot-spec : {M : Type 1} → statement M
 put-slot-spec =
