@@ -5,3 +5,4 @@ pub mod RowStores
 pub mod FileLaws
 pub mod TableLaws
 pub mod StepLaws
+pub mod SlotSteps

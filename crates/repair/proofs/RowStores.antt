@@ -10,6 +10,7 @@ use lib.Seq.{sets, length-sets, length-take-le}
 use Rattle.wire.specs.Numbers.{bytes, Bytes}
 use Rattle.fid.specs.Fid.{encodeFid}
 use Rattle.fid.specs.declared.MdtFid.{MdtFid}
+use Rattle.layout.specs.declared.Header.{Header}
 use Rattle.layout.specs.declared.Slot.{Slot}
 use Rattle.layout.specs.declared.Slot.the-variants.{Hole}
 use Rattle.layout.specs.Slot.{encodeSlot, encodeSlots}
@@ -167,6 +168,11 @@ module _ (row : List ℕ) (b : Bytes row) (u : UsedRow row) where
         ap (λ (y : List ℕ). sets y (27 + slotStart l + 24 * i) (encodeSlot s)) longer-is in
         e ∙ grown-slot p i (27 + slotStart l + 24 * i) s (omega arith) (omega arith)
         ∙ ap (λ (w : ParentRow). renderParent (withSlot (grown w i) i s)) (sym (parent-used row (u .used)))
+
+    pub grow-stores : (l : List ℕ) → l ≡ layoutBytes row → (hd : Header) → hd ≡ decodeHeader l → (st : ℕ) → st ≡ slotStart l → (n : ℕ) → n ≡ stripeCount l → (x1 x2 x3 x4 : List ℕ) →
+        x1 ≡ sets row 25 (bytes 2 (st + 24 * (i + 1))) → x2 ≡ sets x1 27 (encodeHeader hd (i + 1)) → x3 ≡ sets x2 (27 + st + 24 * n) (encodeSlots (replicate (i + 1 - n) Hole)) →
+        x4 ≡ sets x3 (27 + st + 24 * i) (encodeSlot s) → x4 ≡ renderParent (withSlot (grown (parseParent row) i) i s)
+    grow-stores l el hd eh st es n en x1 x2 x3 x4 q1 q2 q3 q4 = rw (q4, q3, q2, q1, en, es, eh, el) grow-nested
 
     pub grow-length : length (renderParent (withSlot (grown (parseParent row) i) i s)) ≡ parentSize
     grow-length =

@@ -40,63 +40,67 @@ use Rattle.repair.proofs.TableLaws.{parents-put, objects-put, parents-k
 
 -- ## Any step
 
-outcome-rests : (s : Step) → s ≡ rests → Rested ≡ outcome s
+pub outcome-rests : (s : Step) → s ≡ rests → Rested ≡ outcome s
 unfolding outcome
 outcome-rests s e = rw e
 
-outcome-stops : (s : Step) (a : ℕ) → s ≡ stops a → Stopped a ≡ outcome s
+pub outcome-stops : (s : Step) (a : ℕ) → s ≡ stops a → Stopped a ≡ outcome s
 unfolding outcome
 outcome-stops s a e = rw e
 
-outcome-repairs : (s : Step) (c : Repair) (ws : List Write) → s ≡ repairs c ws → Repaired c ≡ outcome s
+pub outcome-repairs : (s : Step) (c : Repair) (ws : List Write) → s ≡ repairs c ws → Repaired c ≡ outcome s
 unfolding outcome
 outcome-repairs s c ws e = rw e
 
 module _ (p o : List ℕ) (h : Sound p o) where
   module _ (b : Bytes p) where
-    parents-rests : (s : Step) → s ≡ rests → p ≡ parentsBy s p o
+    pub parents-rests : (s : Step) → s ≡ rests → p ≡ parentsBy s p o
     unfolding parentsBy stepTables
     parents-rests s e = rw e (sym (parents-back p o h b))
 
-    parents-stops : (s : Step) (a : ℕ) → s ≡ stops a → p ≡ parentsBy s p o
+    pub parents-stops : (s : Step) (a : ℕ) → s ≡ stops a → p ≡ parentsBy s p o
     unfolding parentsBy stepTables
     parents-stops s a e = rw e (sym (parents-back p o h b))
 
     -- one parent row
-    parents-one : (s : Step) (c : Repair) (r : ℕ) (w : ParentRow) (x : List ℕ) → s ≡ repairs c (writeParent r w ∷ []) → r < length p / parentSize → length (renderParent w) ≡ parentSize →
+    pub parents-one : (s : Step) (c : Repair) (r : ℕ) (w : ParentRow) (x : List ℕ) → s ≡ repairs c (writeParent r w ∷ []) → r < length p / parentSize → length (renderParent w) ≡ parentSize →
         x ≡ sets p (parentSize * r) (renderParent w) → x ≡ parentsBy s p o
     unfolding parentsBy stepTables applyWrites applyWrite
     parents-one s c r w x e k n q = rw e (q ∙ sym (parents-put p o h b (parse p o) refl r w k n))
 
     -- one object row
-    parents-same : (s : Step) (c : Repair) (i : ℕ) (v : ObjectRow) → s ≡ repairs c (writeObject i v ∷ []) → p ≡ parentsBy s p o
+    pub parents-same : (s : Step) (c : Repair) (i : ℕ) (v : ObjectRow) → s ≡ repairs c (writeObject i v ∷ []) → p ≡ parentsBy s p o
     unfolding parentsBy stepTables applyWrites applyWrite
     parents-same s c i v e = rw e (sym (parents-kept (parse p o) i v ∙ parents-back p o h b))
 
     -- an object row, then a parent row
-    parents-two : (s : Step) (c : Repair) (i : ℕ) (v : ObjectRow) (r : ℕ) (w : ParentRow) (x : List ℕ) → s ≡ repairs c (writeObject i v ∷ writeParent r w ∷ []) → r < length p / parentSize →
+    pub parents-two : (s : Step) (c : Repair) (i : ℕ) (v : ObjectRow) (r : ℕ) (w : ParentRow) (x : List ℕ) → s ≡ repairs c (writeObject i v ∷ writeParent r w ∷ []) → r < length p / parentSize →
         length (renderParent w) ≡ parentSize → x ≡ sets p (parentSize * r) (renderParent w) → x ≡ parentsBy s p o
     unfolding parentsBy stepTables applyWrites applyWrite putObject
     parents-two s c i v r w x e k n q = rw e (q ∙ sym (parents-put p o h b (putObject (parse p o) i v) refl r w k n))
 
   module _ (b : Bytes o) where
-    objects-stops : (s : Step) (a : ℕ) → s ≡ stops a → o ≡ objectsBy s p o
+    pub objects-rests : (s : Step) → s ≡ rests → o ≡ objectsBy s p o
+    unfolding objectsBy stepTables
+    objects-rests s e = rw e (sym (objects-back p o h b))
+
+    pub objects-stops : (s : Step) (a : ℕ) → s ≡ stops a → o ≡ objectsBy s p o
     unfolding objectsBy stepTables
     objects-stops s a e = rw e (sym (objects-back p o h b))
 
-    objects-one : (s : Step) (c : Repair) (i : ℕ) (v : ObjectRow) (x : List ℕ) → s ≡ repairs c (writeObject i v ∷ []) → i < length o / objectSize → length (renderObject v) ≡ objectSize →
+    pub objects-one : (s : Step) (c : Repair) (i : ℕ) (v : ObjectRow) (x : List ℕ) → s ≡ repairs c (writeObject i v ∷ []) → i < length o / objectSize → length (renderObject v) ≡ objectSize →
         x ≡ sets o (objectSize * i) (renderObject v) → x ≡ objectsBy s p o
     unfolding objectsBy stepTables applyWrites applyWrite
     objects-one s c i v x e k n q = rw e (q ∙ sym (objects-put p o h b (parse p o) refl i v k n))
 
-    objects-two : (s : Step) (c : Repair) (i : ℕ) (v : ObjectRow) (r : ℕ) (w : ParentRow) (x : List ℕ) → s ≡ repairs c (writeObject i v ∷ writeParent r w ∷ []) → i < length o / objectSize →
+    pub objects-two : (s : Step) (c : Repair) (i : ℕ) (v : ObjectRow) (r : ℕ) (w : ParentRow) (x : List ℕ) → s ≡ repairs c (writeObject i v ∷ writeParent r w ∷ []) → i < length o / objectSize →
         length (renderObject v) ≡ objectSize → x ≡ sets o (objectSize * i) (renderObject v) → x ≡ objectsBy s p o
     unfolding objectsBy stepTables applyWrites applyWrite
     objects-two s c i v r w x e k n q = rw e (q ∙ sym (objects-kept (putObject (parse p o) i v) r w ∙ objects-put p o h b (parse p o) refl i v k n))
 
 -- ## Rows
 
-row-is : (p o : List ℕ) (r : ℕ) → r < length p / parentSize → rowAt (parse p o) r ≡ parseParent (rowBytes p r)
+pub row-is : (p o : List ℕ) (r : ℕ) → r < length p / parentSize → rowAt (parse p o) r ≡ parseParent (rowBytes p r)
 unfolding rowBytes
 row-is p o r k = parsed-row p o r k
 

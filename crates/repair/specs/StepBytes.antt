@@ -1,6 +1,6 @@
 -- One step on the lent bytes: the rules' step between `parse` and `render`.
 use mathlib.Core.Path.{_≡_}
-use mathlib.Core.List.{List}
+use mathlib.Core.List.{List, []}
 use mathlib.Core.Bool.{true, false}
 use Prim.Native.Nat.{ℕ, _<_}
 use Rattle.tables.specs.Bytes.{parse, parseReserve, renderParents, renderObjects}
@@ -11,10 +11,12 @@ use Rattle.tables.specs.Positions.{rowAt}
 use Rattle.fid.specs.declared.OstFid.{OstFid}
 use Rattle.layout.specs.Layout.{stripeCount}
 use Rattle.tables.specs.Bytes.{layoutBytes}
-use Rattle.rules.specs.Rows.{objectRow, freeObject}
-use Rattle.rules.specs.Classes.{headerClass}
+use Rattle.tables.specs.declared.Object.{Object}
+use Rattle.tables.specs.declared.Claim.the-variants.{Claims}
+use Rattle.rules.specs.Rows.{selfOf, ownerOf, objectRow, freeObject}
+use Rattle.rules.specs.Classes.{headerClass, slotClass}
 use Rattle.rules.specs.declared.Repair.{Repair}
-use Rattle.rules.specs.Repairs.{Step, repairHeader, newObject, redirectTo, makeObject, writeClaim, writeOwner}
+use Rattle.rules.specs.Repairs.{Step, repairHeader, newObject, usable, redirectTo, redirect, makeObject, withClaim, withOwner, writeClaim, writeOwner, repairSlot}
 use Rattle.rules.specs.Steps.{stepAt}
 use Rattle.repair.specs.UsedRow.{rowBytes, UsedAt}
 use Rattle.rules.specs.Runs.{stepTables}
@@ -71,3 +73,19 @@ claimOf parents objects class r j f = let T = parse parents objects in writeClai
 -- OWNER
 unfoldable pub ownerStepOf : List ℕ → List ℕ → ℕ → OstFid → Step
 ownerStepOf parents objects r f = let T = parse parents objects in writeOwner T r (objectRow T f)
+
+-- MULTIPLE
+unfoldable pub redirectBy : List ℕ → List ℕ → List ℕ → ℕ → ℕ → ℕ → Step
+redirectBy parents objects reserve r j ost = let T = parse parents objects in redirect T r j ost (usable T (parseReserve reserve))
+
+-- an object with the claim of a slot and its file's owner, or with that owner
+unfoldable pub claimedBy : List ℕ → ℕ → ℕ → Object → Object
+claimedBy parents r j x = let w = rowAt (parse parents []) r in withClaim x (Claims (selfOf w) j) (ownerOf w)
+
+unfoldable pub ownedBy : List ℕ → ℕ → Object → Object
+ownedBy parents r x = withOwner x (ownerOf (rowAt (parse parents []) r))
+
+-- the repair of a slot by its class
+unfoldable pub slotRepairOf : List ℕ → List ℕ → List ℕ → ℕ → ℕ → ℕ → OstFid → ℕ → Step
+slotRepairOf parents objects reserve policy r j f ost =
+    let T = parse parents objects in repairSlot policy (parseReserve reserve) T r j f ost (slotClass T r j)

@@ -8,10 +8,7 @@ use rules::HeaderClass;
 use rules::Outcome;
 use rules::Repair;
 use rules::Row;
-use rules::Usable;
-use search::reserve;
 use tables::rows;
-use tables::rows::OBJECT_SIZE;
 use tables::rows::PARENT_SIZE;
 use tables::Claim;
 use tables::Object;
@@ -19,15 +16,12 @@ ghost use mathlib.Core.Path.{_≡_};
 ghost use mathlib.Core.List.{[]};
 ghost use Prim.Native.Nat.{_/_, _<_};
 ghost use lib.ListN.{length};
-ghost use Rattle.tables.specs.Bytes.{parentSize, parse, parseReserve};
-ghost use Rattle.tables.specs.Positions.{rowAt};
+ghost use Rattle.tables.specs.Bytes.{parentSize, parse};
 ghost use Rattle.tables.specs.Check.{Sound};
-ghost use Rattle.tables.specs.declared.Claim.the-variants.{Claims};
-ghost use Rattle.rules.specs.Rows.{selfOf, ownerOf};
-ghost use Rattle.rules.specs.Repairs.{newObject, withClaim, withOwner, usable, redirect};
+ghost use Rattle.rules.specs.Repairs.{newObject};
 ghost use Rattle.rules.specs.Runs.{outcome};
 ghost use Rattle.repair.specs.UsedRow.{UsedAt};
-ghost use Rattle.repair.specs.StepBytes.{SlotReady, parentsBy, objectsBy, headerOf, redirectOf, makeOf, claimOf, ownerStepOf};
+ghost use Rattle.repair.specs.StepBytes.{SlotReady, parentsBy, objectsBy, headerOf, redirectOf, makeOf};
 
 // The step of the header of parent row r: SELF is mended.
 pub fn header_step(parents: &mut [u8], objects: &[u8], r: usize) -> Outcome

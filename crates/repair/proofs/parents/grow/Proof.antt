@@ -1,7 +1,7 @@
 use denote.Ref.{now}
 use native.Mathlib.Omega.{arith}
 use Rattle.wire.specs.Numbers.{Bytes}
-use Rattle.repair.proofs.RowStores.{used-facts, row-start, row-count, grow-nested}
+use Rattle.repair.proofs.RowStores.{used-facts, row-start, row-count, grow-stores}
 use borrow.Author.Needs.{needs}
 use Rattle.repair.proofs.parents.grow.Statement.{statement}
 use Rattle.repair.proofs.parents.grow.Tie as tie
@@ -115,7 +115,11 @@ same-length c = search needs
 -- src/parents.rt:60:1
 returns : tie.Need-returns
 unfolding Bytes
-returns c = let d = c .before .before .before .before .before .before .before .before .before .before .before .before .before .before .before .before .before .before .before .before .before .before in cc (grow-nested (now (d .args .row)) (λ i. c .before .before .before .before .before .before .before .before .before .before .before .before .before .before .before .before .before .before .before .before .before .slice-known .given i .fits) (d .pre .0) (d .args .i) (d .args .s) (d .pre .1) (d .pre .2))
+returns c =
+    let d = c .before .before .before .before .before .before .before .before .before .before .before .before .before .before .before .before .before .before .before .before .before .before in let a = d .args in
+    grow-stores (now (a .row)) (λ i. c .before .before .before .before .before .before .before .before .before .before .before .before .before .before .before .before .before .before .before .before .before .slice-known .given i .fits) (d .pre .0) (a .i) (a .s) (d .pre .1) (d .pre .2)
+    _ (c .before .before .before .before .before .before .before .before .before .before .before .before .before .before .before .before .before .before .before .layout-of .ensures .0) _ (c .before .before .before .before .before .before .before .before .before .before .before .before .before .before .before .before .before .before .read-header .ensures) _ (c .before .before .before .before .before .before .before .before .before .before .before .before .before .before .before .before .before .slot-start .ensures) _ (c .before .before .before .before .before .before .before .before .before .before .before .before .before .before .before .before .stripe-count .ensures)
+    _ _ _ _ (c .before .before .before .before .before .before .before .before .before .before .before .before .before .before .put-le16 .ensures) (c .before .before .before .before .before .before .before .before .before .before .put-header .ensures) (c .before .before .before .before .before .before .put-holes .ensures) (c .before .before .put-slot .ensures)
 
 pub grow-spec : {M : Type 1} → statement M
 grow-spec =
