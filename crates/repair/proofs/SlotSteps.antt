@@ -8,7 +8,8 @@ use Rattle.wire.specs.Numbers.{Bytes}
 use Rattle.fid.specs.declared.MdtFid.{MdtFid}
 use Rattle.fid.specs.declared.OstFid.{OstFid}
 use Rattle.tables.specs.Records.{ParentRow, parent, ObjectRow, object, Tables}
-use mathlib.Core.Bool.{true, false}
+use mathlib.Core.Bool.{Bool, true, false}
+use native.Mathlib.Omega.{arith}
 use Rattle.tables.specs.Bytes.{parentSize, objectSize, isUsed, decodeParent, parseParent, decodeObject, parseObject, renderObject, parse, parseReserve}
 use Rattle.tables.specs.Positions.{rowAt}
 use Rattle.tables.specs.Check.{Sound}
@@ -43,9 +44,9 @@ module _ (p : List ℕ) (r : ℕ) (u : UsedAt p r) (row : List ℕ) (e : row ≡
 -- ## Steps
 
 -- the same step under another name
-pub carry : (p o : List ℕ) (a b : Step) → a ≡ b → (x : Outcome) (y z : List ℕ) → (x ≡ outcome a) × (y ≡ parentsBy a p o) × (z ≡ objectsBy a p o) →
-    (x ≡ outcome b) × (y ≡ parentsBy b p o) × (z ≡ objectsBy b p o)
-carry p o a b e x y z t = subst (λ (s : Step). (x ≡ outcome s) × (y ≡ parentsBy s p o) × (z ≡ objectsBy s p o)) e t
+pub carry : (p o : List ℕ) (a b : Step) → a ≡ b → (x : Outcome) (y z : List ℕ) → (x ≡ outcome a) × ((y ≡ parentsBy a p o) × (z ≡ objectsBy a p o)) →
+    (x ≡ outcome b) × ((y ≡ parentsBy b p o) × (z ≡ objectsBy b p o))
+carry p o a b e x y z t = subst (λ (s : Step). (x ≡ outcome s) × ((y ≡ parentsBy s p o) × (z ≡ objectsBy s p o))) e t
 
 module _ (p o res : List ℕ) (r j ost : ℕ) (v : Usable) (e : v ≡ usable (parse p o) (parseReserve res)) where
   pub reserve-takes : (f : OstFid) → v ≡ Takes f → redirectOf p o r j ost f ≡ redirectBy p o res r j ost
@@ -57,8 +58,8 @@ module _ (p o res : List ℕ) (r j ost : ℕ) (v : Usable) (e : v ≡ usable (pa
   reserve-empty q = rw (← e, q)
 
   pub redirect-empty : Sound p o → Bytes p → Bytes o → v ≡ UsedUp →
-      (Stopped 21 ≡ outcome (redirectBy p o res r j ost)) × (p ≡ parentsBy (redirectBy p o res r j ost) p o) × (o ≡ objectsBy (redirectBy p o res r j ost) p o)
-  redirect-empty h b d q = let s = reserve-empty q in (outcome-stops _ _ s, parents-stops p o h b _ _ s, objects-stops p o h d _ _ s)
+      (Stopped 21 ≡ outcome (redirectBy p o res r j ost)) × ((p ≡ parentsBy (redirectBy p o res r j ost) p o) × (o ≡ objectsBy (redirectBy p o res r j ost) p o))
+  redirect-empty h b d q = let s = reserve-empty q in (outcome-stops _ _ s, (parents-stops p o h b _ _ s, objects-stops p o h d _ _ s))
 
 -- ## Objects rewritten
 
@@ -73,12 +74,12 @@ module _ (p o : List ℕ) (h : Sound p o) (b : Bytes p) (d : Bytes o) (f : OstFi
     owner-rests r = rw (← object-row-alone p o f, e)
 
     pub claim-absent : (class : Repair) (r j : ℕ) →
-        (Rested ≡ outcome (claimOf p o class r j f)) × (p ≡ parentsBy (claimOf p o class r j f) p o) × (o ≡ objectsBy (claimOf p o class r j f) p o)
-    claim-absent class r j = let s = claim-rests class r j in (outcome-rests _ s, parents-rests p o h b _ s, objects-rests p o h d _ s)
+        (Rested ≡ outcome (claimOf p o class r j f)) × ((p ≡ parentsBy (claimOf p o class r j f) p o) × (o ≡ objectsBy (claimOf p o class r j f) p o))
+    claim-absent class r j = let s = claim-rests class r j in (outcome-rests _ s, (parents-rests p o h b _ s, objects-rests p o h d _ s))
 
     pub owner-absent : (r : ℕ) →
-        (Rested ≡ outcome (ownerStepOf p o r f)) × (p ≡ parentsBy (ownerStepOf p o r f) p o) × (o ≡ objectsBy (ownerStepOf p o r f) p o)
-    owner-absent r = let s = owner-rests r in (outcome-rests _ s, parents-rests p o h b _ s, objects-rests p o h d _ s)
+        (Rested ≡ outcome (ownerStepOf p o r f)) × ((p ≡ parentsBy (ownerStepOf p o r f) p o) × (o ≡ objectsBy (ownerStepOf p o r f) p o))
+    owner-absent r = let s = owner-rests r in (outcome-rests _ s, (parents-rests p o h b _ s, objects-rests p o h d _ s))
 
   module _ (i : ℕ) (e : objectRow (parse [] o) f ≡ RowIs i) (row : List ℕ) (at : row ≡ take objectSize (drop (objectSize * i) o)) (x : Object) (q : x ≡ decodeObject row) where
     inside : i < length o / objectSize
@@ -97,16 +98,16 @@ module _ (p o : List ℕ) (h : Sound p o) (b : Bytes p) (d : Bytes o) (f : OstFi
 
     module _ (y : Object) (z : List ℕ) (t : z ≡ sets o (objectSize * i) (renderObject (object y))) where
       pub claim-done : (class : Repair) (r j : ℕ) → y ≡ claimedBy p r j x →
-          (Repaired class ≡ outcome (claimOf p o class r j f)) × (p ≡ parentsBy (claimOf p o class r j f) p o) × (z ≡ objectsBy (claimOf p o class r j f) p o)
+          (Repaired class ≡ outcome (claimOf p o class r j f)) × ((p ≡ parentsBy (claimOf p o class r j f) p o) × (z ≡ objectsBy (claimOf p o class r j f) p o))
       claim-done class r j g =
           let s : claimOf p o class r j f ≡ repairs class (writeObject i (object y) ∷ []) = claim-repairs class r j ∙ ap (λ (v : Object). repairs class (writeObject i (object v) ∷ [])) (sym g) in
-          (outcome-repairs _ _ _ s, parents-same p o h b _ _ i _ s, objects-one p o h d _ _ i _ z s inside (length-object y) t)
+          (outcome-repairs _ _ _ s, (parents-same p o h b _ _ i _ s, objects-one p o h d _ _ i _ z s inside (length-object y) t))
 
       pub owner-done : (r : ℕ) → y ≡ ownedBy p r x →
-          (Repaired OfOwner ≡ outcome (ownerStepOf p o r f)) × (p ≡ parentsBy (ownerStepOf p o r f) p o) × (z ≡ objectsBy (ownerStepOf p o r f) p o)
+          (Repaired OfOwner ≡ outcome (ownerStepOf p o r f)) × ((p ≡ parentsBy (ownerStepOf p o r f) p o) × (z ≡ objectsBy (ownerStepOf p o r f) p o))
       owner-done r g =
           let s : ownerStepOf p o r f ≡ repairs OfOwner (writeObject i (object y) ∷ []) = owner-repairs r ∙ ap (λ (v : Object). repairs OfOwner (writeObject i (object v) ∷ [])) (sym g) in
-          (outcome-repairs _ _ _ s, parents-same p o h b _ _ i _ s, objects-one p o h d _ _ i _ z s inside (length-object y) t)
+          (outcome-repairs _ _ _ s, (parents-same p o h b _ _ i _ s, objects-one p o h d _ _ i _ z s inside (length-object y) t))
 
 -- ## Objects made
 
@@ -163,5 +164,26 @@ module _ (p o res : List ℕ) (policy r j : ℕ) (f : OstFid) (ost : ℕ) (c : S
   unfolding slotRepairOf repairSlot ownerStepOf
   slot-owner q = rw (← e, q)
 
-pub rested : (p o : List ℕ) → Sound p o → Bytes p → Bytes o → (s : Step) → rests ≡ s → (Rested ≡ outcome s) × (p ≡ parentsBy s p o) × (o ≡ objectsBy s p o)
-rested p o h b d s e = (outcome-rests _ (sym e), parents-rests p o h b _ (sym e), objects-rests p o h d _ (sym e))
+pub rested : (p o : List ℕ) → Sound p o → Bytes p → Bytes o → (s : Step) → rests ≡ s → (Rested ≡ outcome s) × ((p ≡ parentsBy s p o) × (o ≡ objectsBy s p o))
+rested p o h b d s e = (outcome-rests _ (sym e), (parents-rests p o h b _ (sym e), objects-rests p o h d _ (sym e)))
+
+-- the class carries a claim
+unfoldable pub isUnmatched : SlotClass → Bool
+isUnmatched HOLE = false
+isUnmatched MULTIPLE = false
+isUnmatched DANGLING = false
+isUnmatched BLANK = false
+isUnmatched (UNMATCHED g i) = true
+isUnmatched OWNER = false
+isUnmatched CLEAN = false
+
+pub slot-carries : (p o res : List ℕ) (policy r j : ℕ) (f : OstFid) (ost : ℕ) (c : SlotClass) → c ≡ slotClass (parse p o) r j → isUnmatched c ≡ true →
+    claimOf p o OfUnmatched r j f ≡ slotRepairOf p o res policy r j f ost
+unfolding isUnmatched
+slot-carries p o res policy r j f ost HOLE e q = let z : _≡_ {A = ℕ} 0 1 = cc in absurd (omega arith)
+slot-carries p o res policy r j f ost MULTIPLE e q = let z : _≡_ {A = ℕ} 0 1 = cc in absurd (omega arith)
+slot-carries p o res policy r j f ost DANGLING e q = let z : _≡_ {A = ℕ} 0 1 = cc in absurd (omega arith)
+slot-carries p o res policy r j f ost BLANK e q = let z : _≡_ {A = ℕ} 0 1 = cc in absurd (omega arith)
+slot-carries p o res policy r j f ost (UNMATCHED g i) e q = slot-unmatched p o res policy r j f ost (UNMATCHED g i) e g i refl
+slot-carries p o res policy r j f ost OWNER e q = let z : _≡_ {A = ℕ} 0 1 = cc in absurd (omega arith)
+slot-carries p o res policy r j f ost CLEAN e q = let z : _≡_ {A = ℕ} 0 1 = cc in absurd (omega arith)

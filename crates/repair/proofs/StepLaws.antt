@@ -190,26 +190,26 @@ module _ (p o : List ℕ) (r j ost : ℕ) (f : OstFid) (h : Sound p o) (u : Used
   new-alone x q = q ∙ rw (row-alone p o r)
 
   pub redirect-none : freeObject (parse [] o) ≡ NoRow →
-      (Stopped 22 ≡ outcome (redirectOf p o r j ost f)) × (p ≡ parentsBy (redirectOf p o r j ost f) p o) × (o ≡ objectsBy (redirectOf p o r j ost f) p o)
-  redirect-none e = let s = redirect-stops e in (outcome-stops _ _ s, parents-stops p o h b _ _ s, objects-stops p o h d _ _ s)
+      (Stopped 22 ≡ outcome (redirectOf p o r j ost f)) × ((p ≡ parentsBy (redirectOf p o r j ost f) p o) × (o ≡ objectsBy (redirectOf p o r j ost f) p o))
+  redirect-none e = let s = redirect-stops e in (outcome-stops _ _ s, (parents-stops p o h b _ _ s, objects-stops p o h d _ _ s))
 
   pub make-none : freeObject (parse [] o) ≡ NoRow →
-      (Stopped 22 ≡ outcome (makeOf p o r j ost f)) × (p ≡ parentsBy (makeOf p o r j ost f) p o) × (o ≡ objectsBy (makeOf p o r j ost f) p o)
-  make-none e = let s = make-stops e in (outcome-stops _ _ s, parents-stops p o h b _ _ s, objects-stops p o h d _ _ s)
+      (Stopped 22 ≡ outcome (makeOf p o r j ost f)) × ((p ≡ parentsBy (makeOf p o r j ost f) p o) × (o ≡ objectsBy (makeOf p o r j ost f) p o))
+  make-none e = let s = make-stops e in (outcome-stops _ _ s, (parents-stops p o h b _ _ s, objects-stops p o h d _ _ s))
 
   module _ (i : ℕ) (e : freeObject (parse [] o) ≡ RowIs i) (x : Object) (q : x ≡ newObject (parse p []) f r j ost) (y : List ℕ) (t : y ≡ sets o (objectSize * i) (renderObject (object x))) where
     free-inside : i < length o / objectSize
     free-inside = free-object-inside [] o i e
 
     pub redirect-done : (z : List ℕ) → z ≡ sets p (parentSize * r) (renderParent (withSlot (parseParent (rowBytes p r)) j (Names f 0 ost))) →
-        (Repaired OfMultiple ≡ outcome (redirectOf p o r j ost f)) × (z ≡ parentsBy (redirectOf p o r j ost f) p o) × (y ≡ objectsBy (redirectOf p o r j ost f) p o)
+        (Repaired OfMultiple ≡ outcome (redirectOf p o r j ost f)) × ((z ≡ parentsBy (redirectOf p o r j ost f) p o) × (y ≡ objectsBy (redirectOf p o r j ost f) p o))
     redirect-done z v =
         let s = redirect-repairs i e x (new-alone x q) in
         (outcome-repairs _ _ _ s,
-        parents-two p o h b _ _ i _ r _ z s (row-inside p r u) (slot-length (rowBytes p r) (row-bytes p r b) (u .row) j (Names f 0 ost) m) v,
-        objects-two p o h d _ _ i _ r _ y s free-inside (length-object x) t)
+        (parents-two p o h b _ _ i _ r _ z s (row-inside p r u) (slot-length (rowBytes p r) (row-bytes p r b) (u .row) j (Names f 0 ost) m) v,
+        objects-two p o h d _ _ i _ r _ y s free-inside (length-object x) t))
 
-    pub make-done : (Repaired OfDangling ≡ outcome (makeOf p o r j ost f)) × (p ≡ parentsBy (makeOf p o r j ost f) p o) × (y ≡ objectsBy (makeOf p o r j ost f) p o)
+    pub make-done : (Repaired OfDangling ≡ outcome (makeOf p o r j ost f)) × ((p ≡ parentsBy (makeOf p o r j ost f) p o) × (y ≡ objectsBy (makeOf p o r j ost f) p o))
     make-done =
         let s = make-repairs i e x (new-alone x q) in
-        (outcome-repairs _ _ _ s, parents-same p o h b _ _ i _ s, objects-one p o h d _ _ i _ y s free-inside (length-object x) t)
+        (outcome-repairs _ _ _ s, (parents-same p o h b _ _ i _ s, objects-one p o h d _ _ i _ y s free-inside (length-object x) t))

@@ -1,3 +1,6 @@
+use denote.Ref.{now}
+use Rattle.repair.specs.UsedRow.{rowBytes}
+use Rattle.repair.proofs.SlotSteps.{new-is}
 use borrow.Author.Needs.{needs}
 use Rattle.repair.proofs.steps.new_object.Statement.{statement}
 use Rattle.repair.proofs.steps.new_object.Tie as tie
@@ -21,7 +24,8 @@ self-of-requires c κs = search needs
 
 -- src/steps.rt:50:1
 returns : tie.Need-returns
-returns c = ?
+unfolding rowBytes
+returns c = let d = c .before .before .before .before in let a = d .args in new-is (now (a .parents)) (a .r) (d .pre) _ (c .before .before .row-at .ensures .0) _ (c .before .owner-of .ensures) _ (c .self-of .ensures) (a .f) (a .j) (a .ost)
 
 pub new-object-spec : {M : Type 1} → statement M
 new-object-spec = tie.close (tie.spec row-at-requires owner-of-requires self-of-requires returns)

@@ -1,3 +1,9 @@
+use denote.Ref.{now}
+use native.Mathlib.Omega.{arith}
+use Rattle.wire.specs.Numbers.{Bytes}
+use mathlib.Core.List.{[]}
+use Rattle.search.proofs.ParsedRows.{free-object-inside}
+use Rattle.repair.proofs.StepLaws.{redirect-none, redirect-done}
 use borrow.Author.Needs.{needs}
 use Rattle.repair.proofs.steps.redirect_to.Statement.{statement}
 use Rattle.repair.proofs.steps.redirect_to.Tie as tie
@@ -26,7 +32,7 @@ new-object-requires c κs = search needs
 
 -- src/steps.rt:78:13
 put-object-requires : tie.Need-put-object-requires
-put-object-requires c κs = ?
+put-object-requires c κs = let d = c .before .before .before .before .before .before .before .before .before .before in let a = d .args in let h = free-object-inside [] (now (a .objects)) (c .before .before .before .before .free .given .0 .0) (cc) in omega arith
 
 -- src/steps.rt:79:13
 put-slot-requires : tie.Need-put-slot-requires
@@ -38,7 +44,8 @@ same-length c = search needs
 
 -- src/steps.rt:67:1
 returns : tie.Need-returns
-returns c = ?
+unfolding Bytes
+returns c = let d = c .before .before .before .before .before .before in let a = d .args in redirect-none (now (a .parents)) (now (a .objects)) (a .r) (a .j) (a .ost) (a .f) (d .pre .tables) (d .pre .row) (d .pre .slot) (λ i. c .before .before .before .before .before .slice-known .given i .fits) (λ i. c .before .before .before .before .slice-known2 .given i .fits) (cc)
 
 -- src/steps.rt:67:1
 same-length-2 : tie.Need-same-length-2
@@ -50,7 +57,8 @@ same-length-3 c = search needs
 
 -- src/steps.rt:67:1
 returns-2 : tie.Need-returns-2
-returns-2 c = ?
+unfolding Bytes
+returns-2 c = let d = c .before .before .before .before .before .before .before .before .before .before .before .before .before .before .before .before .before in let a = d .args in redirect-done (now (a .parents)) (now (a .objects)) (a .r) (a .j) (a .ost) (a .f) (d .pre .tables) (d .pre .row) (d .pre .slot) (λ i. c .before .before .before .before .before .before .before .before .before .before .before .before .before .before .before .before .slice-known .given i .fits) (λ i. c .before .before .before .before .before .before .before .before .before .before .before .before .before .before .before .slice-known2 .given i .fits) (c .before .before .before .before .before .before .before .before .before .before .before .free .given .0 .0) (cc) _ (c .before .before .before .before .before .before .before .before .new-object .ensures) _ (c .before .before .before .before .before .before .put-object .ensures) _ (c .before .before .put-slot .ensures)
 
 pub redirect-to-spec : {M : Type 1} → statement M
 redirect-to-spec =
