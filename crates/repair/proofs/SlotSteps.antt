@@ -8,8 +8,7 @@ use Rattle.wire.specs.Numbers.{Bytes}
 use Rattle.fid.specs.declared.MdtFid.{MdtFid}
 use Rattle.fid.specs.declared.OstFid.{OstFid}
 use Rattle.tables.specs.Records.{ParentRow, parent, ObjectRow, object, Tables}
-use mathlib.Core.Bool.{Bool, true, false}
-use native.Mathlib.Omega.{arith}
+use mathlib.Core.Bool.{true, false}
 use Rattle.tables.specs.Bytes.{parentSize, objectSize, isUsed, decodeParent, parseParent, decodeObject, parseObject, renderObject, parse, parseReserve}
 use Rattle.tables.specs.Positions.{rowAt}
 use Rattle.tables.specs.Check.{Sound}
@@ -166,24 +165,3 @@ module _ (p o res : List ℕ) (policy r j : ℕ) (f : OstFid) (ost : ℕ) (c : S
 
 pub rested : (p o : List ℕ) → Sound p o → Bytes p → Bytes o → (s : Step) → rests ≡ s → (Rested ≡ outcome s) × ((p ≡ parentsBy s p o) × (o ≡ objectsBy s p o))
 rested p o h b d s e = (outcome-rests _ (sym e), (parents-rests p o h b _ (sym e), objects-rests p o h d _ (sym e)))
-
--- the class carries a claim
-unfoldable pub isUnmatched : SlotClass → Bool
-isUnmatched HOLE = false
-isUnmatched MULTIPLE = false
-isUnmatched DANGLING = false
-isUnmatched BLANK = false
-isUnmatched (UNMATCHED g i) = true
-isUnmatched OWNER = false
-isUnmatched CLEAN = false
-
-pub slot-carries : (p o res : List ℕ) (policy r j : ℕ) (f : OstFid) (ost : ℕ) (c : SlotClass) → c ≡ slotClass (parse p o) r j → isUnmatched c ≡ true →
-    claimOf p o OfUnmatched r j f ≡ slotRepairOf p o res policy r j f ost
-unfolding isUnmatched
-slot-carries p o res policy r j f ost HOLE e q = let z : _≡_ {A = ℕ} 0 1 = cc in absurd (omega arith)
-slot-carries p o res policy r j f ost MULTIPLE e q = let z : _≡_ {A = ℕ} 0 1 = cc in absurd (omega arith)
-slot-carries p o res policy r j f ost DANGLING e q = let z : _≡_ {A = ℕ} 0 1 = cc in absurd (omega arith)
-slot-carries p o res policy r j f ost BLANK e q = let z : _≡_ {A = ℕ} 0 1 = cc in absurd (omega arith)
-slot-carries p o res policy r j f ost (UNMATCHED g i) e q = slot-unmatched p o res policy r j f ost (UNMATCHED g i) e g i refl
-slot-carries p o res policy r j f ost OWNER e q = let z : _≡_ {A = ℕ} 0 1 = cc in absurd (omega arith)
-slot-carries p o res policy r j f ost CLEAN e q = let z : _≡_ {A = ℕ} 0 1 = cc in absurd (omega arith)

@@ -215,7 +215,7 @@ pub fn repair_slot(parents: &mut [u8], objects: &mut [u8], reserve: &[u8], polic
             make_object(parents, objects, r, j, ost, f)
         }
         SlotClass::BLANK => write_claim(parents, objects, Repair::OfBlank, r, j, f),
-        SlotClass::UNMATCHED(_, _) => write_claim(parents, objects, Repair::OfUnmatched, r, j, f),
+        SlotClass::UNMATCHED(_, _index) => write_claim(parents, objects, Repair::OfUnmatched, r, j, f),
         SlotClass::OWNER => write_owner(parents, objects, r, j, f),
     }
 }

@@ -1,10 +1,9 @@
-use mathlib.Core.Bool.{true}
-use Rattle.rules.specs.declared.SlotClass.the-variants.{MULTIPLE, DANGLING, BLANK, OWNER}
+use Rattle.rules.specs.declared.SlotClass.the-variants.{MULTIPLE, DANGLING, BLANK, UNMATCHED, OWNER}
 use denote.Ref.{now}
 use mathlib.Core.Path.{_≡_, sym, _∙_}
 use borrow.Author.Tests.{not-true, not-false}
 use Rattle.wire.specs.Numbers.{Bytes}
-use Rattle.repair.proofs.SlotSteps.{carry, rested, slot-hole, slot-clean, slot-multiple, slot-multiple-off, slot-dangling, slot-dangling-off, slot-blank, slot-carries, slot-owner, isUnmatched}
+use Rattle.repair.proofs.SlotSteps.{carry, rested, slot-hole, slot-clean, slot-multiple, slot-multiple-off, slot-dangling, slot-dangling-off, slot-blank, slot-unmatched, slot-owner}
 use borrow.Author.Needs.{needs}
 use Rattle.repair.proofs.steps.repair_slot.Statement.{statement}
 use Rattle.repair.proofs.steps.repair_slot.Tie as tie
@@ -21,12 +20,13 @@ is-dangling c = cc
 is-blank : (c : tie.After-enum-told5) → c .before .before .slot-class .result ≡ BLANK
 is-blank c = cc
 
-is-owner : (c : tie.After-enum-told7) → c .before .before .slot-class .result ≡ OWNER
+is-owner : (c : tie.After-enum-told6) → c .before .before .slot-class .result ≡ OWNER
 is-owner c = cc
 
-carries : (c : tie.After-enum-told6) → isUnmatched (c .before .before .slot-class .result) ≡ true
-unfolding isUnmatched
-carries c = cc
+unmatched-is : (c : tie.After-known-told) →
+    let v = c .before .class .given .0 in
+    c .before .before .before .slot-class .result ≡ UNMATCHED (v .0) (v .1 .0)
+unmatched-is c = cc
 
 -- src/steps.rt:201:9
 slot-class-requires : tie.Need-slot-class-requires
@@ -99,16 +99,16 @@ write-claim-requires : tie.Need-write-claim-requires
 write-claim-requires c κs = search needs
 
 -- src/steps.rt:218:51
-enum-told-6 : tie.Need-enum-told-6
-enum-told-6 c = search needs
+enum-known-class : tie.Need-enum-known-class
+enum-known-class c = search needs
 
 -- src/steps.rt:218:39
 write-claim-requires-2 : tie.Need-write-claim-requires-2
 write-claim-requires-2 c κs = search needs
 
 -- src/steps.rt:219:41
-enum-told-7 : tie.Need-enum-told-7
-enum-told-7 c = search needs
+enum-told-6 : tie.Need-enum-told-6
+enum-told-6 c = search needs
 
 -- src/steps.rt:219:29
 write-owner-requires : tie.Need-write-owner-requires
@@ -186,7 +186,7 @@ same-length-16 c = search needs
 
 -- src/steps.rt:195:1
 returns-8 : tie.Need-returns-8
-returns-8 c = let d = c .before .before .before .before .before .before .before .before .before .before .before .before .before in let a = d .args in carry (now (a .parents)) (now (a .objects)) _ _ (slot-carries (now (a .parents)) (now (a .objects)) (now (a .reserve)) (a .policy) (a .r) (a .j) (a .f) (a .ost) _ (c .before .before .before .before .before .before .before .slot-class .ensures) (carries (c .before .before .before .before .before))) _ _ _ (c .before .before .write-claim2 .ensures)
+returns-8 c = let d = c .before .before .before .before .before .before .before .before .before .before .before .before .before .before in let a = d .args in let v = c .before .before .before .before .before .before .class .given .0 in carry (now (a .parents)) (now (a .objects)) _ _ (slot-unmatched (now (a .parents)) (now (a .objects)) (now (a .reserve)) (a .policy) (a .r) (a .j) (a .f) (a .ost) _ (c .before .before .before .before .before .before .before .before .slot-class .ensures) (v .0) (v .1 .0) (unmatched-is (c .before .before .before .before .before))) _ _ _ (c .before .before .write-claim2 .ensures)
 
 -- src/steps.rt:195:1
 same-length-17 : tie.Need-same-length-17
@@ -221,9 +221,9 @@ repair-slot-spec =
     make-object-requires
     enum-told-5
     write-claim-requires
-    enum-told-6
+    enum-known-class
     write-claim-requires-2
-    enum-told-7
+    enum-told-6
     write-owner-requires
     same-length-5
     same-length-6
