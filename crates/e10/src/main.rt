@@ -1,7 +1,6 @@
 // Example E10 of the paper: an object that may hold data claims slot 159, and then slot 160, of an absent file. Prints the class of the object: at
 // index 159 a parent of 160 slots can be made for it, at 160 its place can't be had.
 use fid::Fid;
-
 use libc::STDOUT_FILENO;
 
 fn print_class(class: u64) {

@@ -204,10 +204,13 @@ module _ (p o : List ℕ) (r j ost : ℕ) (f : OstFid) (h : Sound p o) (u : Used
     pub redirect-done : (z : List ℕ) → z ≡ sets p (parentSize * r) (renderParent (withSlot (parseParent (rowBytes p r)) j (Names f 0 ost))) →
         (Repaired OfMultiple ≡ outcome (redirectOf p o r j ost f)) × ((z ≡ parentsBy (redirectOf p o r j ost f) p o) × (y ≡ objectsBy (redirectOf p o r j ost f) p o))
     redirect-done z v =
-        let s = redirect-repairs i e x (new-alone x q) in
-        (outcome-repairs _ _ _ s,
-        (parents-two p o h b _ _ i _ r _ z s (row-inside p r u) (slot-length (rowBytes p r) (row-bytes p r b) (u .row) j (Names f 0 ost) m) v,
-        objects-two p o h d _ _ i _ r _ y s free-inside (length-object x) t))
+        let s = redirect-repairs i e x (new-alone x q) in (
+          outcome-repairs _ _ _ s,
+          (
+            parents-two p o h b _ _ i _ r _ z s (row-inside p r u) (slot-length (rowBytes p r) (row-bytes p r b) (u .row) j (Names f 0 ost) m) v,
+            objects-two p o h d _ _ i _ r _ y s free-inside (length-object x) t,
+          ),
+        )
 
     pub make-done : (Repaired OfDangling ≡ outcome (makeOf p o r j ost f)) × ((p ≡ parentsBy (makeOf p o r j ost f) p o) × (y ≡ objectsBy (makeOf p o r j ost f) p o))
     make-done =

@@ -2,8 +2,8 @@
 use super::parents;
 use fid::MdtFid;
 use layout::Slot;
-use tables::rows::PARENT_SIZE;
 use tables::Owner;
+use tables::rows::PARENT_SIZE;
 ghost use mathlib.Core.Path.{_≡_};
 ghost use Prim.Native.Nat.{_+_, _*_, _≤_, _<_};
 ghost use lib.ListN.{length, drop};

@@ -1,9 +1,9 @@
 // Object rows written whole.
 use super::stores;
 use fid::Fid;
-use tables::rows::OBJECT_SIZE;
 use tables::Claim;
 use tables::Object;
+use tables::rows::OBJECT_SIZE;
 ghost use mathlib.Core.Path.{_≡_};
 ghost use Prim.Native.Nat.{_+_, _*_, _≤_};
 ghost use lib.ListN.{length};

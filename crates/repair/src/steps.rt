@@ -10,11 +10,11 @@ use rules::Repair;
 use rules::Row;
 use rules::SlotClass;
 use rules::Usable;
+use tables::Claim;
+use tables::Object;
 use tables::rows;
 use tables::rows::OBJECT_SIZE;
 use tables::rows::PARENT_SIZE;
-use tables::Claim;
-use tables::Object;
 ghost use mathlib.Core.Path.{_≡_};
 ghost use mathlib.Core.List.{[]};
 ghost use Prim.Native.Nat.{_/_, _<_};
@@ -61,7 +61,14 @@ pub fn new_object(parents: &[u8], r: usize, j: u32, f: OstFid, ost: u32) -> Obje
 }
 
 // MULTIPLE, with a FID of the reserve: a new object in the first unused row, then the slot, which takes its FID.
-pub fn redirect_to(parents: &mut [u8], objects: &mut [u8], r: usize, j: u32, ost: u32, f: OstFid) -> Outcome
+pub fn redirect_to(
+    parents: &mut [u8],
+    objects: &mut [u8],
+    r: usize,
+    j: u32,
+    ost: u32,
+    f: OstFid,
+) -> Outcome
     requires { ⌜ SlotReady (now parents) (now objects) r j ⌝ }
     ensures outcome { λ s. ⌜ s ≡ outcome (redirectOf (now (parents .entry)) (now (objects .entry)) r j ost f) ⌝ }
     ensures parents { λ _. ⌜ now (parents .exit) ≡ parentsBy (redirectOf (now (parents .entry)) (now (objects .entry)) r j ost f) (now (parents .entry)) (now (objects .entry)) ⌝ }
@@ -80,7 +87,14 @@ pub fn redirect_to(parents: &mut [u8], objects: &mut [u8], r: usize, j: u32, ost
 }
 
 // DANGLING: a new object in the first unused row, under the slot's FID and index.
-pub fn make_object(parents: &[u8], objects: &mut [u8], r: usize, j: u32, ost: u32, f: OstFid) -> Outcome
+pub fn make_object(
+    parents: &[u8],
+    objects: &mut [u8],
+    r: usize,
+    j: u32,
+    ost: u32,
+    f: OstFid,
+) -> Outcome
     requires { ⌜ SlotReady (now parents) (now objects) r j ⌝ }
     ensures outcome { λ s. ⌜ s ≡ outcome (makeOf (now (parents .entry)) (now (objects .entry)) r j ost f) ⌝ }
     ensures parents { λ _. ⌜ now (parents .entry) ≡ parentsBy (makeOf (now (parents .entry)) (now (objects .entry)) r j ost f) (now (parents .entry)) (now (objects .entry)) ⌝ }
@@ -98,7 +112,14 @@ pub fn make_object(parents: &[u8], objects: &mut [u8], r: usize, j: u32, ost: u3
 }
 
 // MULTIPLE: the first usable FID of the reserve, then a row for the object.
-pub fn redirect(parents: &mut [u8], objects: &mut [u8], reserve: &[u8], r: usize, j: u32, ost: u32) -> Outcome
+pub fn redirect(
+    parents: &mut [u8],
+    objects: &mut [u8],
+    reserve: &[u8],
+    r: usize,
+    j: u32,
+    ost: u32,
+) -> Outcome
     requires { ⌜ SlotReady (now parents) (now objects) r j ⌝ }
     ensures outcome { λ s. ⌜ s ≡ outcome (redirectBy (now (parents .entry)) (now (objects .entry)) (now (reserve .entry)) r j ost) ⌝ }
     ensures parents { λ _. ⌜ now (parents .exit) ≡ parentsBy (redirectBy (now (parents .entry)) (now (objects .entry)) (now (reserve .entry)) r j ost) (now (parents .entry)) (now (objects .entry)) ⌝ }
@@ -147,7 +168,14 @@ pub fn owned(parents: &[u8], r: usize, x: Object) -> Object
 }
 
 // BLANK and UNMATCHED: claim and owner are written in the object's row.
-pub fn write_claim(parents: &[u8], objects: &mut [u8], class: Repair, r: usize, j: u32, f: OstFid) -> Outcome
+pub fn write_claim(
+    parents: &[u8],
+    objects: &mut [u8],
+    class: Repair,
+    r: usize,
+    j: u32,
+    f: OstFid,
+) -> Outcome
     requires { ⌜ SlotReady (now parents) (now objects) r j ⌝ }
     ensures outcome { λ s. ⌜ s ≡ outcome (claimOf (now (parents .entry)) (now (objects .entry)) class r j f) ⌝ }
     ensures parents { λ _. ⌜ now (parents .entry) ≡ parentsBy (claimOf (now (parents .entry)) (now (objects .entry)) class r j f) (now (parents .entry)) (now (objects .entry)) ⌝ }
@@ -192,7 +220,16 @@ pub fn creates(policy: u64) -> bool
 }
 
 // The repair of slot j of row r, which names object f on an OST, by its class.
-pub fn repair_slot(parents: &mut [u8], objects: &mut [u8], reserve: &[u8], policy: u64, r: usize, j: u32, f: OstFid, ost: u32) -> Outcome
+pub fn repair_slot(
+    parents: &mut [u8],
+    objects: &mut [u8],
+    reserve: &[u8],
+    policy: u64,
+    r: usize,
+    j: u32,
+    f: OstFid,
+    ost: u32,
+) -> Outcome
     requires { ⌜ SlotReady (now parents) (now objects) r j ⌝ }
     ensures outcome { λ s. ⌜ s ≡ outcome (slotRepairOf (now (parents .entry)) (now (objects .entry)) (now (reserve .entry)) policy r j f ost) ⌝ }
     ensures parents { λ _. ⌜ now (parents .exit) ≡ parentsBy (slotRepairOf (now (parents .entry)) (now (objects .entry)) (now (reserve .entry)) policy r j f ost) (now (parents .entry)) (now (objects .entry)) ⌝ }
@@ -215,13 +252,27 @@ pub fn repair_slot(parents: &mut [u8], objects: &mut [u8], reserve: &[u8], polic
             make_object(parents, objects, r, j, ost, f)
         }
         SlotClass::BLANK => write_claim(parents, objects, Repair::OfBlank, r, j, f),
-        SlotClass::UNMATCHED(_, _index) => write_claim(parents, objects, Repair::OfUnmatched, r, j, f),
+        SlotClass::UNMATCHED(_, _index) => write_claim(
+            parents,
+            objects,
+            Repair::OfUnmatched,
+            r,
+            j,
+            f,
+        ),
         SlotClass::OWNER => write_owner(parents, objects, r, j, f),
     }
 }
 
 // The step of slot j of parent row r: a hole rests.
-pub fn slot_step(parents: &mut [u8], objects: &mut [u8], reserve: &[u8], policy: u64, r: usize, j: usize) -> Outcome
+pub fn slot_step(
+    parents: &mut [u8],
+    objects: &mut [u8],
+    reserve: &[u8],
+    policy: u64,
+    r: usize,
+    j: usize,
+) -> Outcome
     requires { ⌜ Sound (now parents) (now objects) × (r < length (now parents) / parentSize) ⌝ }
     ensures outcome { λ s. ⌜ s ≡ outcome (slotStepOf (now (parents .entry)) (now (objects .entry)) (now (reserve .entry)) policy r j) ⌝ }
     ensures parents { λ _. ⌜ now (parents .exit) ≡ parentsBy (slotStepOf (now (parents .entry)) (now (objects .entry)) (now (reserve .entry)) policy r j) (now (parents .entry)) (now (objects .entry)) ⌝ }
@@ -230,6 +281,15 @@ pub fn slot_step(parents: &mut [u8], objects: &mut [u8], reserve: &[u8], policy:
     let slot = search::slots::slot_of(parents, r, j);
     match slot {
         Slot::Hole => Outcome::Rested,
-        Slot::Names(f, _, ost) => repair_slot(parents, objects, reserve, policy, r, j as u32, f, ost),
+        Slot::Names(f, _, ost) => repair_slot(
+            parents,
+            objects,
+            reserve,
+            policy,
+            r,
+            j as u32,
+            f,
+            ost,
+        ),
     }
 }

@@ -41,7 +41,7 @@ loop-less c = omega arith
 
 -- src/stores.rt:54:5
 loop-again : tie.Need-loop-again Inv-loop μ-loop
-loop-again c = 
+loop-again c =
     let i = c .before .before .before .before .before .loop .inv in
     let e = holes-step _ _ _ _ _ (i .2) (c .before .before .put-slot .ensures) in
     (omega arith, holes-length _ _ _ _ e, e)
