@@ -6,3 +6,4 @@ pub mod FileLaws
 pub mod TableLaws
 pub mod StepLaws
 pub mod SlotSteps
+pub mod SlotReads

@@ -60,7 +60,7 @@ header-of : (row : List ℕ) → decodeParent row .layout .header ≡ decodeHead
 unfolding decodeParent decodeLayout
 header-of row = refl
 
-count-of : (row : List ℕ) → length (decodeParent row .layout .slots) ≡ stripeCount (layoutBytes row)
+pub count-of : (row : List ℕ) → length (decodeParent row .layout .slots) ≡ stripeCount (layoutBytes row)
 unfolding decodeParent decodeLayout
 count-of row = length-slots (stripeCount (layoutBytes row)) (drop (slotStart (layoutBytes row)) (layoutBytes row))
 

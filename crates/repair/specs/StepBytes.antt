@@ -13,11 +13,11 @@ use Rattle.layout.specs.Layout.{stripeCount}
 use Rattle.tables.specs.Bytes.{layoutBytes}
 use Rattle.tables.specs.declared.Object.{Object}
 use Rattle.tables.specs.declared.Claim.the-variants.{Claims}
-use Rattle.rules.specs.Rows.{selfOf, ownerOf, objectRow, freeObject}
+use Rattle.rules.specs.Rows.{selfOf, ownerOf, slotAt, objectRow, freeObject}
 use Rattle.rules.specs.Classes.{headerClass, slotClass}
 use Rattle.rules.specs.declared.Repair.{Repair}
 use Rattle.rules.specs.Repairs.{Step, repairHeader, newObject, usable, redirectTo, redirect, makeObject, withClaim, withOwner, writeClaim, writeOwner, repairSlot}
-use Rattle.rules.specs.Steps.{stepAt}
+use Rattle.rules.specs.Steps.{slotStep, stepAt}
 use Rattle.repair.specs.UsedRow.{rowBytes, UsedAt}
 use Rattle.rules.specs.Runs.{stepTables}
 
@@ -89,3 +89,8 @@ ownedBy parents r x = withOwner x (ownerOf (rowAt (parse parents []) r))
 unfoldable pub slotRepairOf : List ℕ → List ℕ → List ℕ → ℕ → ℕ → ℕ → OstFid → ℕ → Step
 slotRepairOf parents objects reserve policy r j f ost =
     let T = parse parents objects in repairSlot policy (parseReserve reserve) T r j f ost (slotClass T r j)
+
+-- the step of a slot
+unfoldable pub slotStepOf : List ℕ → List ℕ → List ℕ → ℕ → ℕ → ℕ → Step
+slotStepOf parents objects reserve policy r j =
+    let T = parse parents objects in slotStep policy (parseReserve reserve) T r j (slotAt T r j)

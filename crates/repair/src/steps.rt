@@ -24,7 +24,7 @@ ghost use Rattle.tables.specs.Check.{Sound};
 ghost use Rattle.rules.specs.Repairs.{newObject, creates};
 ghost use Rattle.rules.specs.Runs.{outcome};
 ghost use Rattle.repair.specs.UsedRow.{UsedAt};
-ghost use Rattle.repair.specs.StepBytes.{SlotReady, parentsBy, objectsBy, headerOf, redirectOf, makeOf, claimOf, ownerStepOf, redirectBy, claimedBy, ownedBy, slotRepairOf};
+ghost use Rattle.repair.specs.StepBytes.{SlotReady, parentsBy, objectsBy, headerOf, redirectOf, makeOf, claimOf, ownerStepOf, redirectBy, claimedBy, ownedBy, slotRepairOf, slotStepOf};
 
 // The step of the header of parent row r: SELF is mended.
 pub fn header_step(parents: &mut [u8], objects: &[u8], r: usize) -> Outcome
@@ -217,5 +217,19 @@ pub fn repair_slot(parents: &mut [u8], objects: &mut [u8], reserve: &[u8], polic
         SlotClass::BLANK => write_claim(parents, objects, Repair::OfBlank, r, j, f),
         SlotClass::UNMATCHED(_, _index) => write_claim(parents, objects, Repair::OfUnmatched, r, j, f),
         SlotClass::OWNER => write_owner(parents, objects, r, j, f),
+    }
+}
+
+// The step of slot j of parent row r: a hole rests.
+pub fn slot_step(parents: &mut [u8], objects: &mut [u8], reserve: &[u8], policy: u64, r: usize, j: usize) -> Outcome
+    requires { ⌜ Sound (now parents) (now objects) × (r < length (now parents) / parentSize) ⌝ }
+    ensures outcome { λ s. ⌜ s ≡ outcome (slotStepOf (now (parents .entry)) (now (objects .entry)) (now (reserve .entry)) policy r j) ⌝ }
+    ensures parents { λ _. ⌜ now (parents .exit) ≡ parentsBy (slotStepOf (now (parents .entry)) (now (objects .entry)) (now (reserve .entry)) policy r j) (now (parents .entry)) (now (objects .entry)) ⌝ }
+    ensures objects { λ _. ⌜ now (objects .exit) ≡ objectsBy (slotStepOf (now (parents .entry)) (now (objects .entry)) (now (reserve .entry)) policy r j) (now (parents .entry)) (now (objects .entry)) ⌝ }
+{
+    let slot = search::slots::slot_of(parents, r, j);
+    match slot {
+        Slot::Hole => Outcome::Rested,
+        Slot::Names(f, _, ost) => repair_slot(parents, objects, reserve, policy, r, j as u32, f, ost),
     }
 }
