@@ -207,7 +207,7 @@ examples =
     ∷ isEnd (start (tables [] []))
     -- E2: it reads as that layout, is written back as these bytes, and is what stands in a row
     ∷ eqb (readNumber (readLayout E2)) 0
-    ∷ eqb (length (decodeLayout E2 .slots)) 1 && same (slotNumbersOf (getD (decodeLayout E2 .slots) 0 Hole)) (0x240000400 ∷ 0x10 ∷ 0 ∷ 3 ∷ [])
+    ∷ (eqb (length (decodeLayout E2 .slots)) 1 && same (slotNumbersOf (getD (decodeLayout E2 .slots) 0 Hole)) (0x240000400 ∷ 0x10 ∷ 0 ∷ 3 ∷ []))
     ∷ same (encodeLayout (decodeLayout E2)) E2
     ∷ same (layoutOf P (on A ∷ [])) E2
     -- E3: E2 with 55 or 57 bytes is 13

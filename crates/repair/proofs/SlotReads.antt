@@ -17,7 +17,7 @@ use Rattle.tables.specs.Check.{Sound}
 use Rattle.rules.specs.Rows.{slotAt}
 use Rattle.rules.specs.Repairs.{Step, rests}
 use Rattle.rules.specs.Steps.{slotStep}
-use Rattle.search.proofs.ParsedRows.{slot-alone}
+use Rattle.search.proofs.AloneLaws.{slot-alone}
 use Rattle.repair.specs.UsedRow.{UsedRow, rowBytes, UsedAt}
 use Rattle.repair.specs.StepBytes.{SlotReady, slotRepairOf, slotStepOf}
 use Rattle.repair.proofs.RowStores.{used-facts, count-of}

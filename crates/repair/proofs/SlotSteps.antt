@@ -28,7 +28,9 @@ use Rattle.rules.specs.declared.Outcome.the-variants.{Rested, Repaired, Stopped
 use Rattle.rules.specs.declared.Row.the-variants.{RowIs, NoRow}
 use Rattle.rules.specs.declared.Usable.{Usable}
 use Rattle.rules.specs.declared.Usable.the-variants.{Takes, UsedUp}
-use Rattle.search.proofs.ParsedRows.{row-alone, parent-used, object-row-alone, object-inside, object-used, parsed-object, found-used}
+use Rattle.search.proofs.ParsedRows.{parent-used, object-used, parsed-object}
+use Rattle.search.proofs.FoundRows.{object-inside, found-used}
+use Rattle.search.proofs.AloneLaws.{row-alone, object-row-alone}
 use Rattle.repair.specs.UsedRow.{rowBytes, UsedAt}
 use Rattle.repair.specs.StepBytes.{parentsBy, objectsBy, redirectOf, redirectBy, makeOf, claimedBy, ownedBy, claimOf, ownerStepOf, slotRepairOf}
 use Rattle.repair.proofs.ObjectStores.{length-object}

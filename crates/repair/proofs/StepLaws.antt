@@ -30,7 +30,8 @@ use Rattle.rules.specs.declared.Repair.the-variants.{OfSelf, OfMultiple, OfDang
 use Rattle.rules.specs.declared.Outcome.{Outcome}
 use Rattle.rules.specs.declared.Outcome.the-variants.{Rested, Repaired, Stopped}
 use Rattle.rules.specs.declared.Row.the-variants.{RowIs, NoRow}
-use Rattle.search.proofs.ParsedRows.{row-alone, free-object-alone, free-object-inside}
+use Rattle.search.proofs.FoundRows.{free-object-inside}
+use Rattle.search.proofs.AloneLaws.{row-alone, free-object-alone}
 use Rattle.repair.specs.UsedRow.{UsedRow, rowBytes, UsedAt}
 use Rattle.repair.specs.StepBytes.{SlotReady, parentsBy, objectsBy, headerOf, redirectOf, makeOf}
 use Rattle.repair.proofs.ObjectStores.{length-object}

@@ -2,7 +2,7 @@ use denote.Ref.{now}
 use native.Mathlib.Omega.{arith}
 use Rattle.wire.specs.Numbers.{Bytes}
 use mathlib.Core.List.{[]}
-use Rattle.search.proofs.ParsedRows.{free-object-inside}
+use Rattle.search.proofs.FoundRows.{free-object-inside}
 use Rattle.repair.proofs.StepLaws.{redirect-none, redirect-done}
 use borrow.Author.Needs.{needs}
 use Rattle.repair.proofs.steps.redirect_to.Statement.{statement}

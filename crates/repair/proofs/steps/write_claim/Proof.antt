@@ -6,7 +6,7 @@ use denote.Ref.{now}
 use native.Mathlib.Omega.{arith}
 use Rattle.wire.specs.Numbers.{Bytes}
 use mathlib.Core.List.{[]}
-use Rattle.search.proofs.ParsedRows.{object-inside}
+use Rattle.search.proofs.FoundRows.{object-inside}
 use Rattle.repair.proofs.SlotSteps.{claim-absent, claim-done}
 use borrow.Author.Needs.{needs}
 use Rattle.repair.proofs.steps.write_claim.Statement.{statement}
