@@ -161,6 +161,78 @@ uint32_t lfsck_class(const uint8_t *parents, size_t parents_bytes,
                      uint64_t stage, uint64_t row, uint64_t part,
                      uint64_t *out, size_t out_count);
 
+/*
+ * A header is version (1 or 3), pattern, own id, own sequence, stripe size, stripe count and
+ * generation, in this order; one that was read ends with the place where the slots start.
+ *
+ * A slot is five numbers: 1, sequence, id, generation and OST index where it names an object,
+ * and five zeros where it is a hole.
+ */
+
+/*
+ * Reads a layout's header.
+ *
+ *   layout  the layout, exactly its bytes
+ *   fields  8 numbers, written
+ *
+ * LFSCK_OK          the header is in the first 8 fields
+ * LFSCK_BAD_LAYOUT  the bytes are no layout
+ * LFSCK_NO_ROOM     fewer than 8 fields
+ */
+uint32_t lfsck_layout_read(const uint8_t *layout, size_t layout_bytes,
+                           uint64_t *fields, size_t fields_count);
+
+/*
+ * Reads one slot of a layout.
+ *
+ *   layout  the layout, exactly its bytes
+ *   index   which slot, from 0
+ *   out     5 numbers, written
+ *
+ * LFSCK_OK           the slot is in the first 5 numbers
+ * LFSCK_BAD_LAYOUT   the bytes are no layout
+ * LFSCK_NO_POSITION  the index is not below the stripe count
+ * LFSCK_NO_ROOM      fewer than 5 numbers
+ */
+uint32_t lfsck_layout_slot(const uint8_t *layout, size_t layout_bytes,
+                           uint64_t index,
+                           uint64_t *out, size_t out_count);
+
+/*
+ * Writes a layout.
+ *
+ *   fields       exactly 7 numbers
+ *   pool         the pool name: 16 bytes with version 3, none with version 1
+ *   slots        5 numbers for each slot, as many slots as the stripe count
+ *   destination  takes the layout; bytes past it stay
+ *   out          1 number, written: the bytes of the layout
+ *
+ * LFSCK_OK          the layout is in the destination and its length in out
+ * LFSCK_BAD_LAYOUT  another amount of anything that is handed in, a number that does not fit
+ *                   its field, or a layout against the rules
+ * LFSCK_NO_ROOM     the destination is shorter than the layout, or out has no place
+ */
+uint32_t lfsck_layout_write(const uint64_t *fields, size_t fields_count,
+                            const uint8_t *pool, size_t pool_bytes,
+                            const uint64_t *slots, size_t slots_count,
+                            uint8_t *destination, size_t destination_bytes,
+                            uint64_t *out, size_t out_count);
+
+/*
+ * Puts another slot in the place of one of a layout's. Only that slot's 24 bytes change.
+ *
+ *   layout  the layout, exactly its bytes
+ *   index   which slot, from 0
+ *   slot    exactly 5 numbers
+ *
+ * LFSCK_OK           the slot is written
+ * LFSCK_BAD_LAYOUT   the bytes are no layout, or the slot is none that its pattern allows
+ * LFSCK_NO_POSITION  the index is not below the stripe count
+ */
+uint32_t lfsck_slot_rewrite(uint8_t *layout, size_t layout_bytes,
+                            uint64_t index,
+                            const uint64_t *slot, size_t slot_count);
+
 #ifdef __cplusplus
 }
 #endif
