@@ -1,5 +1,4 @@
-// What C calls: thin exports over the public functions, on numbers and lent slices.
+// What C calls: thin exports over the functions on numbers and lent slices.
 pub mod checks;
 pub mod classes;
 pub mod layouts;
-pub mod out;

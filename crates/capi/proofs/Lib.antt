@@ -1,4 +1,0 @@
-pub mod OutLaws
-pub mod LayoutNumbers
-pub mod TableNumbers
-pub mod ClassLaws

@@ -1,4 +1,0 @@
-pub mod Out
-pub mod Layouts
-pub mod Tables
-pub mod Classes
