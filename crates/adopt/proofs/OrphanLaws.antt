@@ -45,7 +45,7 @@ use Rattle.rules.specs.declared.Repair.{Repair}
 use Rattle.rules.specs.declared.Repair.the-variants.{OfEmpty, OfOrphan}
 use Rattle.rules.specs.declared.Outcome.{Outcome}
 use Rattle.rules.specs.declared.Outcome.the-variants.{Rested, Repaired, Stopped}
-use Rattle.search.proofs.ParsedRows.{parsed-object, object-used, object-unused, parent-test, parent-unused, free-parent-test}
+use Rattle.search.proofs.ParsedRows.{parsed-object, object-used, object-unused, parent-test, parent-used, parent-unused, free-parent-test}
 use Rattle.rules.proofs.Searches.{from-row-is}
 use Rattle.search.proofs.FoundRows.{parent-inside, parent-found, free-parent-inside, object-inside}
 use Rattle.search.proofs.AloneLaws.{free-parent-alone, object-row-alone, slot-alone, row-alone}
@@ -88,6 +88,40 @@ row-in l d m h e = subst (RowInside l) e h
 pub row-room : (m n : ℕ) → m < n / objectSize → objectSize * m + objectSize ≤ n
 row-room m n h = omega arith
 
+-- the owner write keeps the length
+pub inside-owned : (o z : List ℕ) (k : ℕ) (x : Object) (w : Owner) (d : Row) → z ≡ ownedBytes o k x w → RowInside o d → RowInside z d
+unfolding ownedBytes RowInside
+inside-owned o z k x w NoRow e h = tt
+inside-owned o z k x w (RowIs m) e h = rw (ap (λ (l : List ℕ). length l) e ∙ go (sameOwner (x .owner) w)) h
+  where
+    go : (b : Bool) → length (cond b o (sets o (objectSize * k) (renderObject (object (withOwner x w))))) ≡ length o
+    go true = refl
+    go false = length-sets o (objectSize * k) (renderObject (object (withOwner x w)))
+
+pub named-hole : (T : Tables) (s : Slot) → s ≡ Hole → NoRow ≡ namedRow T s
+unfolding namedRow
+named-hole T s e = rw e
+
+pub named-names : (T : Tables) (s : Slot) (g : OstFid) (n i : ℕ) → s ≡ Names g n i → (d : Row) → d ≡ objectRow T g → d ≡ namedRow T s
+unfolding namedRow
+named-names T s g n i e d q = rw (e, q)
+
+-- the owner in a used row
+pub owner-read : (p : List ℕ) (r : ℕ) → UsedAt p r → (row : List ℕ) → row ≡ take parentSize (drop (parentSize * r) p) → (w : Owner) → w ≡ decodeParent row .owner →
+    w ≡ ownerOf (parseParent (rowBytes p r))
+unfolding rowBytes ownerOf
+owner-read p r u row e w q = q ∙ ap (λ (l : List ℕ). decodeParent l .owner) e ∙ sym (ap ownerOf (parent-used (rowBytes p r) (u .row .used)))
+
+module _ (l : List ℕ) (f : MdtFid) (i : ℕ) (x : Object) (g : Row) where
+  pub made-none : g ≡ NoRow → (Stopped 23 ≡ madeOutcome g) × (l ≡ madeBytes l f i x g)
+  unfolding madeOutcome madeBytes
+  made-none e = (rw e, rw e)
+
+  pub made-row : (r : ℕ) → g ≡ RowIs r → (s : Slot) → s ≡ slotFor x → (y : List ℕ) →
+      y ≡ sets l (parentSize * r) (renderParent (withSlot (made f i (x .owner) (drop 1 (rowBytes l r))) i s)) → (Repaired OfOrphan ≡ madeOutcome g) × (y ≡ madeBytes l f i x g)
+  unfolding madeOutcome madeBytes
+  made-row r e s q y t = (rw e, rw (e, ← q) t)
+
 -- ## The writes of an adoption
 
 -- the layout, the object's owner, the destroyed row
@@ -114,12 +148,38 @@ module _ (p o : List ℕ) (h : Sound p o) (s : Step) (c : Repair) (r : ℕ) (v :
     where
       T : Tables
       T = putParent (parse p o) r v
+
       go : (a : Bool) (d : Row) → RowInside o d → droppedBytes (cond a o (sets o (objectSize * k) (renderObject (object (withOwner x w))))) d
           ≡ renderObjects (applyWrites (cond a [] (writeObject k (object (withOwner x w)) ∷ []) ++ destroyAt d) T)
       go true NoRow u = sym (objects-kept (parse p o) r v ∙ objects-back p o h b)
       go true (RowIs m) u = sym (objects-put p o h b T refl m destroyed u length-destroyed)
       go false NoRow u = sym (objects-put p o h b T refl k (object (withOwner x w)) n (length-object (withOwner x w)))
       go false (RowIs m) u = sym (objects-put-2 p o h b T refl k (object (withOwner x w)) m destroyed n u (length-object (withOwner x w)) length-destroyed)
+
+-- ## The object that a slot names
+
+module _ (p o : List ℕ) where
+  named-inside : (s : Slot) → RowInside o (namedRow (parse p o) s)
+  unfolding namedRow RowInside
+  named-inside Hole = tt
+  named-inside (Names g m j) = go (objectRow (parse p o) g) refl
+    where
+      go : (d : Row) → objectRow (parse p o) g ≡ d → RowInside o d
+      go NoRow q = tt
+      go (RowIs d) q = object-inside p o g d q
+
+  named-alone : (s : Slot) → namedRow (parse [] o) s ≡ namedRow (parse p o) s
+  unfolding namedRow
+  named-alone Hole = refl
+  named-alone (Names g m j) = object-row-alone p o g
+
+  pub dropped-inside : (d : Row) (s : Slot) → d ≡ namedRow (parse [] o) s → RowInside o d
+  dropped-inside d s q = subst (RowInside o) (sym (q ∙ named-alone s)) (named-inside s)
+
+  destroyed-named : (s : Slot) → destroyNamed (parse p o) s ≡ destroyAt (namedRow (parse p o) s)
+  unfolding destroyNamed namedRow destroyAt
+  destroyed-named Hole = refl
+  destroyed-named (Names g m j) = refl
 
 -- ## How a place was had
 
@@ -137,19 +197,24 @@ had T f i = first (ltb i maxSlots) refl
     taken : (r : ℕ) (b : Bool) → parentRow T f ≡ RowIs r → i < width T r → Had T f i (cond b (Take r) NoWay)
     taken r true q w = take′ r q w
     taken r false q w = none
+
     slot : (r : ℕ) (s : Slot) → parentRow T f ≡ RowIs r → i < width T r → Had T f i (slotWay T f r i s)
     slot r Hole q w = fill r q w
     slot r (Names g n k) q w = taken r (takeable T f g r i (objectOf T g)) q w
+
     past : (r : ℕ) (b : Bool) → parentRow T f ≡ RowIs r → i < maxSlots → width T r ≤ i → Had T f i (cond b (Grow r) NoWay)
     past r true q m w = grow r q m w
     past r false q m w = none
+
     inside : (r : ℕ) (b : Bool) → ltb i (width T r) ≡ b → parentRow T f ≡ RowIs r → i < maxSlots →
         Had T f i (cond b (slotWay T f r i (slotAt T r i)) (cond (holesIn (rowAt T r)) (Grow r) NoWay))
     inside r true e q m = slot r (slotAt T r i) q (ltb-true i (width T r) e)
     inside r false e q m = past r (holesIn (rowAt T r)) q m (ltb-false i (width T r) e)
+
     found : (a : Row) → parentRow T f ≡ a → i < maxSlots → Had T f i (rowWay T f i a)
     found NoRow q m = new m
     found (RowIs r) q m = inside r (ltb i (width T r)) refl q m
+
     first : (b : Bool) → ltb i maxSlots ≡ b → Had T f i (cond b (rowWay T f i (parentRow T f)) NoWay)
     first true e = found (parentRow T f) refl (ltb-true i maxSlots e)
     first false e = none
@@ -257,40 +322,18 @@ module _ (p o : List ℕ) (h : Sound p o) (b : Bytes p) (c : Bytes o) (k : ℕ) 
       by-way (Grow r) q ∙ rw (row-is p o r m, append-nil (ownerWrites k x (ownerOf v))) in
       finish r (withSlot v i (slotFor x)) (ownerOf v) NoRow y z s m (grow-length (rowBytes p r) (row-bytes p r b) (a .used .row) i (slotFor x) (a .past) (a .few)) tt t (rw g u)
 
-  named-inside : (s : Slot) → RowInside o (namedRow (parse p o) s)
-  unfolding namedRow RowInside
-  named-inside Hole = tt
-  named-inside (Names g m j) = go (objectRow (parse p o) g) refl
-    where
-      go : (d : Row) → objectRow (parse p o) g ≡ d → RowInside o d
-      go NoRow q = tt
-      go (RowIs d) q = object-inside p o g d q
-
-  named-alone : (s : Slot) → namedRow (parse [] o) s ≡ namedRow (parse p o) s
-  unfolding namedRow
-  named-alone Hole = refl
-  named-alone (Names g m j) = object-row-alone p o g
-
-  pub dropped-inside : (d : Row) (s : Slot) → d ≡ namedRow (parse [] o) s → RowInside o d
-  dropped-inside d s q = subst (RowInside o) (sym (q ∙ named-alone s)) (named-inside s)
-
-  destroyed-named : (s : Slot) → destroyNamed (parse p o) s ≡ destroyAt (namedRow (parse p o) s)
-  unfolding destroyNamed namedRow destroyAt
-  destroyed-named Hole = refl
-  destroyed-named (Names g m j) = refl
-
-  pub adopt-take : (r : ℕ) → w ≡ Take r → (a : Slot) → a ≡ slotAt (parse p []) r i → (d : Row) → d ≡ namedRow (parse [] o) a → (y z : List ℕ) →
+  pub adopt-take : (r : ℕ) → w ≡ Take r → (a : Slot) → a ≡ slotAt (parse p []) r i → (d : Row) → d ≡ namedRow (parse [] o) a → (y l z : List ℕ) →
       y ≡ sets p (parentSize * r) (renderParent (withSlot (parseParent (rowBytes p r)) i (slotFor x))) →
-      z ≡ droppedBytes (ownedBytes o k x (ownerOf (parseParent (rowBytes p r)))) d → Adopted (Repaired OfOrphan) y z
+      l ≡ ownedBytes o k x (ownerOf (parseParent (rowBytes p r))) → z ≡ droppedBytes l d → Adopted (Repaired OfOrphan) y z
   unfolding adoptBy settle settled
-  adopt-take r q a g d v y z t u =
+  adopt-take r q a g d v y l z t j u =
       let c = take-place p o h f i w r e q in
       let m : r < length p / parentSize = row-inside p r (c .used) in
       let rw′ : ParentRow = parseParent (rowBytes p r) in
       let n : destroyNamed (parse p o) (slotAt (parse p o) r i) ≡ destroyAt d =
-      ap (destroyNamed (parse p o)) (sym (g ∙ slot-alone p o r i)) ∙ destroyed-named a ∙ ap destroyAt (sym (v ∙ named-alone a)) in
+      ap (destroyNamed (parse p o)) (sym (g ∙ slot-alone p o r i)) ∙ destroyed-named p o a ∙ ap destroyAt (sym (v ∙ named-alone p o a)) in
       let s : adoptOf p o k x f i ≡ repairs OfOrphan (settled r (withSlot rw′ i (slotFor x)) k x (ownerOf rw′) d) = by-way (Take r) q ∙ rw (row-is p o r m, n) in
-      finish r (withSlot rw′ i (slotFor x)) (ownerOf rw′) d y z s m (slot-length (rowBytes p r) (row-bytes p r b) (c .used .row) i (slotFor x) (c .inside)) (dropped-inside d a v) t u
+      finish r (withSlot rw′ i (slotFor x)) (ownerOf rw′) d y z s m (slot-length (rowBytes p r) (row-bytes p r b) (c .used .row) i (slotFor x) (c .inside)) (dropped-inside p o d a v) t (u ∙ ap (λ (l : List ℕ). droppedBytes l d) j)
 
   free-tail : (r : ℕ) → freeParent (parse p o) ≡ RowIs r → tailOf (rowAt (parse p o) r) ≡ drop 1 (rowBytes p r)
   unfolding freeParent tailOf
@@ -355,19 +398,36 @@ module _ (p o : List ℕ) (h : Sound p o) (b : Bytes p) (c : Bytes o) (policy k 
       by x EMPTY = rw q
       by x ORPHAN = rw q
       by x CONFLICT = refl
+
       go : (a : ObjectRow) → objectStep policy (parse p o) k a ≡ rests
       go (noObject l) = refl
       go (object x) = by x (objectClass (parse p o) k)
 
   module _ (d : ObjectClass) (e : d ≡ objectClass (parse p o) k) where
     -- classes without a repair
-    pub object-rests : ((x : Object) → repairObject policy (parse p o) k x d ≡ rests) → Stepped Rested p o
+    object-rests : ((x : Object) → repairObject policy (parse p o) k x d ≡ rests) → Stepped Rested p o
     unfolding objectOfRow objectStep
     object-rests q = rested (go (objectAt (parse p o) k))
       where
         go : (a : ObjectRow) → objectStep policy (parse p o) k a ≡ rests
         go (noObject l) = refl
         go (object x) = ap (repairObject policy (parse p o) k x) (sym e) ∙ q x
+
+    pub object-unused-row : d ≡ UNUSED → Stepped Rested p o
+    unfolding repairObject
+    object-unused-row q = object-rests (λ x. rw q)
+
+    pub object-named : d ≡ KEPT → Stepped Rested p o
+    unfolding repairObject
+    object-named q = object-rests (λ x. rw q)
+
+    pub object-spare : d ≡ SPARE → Stepped Rested p o
+    unfolding repairObject
+    object-spare q = object-rests (λ x. rw q)
+
+    pub object-conflict : d ≡ CONFLICT → Stepped Rested p o
+    unfolding repairObject
+    object-conflict q = object-rests (λ x. rw q)
 
     module _ (n : k < length o / objectSize) where
       row : List ℕ
@@ -388,6 +448,7 @@ module _ (p o : List ℕ) (h : Sound p o) (b : Bytes p) (c : Bytes o) (policy k 
         where
           other : d ≡ UNUSED → ⊥
           other u = let z : _≡_ {A = ℕ} 0 1 = cc in absurd (omega arith)
+
           s : objectOfRow p o policy k ≡ repairs OfEmpty (writeObject k destroyed ∷ [])
           s = rw (class-object other, ← e, q, a)
 
@@ -398,5 +459,6 @@ module _ (p o : List ℕ) (h : Sound p o) (b : Bytes p) (c : Bytes o) (policy k 
         where
           other : d ≡ UNUSED → ⊥
           other u = let z : _≡_ {A = ℕ} 0 1 = cc in absurd (omega arith)
+
           s : adoptRow p o k ≡ objectOfRow p o policy k
           s = rw (class-object other, ← e, q, a)

@@ -1,6 +1,4 @@
 // One step on object rows: EMPTY is destroyed, ORPHAN is put in its claimed place.
-use stores::files;
-use stores::objects;
 use classify::places;
 use fid::MdtFid;
 use layout::Slot;
@@ -10,12 +8,14 @@ use rules::Repair;
 use rules::Row;
 use rules::Way;
 use search::slots;
-use tables::rows;
-use tables::rows::OBJECT_SIZE;
-use tables::rows::PARENT_SIZE;
+use stores::files;
+use stores::objects;
 use tables::Claim;
 use tables::Object;
 use tables::Owner;
+use tables::rows;
+use tables::rows::OBJECT_SIZE;
+use tables::rows::PARENT_SIZE;
 ghost use mathlib.Core.Path.{_≡_};
 ghost use mathlib.Core.List.{[]};
 ghost use Prim.Native.Nat.{_+_, _*_, _/_, _≤_, _<_};
@@ -136,7 +136,14 @@ fn adopt_new(parents: &mut [u8], x: Object, f: MdtFid, i: usize) -> Outcome
 }
 
 // ORPHAN: object x of row k is put in slot i of file f, by the way in which that place can be had.
-fn adopt_by(parents: &mut [u8], objects: &mut [u8], k: usize, x: Object, f: MdtFid, i: usize) -> Outcome
+fn adopt_by(
+    parents: &mut [u8],
+    objects: &mut [u8],
+    k: usize,
+    x: Object,
+    f: MdtFid,
+    i: usize,
+) -> Outcome
     requires { ⌜ Sound (now parents) (now objects) × (k < length (now objects) / objectSize) ⌝ }
     ensures outcome { λ s. ⌜ s ≡ outcome (adoptOf (now (parents .entry)) (now (objects .entry)) k x f i) ⌝ }
     ensures parents { λ _. ⌜ now (parents .exit) ≡ parentsBy (adoptOf (now (parents .entry)) (now (objects .entry)) k x f i) (now (parents .entry)) (now (objects .entry)) ⌝ }

@@ -1,6 +1,4 @@
 // One step on headers and slots: the repair of a class, in place in the lent tables.
-use stores::files;
-use stores::objects;
 use classify::headers;
 use fid::OstFid;
 use layout::Slot;
@@ -10,6 +8,8 @@ use rules::Repair;
 use rules::Row;
 use rules::SlotClass;
 use rules::Usable;
+use stores::files;
+use stores::objects;
 use tables::Claim;
 use tables::Object;
 use tables::rows;
