@@ -1,7 +1,7 @@
 -- The steps of object rows, case by case as the code makes them. Assumes nothing.
 use mathlib.Core.Path.{_≡_, refl, sym, ap, subst, _∙_}
 use mathlib.Core.List.{List, [], _∷_, _++_, append-nil}
-use mathlib.Core.Bool.{Bool, true, false, cond, _&&_, not}
+use mathlib.Core.Bool.{Bool, true, false, cond, not}
 use Prim.Native.Nat.{ℕ, _+_, _*_, _/_, _%_, _≤_, _<_}
 use native.Mathlib.Omega.{arith}
 use borrow.Author.Tests.{eq-eqb, ltb-true, ltb-false, not-true}
@@ -16,20 +16,19 @@ use Rattle.fid.specs.declared.OstFid.{OstFid}
 use Rattle.layout.specs.declared.Slot.{Slot}
 use Rattle.layout.specs.declared.Slot.the-variants.{Hole, Names}
 use Rattle.layout.specs.Layout.{maxSlots, stripeCount}
-use Rattle.tables.specs.Records.{Parent, ParentRow, noParent, parent, ObjectRow, noObject, object, Tables}
-use Rattle.tables.specs.Bytes.{parentSize, objectSize, isUsed, layoutBytes, decodeParent, decodeObject, parseParent, parseObject, renderParent, renderObject, parse, renderParents, renderObjects}
+use Rattle.tables.specs.Records.{ParentRow, noParent, parent, ObjectRow, noObject, object, Tables}
+use Rattle.tables.specs.Bytes.{parentSize, objectSize, isUsed, layoutBytes, decodeParent, decodeObject, parseParent, renderParent, renderObject, parse, renderParents, renderObjects}
 use Rattle.tables.specs.Positions.{slotsOf, rowAt, width}
 use Rattle.tables.specs.Check.{selfFid, Sound}
 use Rattle.tables.specs.declared.Owner.{Owner}
-use Rattle.tables.specs.declared.Claim.{Claim}
 use Rattle.tables.specs.declared.Claim.the-variants.{Unclaimed, Claims}
 use Rattle.tables.specs.declared.Object.{Object}
 use Rattle.tables.proofs.SoundLaws.{parent-size}
-use Rattle.tables.proofs.RenderLaws.{parents-back, objects-back}
-use Rattle.tables.proofs.PositionLaws.{slots-used, slots-unused}
-use Rattle.rules.specs.Rows.{ownerOf, tailOf, holesIn, isParent, isFreeParent, parentRow, freeParent, slotAt, objectAt, objectRow, objectInRow, objectOf, sameOwner}
+use Rattle.tables.proofs.RenderLaws.{objects-back}
+use Rattle.tables.proofs.PositionLaws.{slots-used}
+use Rattle.rules.specs.Rows.{ownerOf, tailOf, holesIn, isParent, isFreeParent, parentRow, freeParent, slotAt, objectAt, objectRow, objectOf, sameOwner}
 use Rattle.rules.specs.Places.{takeable, slotWay, rowWay, way}
-use Rattle.rules.specs.Classes.{objectClass, objectClassOf, unnamedClass}
+use Rattle.rules.specs.Classes.{objectClass, objectClassOf}
 use Rattle.rules.specs.Repairs.{Step, rests, repairs, stops, Write, writeParent, writeObject, putParent, putObject, applyWrite, applyWrites, adopts, slotFor, withOwner, withSlot, withSlots, grown, made, destroyed, destroy, ownerWrites, settle, makeParent, destroyAt, destroyNamed, adoptBy, adopt, repairObject}
 use Rattle.rules.specs.Steps.{objectStep}
 use Rattle.rules.specs.Runs.{outcome, stepTables}
@@ -37,8 +36,6 @@ use Rattle.rules.specs.declared.Row.{Row}
 use Rattle.rules.specs.declared.Row.the-variants.{RowIs, NoRow}
 use Rattle.rules.specs.declared.Way.{Way}
 use Rattle.rules.specs.declared.Way.the-variants.{NoWay, NewParent, Fill, Grow, Take}
-use Rattle.rules.specs.declared.Lookup.{Lookup}
-use Rattle.rules.specs.declared.Lookup.the-variants.{Present, Missing}
 use Rattle.rules.specs.declared.ObjectClass.{ObjectClass}
 use Rattle.rules.specs.declared.ObjectClass.the-variants.{UNUSED, KEPT, SPARE, EMPTY, ORPHAN, CONFLICT}
 use Rattle.rules.specs.declared.Repair.{Repair}
@@ -48,14 +45,14 @@ use Rattle.rules.specs.declared.Outcome.the-variants.{Rested, Repaired, Stopped
 use Rattle.search.proofs.ParsedRows.{parsed-object, object-used, object-unused, parent-test, parent-used, parent-unused, free-parent-test}
 use Rattle.rules.proofs.Searches.{from-row-is}
 use Rattle.search.proofs.FoundRows.{parent-inside, parent-found, free-parent-inside, object-inside}
-use Rattle.search.proofs.AloneLaws.{free-parent-alone, object-row-alone, slot-alone, row-alone}
-use Rattle.stores.specs.UsedRow.{UsedRow, rowBytes, UsedAt}
+use Rattle.search.proofs.AloneLaws.{free-parent-alone, object-row-alone, slot-alone}
+use Rattle.stores.specs.UsedRow.{rowBytes, UsedAt}
 use Rattle.mend.specs.SlotBytes.{parentsBy, objectsBy}
 use Rattle.adopt.specs.OrphanBytes.{ownedBytes, namedRow, droppedBytes, RowInside, adoptOf, adoptRow, madeOutcome, madeBytes, objectOfRow}
 use Rattle.stores.proofs.ObjectStores.{length-object, length-destroyed}
 use Rattle.stores.proofs.RowStores.{slot-length, grow-length, made-length}
 use Rattle.stores.proofs.FileLaws.{row-bytes}
-use Rattle.stores.proofs.TableLaws.{parents-put, objects-put, objects-put-2, parents-kept, objects-kept}
+use Rattle.stores.proofs.TableLaws.{parents-put, objects-put, objects-put-2, objects-kept}
 use Rattle.mend.proofs.StepLaws.{outcome-rests, outcome-stops, outcome-repairs, parents-rests, parents-stops, objects-stops, objects-rests, parents-same, objects-one, row-is, used-at, row-inside}
 
 -- ## Small parts

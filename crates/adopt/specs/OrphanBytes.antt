@@ -1,5 +1,4 @@
 -- Parts of the step of an object row, on bytes.
-use mathlib.Core.Path.{_≡_}
 use mathlib.Core.List.{List}
 use mathlib.Core.Bool.{cond}
 use Prim.Native.Nat.{ℕ, _*_, _/_, _<_}

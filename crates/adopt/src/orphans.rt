@@ -24,7 +24,7 @@ ghost use lib.Seq.{sets};
 ghost use Rattle.layout.specs.Layout.{maxSlots, stripeCount};
 ghost use Rattle.tables.specs.Bytes.{parentSize, objectSize, layoutBytes, parseParent, renderParent, parse};
 ghost use Rattle.tables.specs.Check.{Sound};
-ghost use Rattle.rules.specs.Rows.{ownerOf, freeParent, sameOwner};
+ghost use Rattle.rules.specs.Rows.{ownerOf, freeParent};
 ghost use Rattle.rules.specs.Repairs.{adopts, slotFor, withSlot, grown};
 ghost use Rattle.rules.specs.Runs.{outcome};
 ghost use Rattle.stores.specs.UsedRow.{rowBytes, UsedAt};

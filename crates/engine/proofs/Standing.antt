@@ -52,7 +52,7 @@ apart T d =
       objects = λ r s a b p q e. d .objects r s (a .fid) (rw p (same-self (a .fid .0))) (rw (q, e) (same-self (b .fid .0)));
     }
 
-good-sound : (T : Tables) → Good T → Sound (renderParents T) (renderObjects T)
+pub good-sound : (T : Tables) → Good T → Sound (renderParents T) (renderObjects T)
 good-sound T g = fits-sound T (g .fits) (g .parents-few) (g .objects-few) (apart T (g .distinct))
 
 -- ## One step
@@ -99,17 +99,22 @@ stands-sound p o at s =
     subst (λ (l : List ℕ). Sound l o) (s .parents)
     (subst (λ (l : List ℕ). Sound (renderParents (parse p o)) l) (s .objects) (good-sound (parse p o) (s .good)))
 
+-- tables that pass are such tables
+pub sound-good : (p o : List ℕ) → Sound p o → Bytes p → Bytes o → Good (parse p o)
+sound-good p o s a b =
+    let f = sound-facts p o s in
+    record {
+      fits = sound-fits p o s a b;
+      distinct = checked-distinct p o (sound-pass p o s .different);
+      parents-few = rw (parsed-parents p o) (f .parents-few);
+      objects-few = rw (parsed-objects p o) (f .objects-few);
+    }
+
 pub ready-stands : (p o r : List ℕ) (at : Position) → RunReady p o r at → Bytes p → Bytes o → Stands p o at
 ready-stands p o r at k a b =
     let s = k .tables in
-    let f = sound-facts p o s in
     record {
-      good = record {
-        fits = sound-fits p o s a b;
-        distinct = checked-distinct p o (sound-pass p o s .different);
-        parents-few = rw (parsed-parents p o) (f .parents-few);
-        objects-few = rw (parsed-objects p o) (f .objects-few);
-      };
+      good = sound-good p o s a b;
       parents = parents-back p o s a;
       objects = objects-back p o s b;
       position = k .position;

@@ -2,23 +2,22 @@
 use mathlib.Core.Path.{_≡_, refl, sym, ap, _∙_}
 use mathlib.Core.List.{List, [], _∷_}
 use mathlib.Core.Bool.{Bool, true, false, cond}
-use Prim.Native.Nat.{ℕ, zero, suc, _/_, _≤_, _<_}
+use Prim.Native.Nat.{ℕ, zero, suc, _/_, _<_}
 use native.Mathlib.Omega.{arith}
 use lib.ListN.{length, getD, drop}
 use Rattle.fid.specs.declared.OstFid.{OstFid}
 use Rattle.layout.specs.declared.Slot.{Slot}
 use Rattle.layout.specs.declared.Slot.the-variants.{Hole, Names}
-use Rattle.layout.specs.Layout.{maxSlots, stripeCount}
-use Rattle.layout.proofs.LayoutLaws.{LayoutFacts}
+use Rattle.layout.specs.Layout.{maxSlots}
 use Rattle.tables.specs.Records.{ParentRow, noParent, parent}
-use Rattle.tables.specs.Bytes.{parentSize, isUsed, layoutBytes, decodeParent, parseParent, parse}
-use Rattle.tables.specs.Positions.{rowAt, slotsOf}
+use Rattle.tables.specs.Bytes.{parentSize, isUsed, decodeParent, parseParent, parse}
+use Rattle.tables.specs.Positions.{slotsOf}
 use Rattle.tables.specs.Check.{Sound}
 use Rattle.rules.specs.Rows.{slotAt}
-use Rattle.rules.specs.Repairs.{Step, rests}
+use Rattle.rules.specs.Repairs.{rests}
 use Rattle.rules.specs.Steps.{slotStep}
 use Rattle.search.proofs.AloneLaws.{slot-alone}
-use Rattle.stores.specs.UsedRow.{UsedRow, rowBytes, UsedAt}
+use Rattle.stores.specs.UsedRow.{rowBytes}
 use Rattle.mend.specs.SlotBytes.{SlotReady, slotRepairOf, slotStepOf}
 use Rattle.stores.proofs.RowStores.{used-facts, count-of}
 use Rattle.mend.proofs.StepLaws.{row-is, used-at}

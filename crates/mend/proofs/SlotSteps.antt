@@ -1,15 +1,15 @@
 -- The steps of slots through the object's row and the reserve, case by case as the code makes them. Assumes nothing.
-use mathlib.Core.Path.{_≡_, refl, sym, ap, _∙_, subst}
+use mathlib.Core.Path.{_≡_, sym, ap, _∙_, subst}
 use mathlib.Core.List.{List, [], _∷_}
-use Prim.Native.Nat.{ℕ, _+_, _*_, _/_, _≤_, _<_}
+use Prim.Native.Nat.{ℕ, _*_, _/_, _<_}
 use lib.ListN.{length, take, drop}
 use lib.Seq.{sets}
 use Rattle.wire.specs.Numbers.{Bytes}
 use Rattle.fid.specs.declared.MdtFid.{MdtFid}
 use Rattle.fid.specs.declared.OstFid.{OstFid}
-use Rattle.tables.specs.Records.{ParentRow, parent, ObjectRow, object, Tables}
+use Rattle.tables.specs.Records.{parent, object}
 use mathlib.Core.Bool.{true, false}
-use Rattle.tables.specs.Bytes.{parentSize, objectSize, isUsed, decodeParent, parseParent, decodeObject, parseObject, renderObject, parse, parseReserve}
+use Rattle.tables.specs.Bytes.{objectSize, isUsed, decodeParent, parseParent, decodeObject, parseObject, renderObject, parse, parseReserve}
 use Rattle.tables.specs.Positions.{rowAt}
 use Rattle.tables.specs.Check.{Sound}
 use Rattle.tables.specs.declared.Object.{Object}

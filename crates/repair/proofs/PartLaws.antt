@@ -1,14 +1,14 @@
 -- The step at a position is that of a header, of a slot or of an object row. Assumes nothing.
-use mathlib.Core.Path.{_≡_, refl, sym, ap, _∙_}
+use mathlib.Core.Path.{_≡_, sym, ap, _∙_}
 use mathlib.Core.List.{List}
 use mathlib.Core.Bool.{true, false}
-use Prim.Native.Nat.{ℕ, zero, suc, _-_, _≤_, _<_}
+use Prim.Native.Nat.{ℕ, zero, suc, _-_, _≤_}
 use native.Mathlib.Omega.{arith}
 use native.Mathlib.Decide.{ℕ-discrete}
 use borrow.Author.Tests.{eq-eqb, ne-eqb}
 use lib.Dec.{eqb}
 use Rattle.wire.specs.Numbers.{Bytes}
-use Rattle.tables.specs.Bytes.{parse, parseReserve}
+use Rattle.tables.specs.Bytes.{parse}
 use Rattle.tables.specs.Check.{Sound}
 use Rattle.tables.specs.Positions.{rowAt, isPosition, isEnd}
 use Rattle.tables.specs.declared.Position.{Position}
