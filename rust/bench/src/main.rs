@@ -4,7 +4,7 @@ use std::io::Write;
 use std::time::Duration;
 
 use bench::input::Tables;
-use bench::measure::{Times, side_by_side, timed};
+use bench::measure::{Timed, Times, side_by_side, timed};
 use bench::plain;
 
 /// The ratio that the library is to keep to.
@@ -13,8 +13,13 @@ const MOST_RATIO: f64 = 1.3;
 const ROUNDS: usize = 3;
 /// The slots of a file.
 const SLOTS: usize = 160;
+/// Create and adopt.
+const POLICY: u64 = 3;
 /// The sizes between which the growth is measured.
 const SIZES: [usize; 5] = [10_000, 20_000, 40_000, 80_000, 160_000];
+
+/// Answer, position, report and tables after a run.
+type Ran = (u32, [u64; 3], [u64; 9], Tables);
 
 fn main() {
     let rounds = std::env::args().nth(1);
@@ -24,6 +29,7 @@ fn main() {
     println!("|---|---|---|---|");
     measure_check(rounds);
     let growth = SIZES.map(|slots| measure_classes(slots, rounds));
+    measure_run(rounds);
     print_growth(&growth);
 }
 
@@ -42,19 +48,110 @@ fn measure_check(rounds: usize) {
     print_line(what, times);
 }
 
-/// The class of every position of clean tables, in one call.
+/// The class of every position of clean tables: a run with create and adopt, which asks for
+/// each of them and changes nothing.
 fn measure_classes(slots: usize, rounds: usize) -> Times {
-    let count = slots * 65_536 / 160_000;
-    let tables = Tables::clean(slots, count, 0);
-    let (parents, objects) = (&tables.parents, &tables.objects);
+    let objects = slots * 65_536 / 160_000;
+    let tables = Tables::clean(slots, objects, 0);
     let times = side_by_side(
         rounds,
-        || timed(|| lfsck_sys::measure_classes(parents, objects)),
-        || timed(|| plain::classes(parents, objects)),
+        || unchanged(run(&tables, lfsck_run), &tables),
+        || unchanged(run(&tables, plain::run), &tables),
     );
-    let what = format!("classes of all positions: {slots} slots, {count} objects, clean");
+    let (slots, objects) = (grouped(slots), grouped(objects));
+    let what = format!("classes of all positions: {slots} slots, {objects} objects, clean");
     print_line(&what, times);
     times
+}
+
+/// A whole run on damaged tables.
+fn measure_run(rounds: usize) {
+    let slots = 1000 * SLOTS;
+    let mut tables = Tables::clean(slots, 65_536, 65_536);
+    tables.damage(slots);
+    let times = side_by_side(
+        rounds,
+        || repaired(run(&tables, lfsck_run)),
+        || repaired(run(&tables, plain::run)),
+    );
+    let what =
+        "run, policy 3: 1,000 files of 160 slots, 65,536 objects, one slot in a hundred damaged";
+    print_line(what, times);
+}
+
+/// A run by either side.
+type RunCall = fn(&mut [u8], &mut [u8], &[u8], u64, u64, &mut [u64; 3], &mut [u64; 9]) -> u32;
+
+/// The library's run.
+fn lfsck_run(
+    parents: &mut [u8],
+    objects: &mut [u8],
+    reserve: &[u8],
+    policy: u64,
+    most: u64,
+    position: &mut [u64; 3],
+    report: &mut [u64; 9],
+) -> u32 {
+    lfsck_sys::run(parents, objects, reserve, policy, most, position, report)
+}
+
+/// Times a run with create and adopt from the start, which must get to the end.
+fn run(tables: &Tables, call: RunCall) -> Timed<Ran> {
+    let Tables {
+        mut parents,
+        mut objects,
+        reserve,
+    } = tables.clone();
+    let (mut position, mut report) = ([1, 0, 0], [0; 9]);
+    let Timed { result, took } = timed(|| {
+        call(
+            &mut parents,
+            &mut objects,
+            &reserve,
+            POLICY,
+            u64::MAX,
+            &mut position,
+            &mut report,
+        )
+    });
+    assert_eq!((result, position), (0, [3, 0, 0]));
+    let after = Tables {
+        parents,
+        objects,
+        reserve,
+    };
+    Timed {
+        result: (result, position, report, after),
+        took,
+    }
+}
+
+/// A run that had nothing to repair.
+fn unchanged(run: Timed<Ran>, before: &Tables) -> Timed<Ran> {
+    let (_, _, report, after) = &run.result;
+    assert_eq!(report[1..], [0; 8]);
+    assert!(after == before, "a run changed clean tables");
+    run
+}
+
+/// A run that had repairs of each class that the damage brings.
+fn repaired(run: Timed<Ran>) -> Timed<Ran> {
+    let (_, _, report, _) = &run.result;
+    let [
+        _,
+        own,
+        multiple,
+        dangling,
+        blank,
+        unmatched,
+        owner,
+        empty,
+        orphan,
+    ] = *report;
+    assert_eq!([own, empty], [0; 2]);
+    let all = [multiple, dangling, blank, unmatched, owner, orphan];
+    assert!(all.iter().all(|&count| count > 100), "{report:?}");
+    run
 }
 
 fn print_line(what: &str, times: Times) {
@@ -75,10 +172,26 @@ fn print_growth(growth: &[Times]) {
     for (sizes, times) in SIZES.windows(2).zip(growth.windows(2)) {
         println!(
             "| {} to {} | times {:.2} | times {:.2} |",
-            sizes[0],
-            sizes[1],
+            grouped(sizes[0]),
+            grouped(sizes[1]),
             factor(times[0].library, times[1].library),
             factor(times[0].plain, times[1].plain)
         );
     }
+}
+
+/// A number with a comma before each three digits.
+fn grouped(number: usize) -> String {
+    let digits = number.to_string();
+    let from_end = digits
+        .char_indices()
+        .map(|(at, digit)| (digits.len() - at, digit));
+    from_end.fold(String::new(), |text, (left, digit)| {
+        let comma = if !text.is_empty() && left % 3 == 0 {
+            ","
+        } else {
+            ""
+        };
+        format!("{text}{comma}{digit}")
+    })
 }
