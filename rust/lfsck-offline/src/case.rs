@@ -1,0 +1,218 @@
+//! A case: a directory with the tables, opened by one command at a time and saved at once.
+//!
+//! A save writes everything new into one file, the journal, and renames it into place; that is
+//! the moment of the save. Then each file is replaced, and the journal removed. Whoever opens
+//! the case completes a journal that is whole and discards one that is not, so after opening
+//! the files are all old or all new.
+
+use std::fs::{self, File, OpenOptions, TryLockError};
+use std::path::Path;
+
+use crate::digest::Digest;
+use crate::disk::{Disk, trouble};
+use crate::journal::{self, Change};
+use crate::outcome::Failure;
+use crate::saved::{self, POSITION, Saved};
+use crate::tables::{Table, Tables};
+
+const LOCK: &str = "lfsck-offline.lock";
+const JOURNAL: &str = "lfsck-offline.journal";
+/// What a file that is still being written has after its name.
+const NEW: &str = ".new";
+/// The files that a save may write.
+const SAVED: [&str; 4] = ["parents.tbl", "objects.tbl", "reserve.tbl", POSITION];
+/// More than a file of a case, or a journal of them all, can have.
+const MOST_BYTES: usize = 16 << 20;
+
+/// A case that this process alone has open.
+pub struct Case {
+    disk: Disk,
+    _lock: File,
+}
+
+impl Case {
+    /// Opens a case, completing a save that was cut off.
+    pub fn open(directory: &Path) -> Result<Case, Failure> {
+        let metadata = fs::metadata(directory).map_err(|error| trouble(directory, &error))?;
+        if !metadata.is_dir() {
+            let message = format!("{}: this is not a directory", directory.display());
+            return Err(Failure::files(message));
+        }
+        let disk = Disk::new(directory);
+        if !disk.has(JOURNAL) {
+            for table in Table::ALL {
+                disk.require(table.file())?;
+            }
+        }
+        Case::lock(directory, disk)
+    }
+
+    /// Makes a case with these tables in a directory that has none of the files yet.
+    pub fn make(directory: &Path, tables: &Tables) -> Result<(), Failure> {
+        fs::create_dir_all(directory).map_err(|error| trouble(directory, &error))?;
+        let case = Case::lock(directory, Disk::new(directory))?;
+        if let Some(name) = SAVED.iter().find(|name| case.disk.has(name)) {
+            let path = case.disk.path(name);
+            let message = format!("{}: this is already there", path.display());
+            return Err(Failure::files(message));
+        }
+        let change = |table: Table| Change {
+            name: table.file().to_string(),
+            before: None,
+            after: tables.of(table).to_vec(),
+        };
+        case.save(&Table::ALL.map(change))
+    }
+
+    fn lock(directory: &Path, disk: Disk) -> Result<Case, Failure> {
+        let path = disk.path(LOCK);
+        let lock = OpenOptions::new()
+            .write(true)
+            .create(true)
+            .truncate(false)
+            .open(&path)
+            .map_err(|error| trouble(&path, &error))?;
+        match lock.try_lock() {
+            Ok(()) => (),
+            Err(TryLockError::WouldBlock) => {
+                let directory = directory.display();
+                let message = format!("{directory}: another lfsck-offline has this case open");
+                return Err(Failure::files(message));
+            }
+            Err(TryLockError::Error(error)) => return Err(trouble(&path, &error)),
+        }
+        let case = Case { disk, _lock: lock };
+        case.recover()?;
+        Ok(case)
+    }
+
+    /// Completes a save whose journal is whole, and clears away what a cut-off one left.
+    fn recover(&self) -> Result<(), Failure> {
+        if self.disk.has(JOURNAL) {
+            let journal = self.disk.read(JOURNAL, MOST_BYTES)?;
+            match journal::decode(&journal) {
+                Some(changes) => self.complete(&changes)?,
+                None => self.disk.remove(JOURNAL)?,
+            }
+        }
+        for name in SAVED.iter().chain([&JOURNAL]) {
+            let unfinished = format!("{name}{NEW}");
+            if self.disk.has(&unfinished) {
+                self.disk.remove(&unfinished)?;
+            }
+        }
+        Ok(())
+    }
+
+    /// Completes a save. Files that are neither old nor new were changed by somebody since, and
+    /// are not overwritten.
+    fn complete(&self, changes: &[Change]) -> Result<(), Failure> {
+        for change in changes {
+            let stands = self.digest(&change.name)?;
+            let known = stands == change.before || stands == Some(Digest::of(&change.after));
+            if !known || !SAVED.contains(&change.name.as_str()) {
+                let path = self.disk.path(&change.name);
+                return Err(Failure::files(format!(
+                    "{}: changed since a save was cut off; remove {JOURNAL} to keep the files as they are",
+                    path.display()
+                )));
+            }
+        }
+        self.replace(changes)
+    }
+
+    /// The digest of a file; none where there is none.
+    fn digest(&self, name: &str) -> Result<Option<Digest>, Failure> {
+        if !self.disk.has(name) {
+            return Ok(None);
+        }
+        let bytes = self.disk.read(name, MOST_BYTES)?;
+        Ok(Some(Digest::of(&bytes)))
+    }
+
+    /// The tables as they stand.
+    pub fn tables(&self) -> Result<Tables, Failure> {
+        let read = |table: Table| self.disk.read(table.file(), table.most_bytes());
+        Ok(Tables {
+            parents: read(Table::Parents)?,
+            objects: read(Table::Objects)?,
+            reserve: read(Table::Reserve)?,
+        })
+    }
+
+    /// The saved position, if there is one.
+    pub fn position(&self) -> Result<Option<Saved>, Failure> {
+        if !self.disk.has(POSITION) {
+            return Ok(None);
+        }
+        let bytes = self.disk.read(POSITION, saved::MOST_BYTES)?;
+        match Saved::parse(&bytes) {
+            Some(saved) => Ok(Some(saved)),
+            None => Err(Failure::refused(format!(
+                "{}: this is no saved position; --from-start begins without it",
+                self.disk.path(POSITION).display()
+            ))),
+        }
+    }
+
+    /// Saves what a run has changed of the tables and the position, all or none.
+    pub fn save_run(&self, old: &Tables, new: &Tables, saved: &Saved) -> Result<(), Failure> {
+        let mut changes = Vec::new();
+        for table in Table::ALL {
+            let before = Some(Digest::of(old.of(table)));
+            if self.digest(table.file())? != before {
+                let path = self.disk.path(table.file());
+                let message = format!("{}: changed meanwhile; nothing is saved", path.display());
+                return Err(Failure::files(message));
+            }
+            if old.of(table) != new.of(table) {
+                changes.push(Change {
+                    name: table.file().to_string(),
+                    before,
+                    after: new.of(table).to_vec(),
+                });
+            }
+        }
+        let position = Change {
+            name: POSITION.to_string(),
+            before: self.digest(POSITION)?,
+            after: saved.to_text().into_bytes(),
+        };
+        if position.before != Some(Digest::of(&position.after)) {
+            changes.push(position);
+        }
+        match changes.len() {
+            0 => Ok(()),
+            _ => self.save(&changes),
+        }
+    }
+
+    fn save(&self, changes: &[Change]) -> Result<(), Failure> {
+        let unfinished = format!("{JOURNAL}{NEW}");
+        let journal = journal::encode(changes);
+        // Nobody may read it who may not read the tables.
+        self.disk
+            .write(&unfinished, &journal, Table::Parents.file())?;
+        self.disk.rename(&unfinished, JOURNAL)?;
+        let replaced = self.disk.sync().and_then(|()| self.replace(changes));
+        replaced.map_err(|failure| Failure {
+            message: format!(
+                "{}; the save is completed when the case is next opened",
+                failure.message
+            ),
+            ..failure
+        })
+    }
+
+    /// Replaces the files of a journal that is in place, and removes it.
+    fn replace(&self, changes: &[Change]) -> Result<(), Failure> {
+        for change in changes {
+            let unfinished = format!("{}{NEW}", change.name);
+            self.disk.write(&unfinished, &change.after, &change.name)?;
+            self.disk.rename(&unfinished, &change.name)?;
+        }
+        self.disk.sync()?;
+        self.disk.remove(JOURNAL)?;
+        self.disk.sync()
+    }
+}

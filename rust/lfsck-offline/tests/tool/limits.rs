@@ -1,0 +1,145 @@
+//! Cases at the limits of document 01.
+
+use std::process::Stdio;
+use std::time::{Duration, Instant};
+
+use crate::bytes::{object, object_row, parent_row};
+use crate::json::parse;
+use crate::tool::{Case, LOCK, Told};
+
+const PARENTS: usize = 1024;
+const SLOTS: usize = 160;
+const OBJECTS: usize = 65_536;
+/// Files with all their slots named; the others have holes.
+const NAMED: usize = 400;
+
+fn id(row: usize, slot: usize) -> u32 {
+    (1 + SLOTS * row + slot) as u32
+}
+
+/// 1,024 files of 160 slots; every object is where it belongs, but for a few faults in the
+/// first files.
+fn parents() -> Vec<u8> {
+    let mut parents = Vec::with_capacity(PARENTS * 3915);
+    for row in 0..PARENTS {
+        let named = |slot| if row < NAMED { id(row, slot) } else { 0 };
+        let mut slots: Vec<u32> = (0..SLOTS).map(named).collect();
+        match row {
+            2 => slots[7] = id(1, 7),
+            3 => slots[5] = 900_000,
+            _ => (),
+        }
+        parents.extend(parent_row(1 + row as u32, &slots));
+    }
+    // The own id in the layout of file 5.
+    parents[4 * 3915 + 27 + 8] ^= 0x40;
+    parents
+}
+
+fn objects() -> Vec<u8> {
+    let mut objects = Vec::with_capacity(OBJECTS * 46);
+    for row in 0..NAMED {
+        for slot in 0..SLOTS {
+            objects.extend(object_row(id(row, slot), (1 + row as u32, slot as u32)));
+        }
+    }
+    // The claim of one object and the owner of another.
+    objects[6 * SLOTS * 46 + 41] = 9;
+    objects[(7 * SLOTS + 1) * 46 + 21] ^= 1;
+    objects.resize(OBJECTS * 46, 0);
+    objects
+}
+
+fn reserve() -> Vec<u8> {
+    let fids = (0..65_536).map(|number| object(1_000_000 + number));
+    fids.flat_map(|fid| fid.to_bytes()).collect()
+}
+
+#[test]
+fn full_tables_are_checked_classed_and_repaired() {
+    let started = Instant::now();
+    let time = |what: &str| println!("{what}: {:.1} s", started.elapsed().as_secs_f64());
+    let case = Case::with("full", &parents(), &objects(), &reserve());
+
+    let sound = case.json(&["check"], 0);
+    assert_eq!(sound.number("parent_rows"), 1024);
+    assert_eq!(sound.number("object_rows"), 65_536);
+    assert_eq!(sound.number("reserve_fids"), 65_536);
+    time("check");
+
+    let classes = case.json(&["classes"], 0);
+    let summary = classes.get("summary");
+    let faults = ["SELF", "MULTIPLE", "DANGLING", "UNMATCHED", "OWNER"];
+    for class in faults {
+        assert_eq!(summary.number(class), 1, "{class}");
+    }
+    assert_eq!(summary.number("HOLE"), ((PARENTS - NAMED) * SLOTS) as u64);
+    // The two objects whose slots name others claim places that are taken.
+    assert_eq!(summary.number("CONFLICT"), 2);
+    assert_eq!(summary.number("UNUSED"), (OBJECTS - NAMED * SLOTS) as u64);
+    time("classes");
+
+    // The faults are in the first eight files.
+    let steps = (8 * (1 + SLOTS)).to_string();
+    let run = ["run", "--create", "--steps", &steps, "--json"];
+    std::fs::remove_file(case.path().join(LOCK)).expect("the lock of earlier commands");
+    let mut command = case.command(&run);
+    let command = command.stdout(Stdio::piped()).stderr(Stdio::piped());
+    let child = command.spawn().expect("the tool");
+    expect_refused_meanwhile(&case);
+    let told: Told = child.wait_with_output().unwrap().into();
+    let told = told.expect(1);
+    assert_eq!(told.err, "", "no bar in a pipe");
+    let report = parse(&told.out);
+    for class in faults {
+        assert_eq!(report.get("repairs").number(class), 1, "{class}");
+    }
+    let left = (PARENTS - 8) * (1 + SLOTS) + OBJECTS;
+    assert_eq!(report.number("steps_left"), left as u64);
+    time("run");
+}
+
+/// While the run has the case, nobody else has. Its lock is new, so that it can be waited for.
+fn expect_refused_meanwhile(case: &Case) {
+    let lock = case.path().join(LOCK);
+    let started = Instant::now();
+    while !lock.exists() {
+        assert!(started.elapsed() < Duration::from_secs(20));
+        std::thread::sleep(Duration::from_millis(5));
+    }
+    std::thread::sleep(Duration::from_millis(50));
+    case.run(&["check"])
+        .expect_line(74, "another lfsck-offline has this case open");
+}
+
+#[test]
+fn no_rows_are_a_case() {
+    let case = Case::with("no-rows", b"", b"", b"");
+    assert_eq!(case.json(&["check"], 0).number("parent_rows"), 0);
+    let told = case.run(&["classes"]).expect(0);
+    assert!(told.out.starts_with("Nothing to report"), "{told:?}");
+    let report = case.json(&["run", "--create", "--adopt"], 0);
+    assert_eq!(report.number("stage"), 3);
+    assert_eq!(report.number("steps_done"), 0);
+    case.run(&["show", "0x200000401:1"])
+        .expect_line(2, "nothing in");
+}
+
+#[test]
+fn one_row_more_is_too_many() {
+    for (name, parents, objects, reserve) in [
+        ("1025", 1025, 0, 0),
+        ("65537", 0, 65_537, 0),
+        ("65537-reserve", 0, 0, 65_537),
+    ] {
+        let case = Case::with(
+            name,
+            &vec![0; parents * 3915],
+            &vec![0; objects * 46],
+            &object(1).to_bytes().repeat(reserve),
+        );
+        let json = case.json(&["check"], 2);
+        assert_eq!(json.number("answer"), 11);
+        case.run(&["run"]).expect_line(2, "refused with 11");
+    }
+}

@@ -1,0 +1,13 @@
+//! The tool, tested by running it.
+
+mod bytes;
+mod commands;
+mod json;
+mod limits;
+mod oracle;
+mod refusals;
+mod resume;
+mod saves;
+mod tool;
+mod tour;
+mod two;
