@@ -137,7 +137,7 @@ impl Words {
             let word = self.places[wanted].display().to_string();
             return Err(Failure::usage(format!("'{word}' is one word too many")));
         }
-        if self.places.is_empty() {
+        if self.places.first().is_none_or(|place| place.is_empty()) {
             return Err(Failure::usage("the directory of the case is missing"));
         }
         let directory = self.places.remove(0).into();
@@ -237,6 +237,19 @@ mod tests {
             ("show -h", Topic::Show),
         ] {
             assert_eq!(call(line).command, Command::Help(topic));
+        }
+    }
+
+    #[test]
+    fn an_empty_word_is_no_directory() {
+        for command in ["sample", "check", "classes", "run", "show"] {
+            let words = [command, "", "1:2"].map(OsString::from);
+            let words = words
+                .into_iter()
+                .take(if command == "show" { 3 } else { 2 });
+            let failure = Call::parse(words).expect_err(command);
+            assert_eq!(failure.status, Status::Usage);
+            assert!(failure.message.contains("directory"), "{failure:?}");
         }
     }
 

@@ -5,7 +5,7 @@
 //! the case completes a journal that is whole and discards one that is not, so after opening
 //! the files are all old or all new.
 
-use std::fs::{self, File, OpenOptions, TryLockError};
+use std::fs::{self, File, TryLockError};
 use std::path::Path;
 
 use crate::digest::Digest;
@@ -15,7 +15,6 @@ use crate::outcome::Failure;
 use crate::saved::{self, POSITION, Saved};
 use crate::tables::{Table, Tables};
 
-const LOCK: &str = "lfsck-offline.lock";
 const JOURNAL: &str = "lfsck-offline.journal";
 /// What a file that is still being written has after its name.
 const NEW: &str = ".new";
@@ -64,14 +63,9 @@ impl Case {
         case.save(&Table::ALL.map(change))
     }
 
+    /// Locks the directory itself, so that a case that cannot be written can still be read.
     fn lock(directory: &Path, disk: Disk) -> Result<Case, Failure> {
-        let path = disk.path(LOCK);
-        let lock = OpenOptions::new()
-            .write(true)
-            .create(true)
-            .truncate(false)
-            .open(&path)
-            .map_err(|error| trouble(&path, &error))?;
+        let lock = File::open(directory).map_err(|error| trouble(directory, &error))?;
         match lock.try_lock() {
             Ok(()) => (),
             Err(TryLockError::WouldBlock) => {
@@ -79,7 +73,7 @@ impl Case {
                 let message = format!("{directory}: another lfsck-offline has this case open");
                 return Err(Failure::files(message));
             }
-            Err(TryLockError::Error(error)) => return Err(trouble(&path, &error)),
+            Err(TryLockError::Error(error)) => return Err(trouble(directory, &error)),
         }
         let case = Case { disk, _lock: lock };
         case.recover()?;

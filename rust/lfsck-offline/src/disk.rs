@@ -6,6 +6,7 @@
 use std::cell::Cell;
 use std::fs::{self, File, OpenOptions};
 use std::io::{self, Read, Write};
+use std::os::unix::fs::{MetadataExt, fchown};
 use std::path::{Path, PathBuf};
 
 use crate::outcome::Failure;
@@ -89,8 +90,8 @@ impl Disk {
         Ok(bytes)
     }
 
-    /// Writes a new file and waits until the disk has it. It has the permissions of the file
-    /// that it is to replace.
+    /// Writes a new file and waits until the disk has it. It has the permissions and, where that
+    /// may be, the owner of the file that it is to replace.
     pub fn write(&self, name: &str, bytes: &[u8], replaces: &str) -> Result<(), Failure> {
         let path = self.path(name);
         let mut file = self.operation("create", &path, || {
@@ -101,6 +102,7 @@ impl Disk {
                 .truncate(true)
                 .open(&path)?;
             if let Ok(metadata) = fs::metadata(self.path(replaces)) {
+                let _ = fchown(&file, Some(metadata.uid()), Some(metadata.gid()));
                 file.set_permissions(metadata.permissions())?;
             }
             Ok(file)

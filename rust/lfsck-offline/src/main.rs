@@ -39,7 +39,7 @@ fn main() -> ExitCode {
     let status = match outcome.and_then(print) {
         Ok(status) => status,
         Err(failure) => {
-            let message = failure.message.replace(['\n', '\r'], " ");
+            let message = failure.message.replace(char::is_control, " ");
             let _ = writeln!(io::stderr(), "lfsck-offline: {message}");
             failure.status
         }

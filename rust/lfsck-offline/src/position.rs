@@ -50,7 +50,8 @@ impl Position {
         parents.chain((0..site.objects.len()).map(Position::Object))
     }
 
-    /// The steps from here to the end, by document 01's count.
+    /// The steps from here to the end, by document 01's count. What is no position of the tables
+    /// has few or none.
     pub fn steps_left(self, site: &Site) -> u64 {
         let objects = site.objects.len();
         let from_row = |row: usize| -> usize {
@@ -59,8 +60,8 @@ impl Position {
         };
         let left = match self {
             Position::Header(row) => from_row(row),
-            Position::Slot(place) => from_row(place.row) - place.slot - 1,
-            Position::Object(row) => objects - row,
+            Position::Slot(place) => from_row(place.row).saturating_sub(place.slot + 1),
+            Position::Object(row) => objects.saturating_sub(row),
             Position::End => 0,
         };
         left as u64

@@ -27,6 +27,9 @@ const COUNTED: [&str; 8] = [
     "ORPHAN",
 ];
 
+/// The number for a position that the tables do not have.
+const NO_POSITION: u32 = 16;
+
 /// Where a run begins, and why there.
 struct Beginning {
     position: [u64; 3],
@@ -59,7 +62,10 @@ pub fn run(directory: &Path, options: RunOptions, json: bool) -> Result<Outcome,
     let mut tables = old.clone();
     let run = run_from(&mut tables, &before, beginning.position, options);
     if (11..=17).contains(&run.answer) {
-        return Err(refusal(run.answer, &old));
+        return Err(match run.answer {
+            NO_POSITION => no_such_position(beginning.position),
+            number => refusal(number, &old),
+        });
     }
     if run.steps > 0 {
         let saved = Saved::new(run.position, options.policy, &tables);
@@ -84,6 +90,15 @@ pub fn run(directory: &Path, options: RunOptions, json: bool) -> Result<Outcome,
         },
         status: status(run.answer),
     })
+}
+
+/// The tables are those of the saved position, and still it is none of theirs.
+fn no_such_position([stage, row, part]: [u64; 3]) -> Failure {
+    Failure::refused(format!(
+        "the saved position {stage}, {row}, {part} is refused with {NO_POSITION}: {}; \
+         --from-start begins without it",
+        meaning(NO_POSITION)
+    ))
 }
 
 fn status(answer: u32) -> Status {

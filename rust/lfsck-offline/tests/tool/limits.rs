@@ -1,11 +1,11 @@
 //! Cases at the limits of document 01.
 
-use std::process::Stdio;
+use std::process::{Child, Stdio};
 use std::time::{Duration, Instant};
 
 use crate::bytes::{object, object_row, parent_row};
 use crate::json::parse;
-use crate::tool::{Case, LOCK, Told};
+use crate::tool::{Case, Told};
 
 const PARENTS: usize = 1024;
 const SLOTS: usize = 160;
@@ -82,13 +82,8 @@ fn full_tables_are_checked_classed_and_repaired() {
     // The faults are in the first eight files.
     let steps = (8 * (1 + SLOTS)).to_string();
     let run = ["run", "--create", "--steps", &steps, "--json"];
-    std::fs::remove_file(case.path().join(LOCK)).expect("the lock of earlier commands");
-    let mut command = case.command(&run);
-    let command = command.stdout(Stdio::piped()).stderr(Stdio::piped());
-    let child = command.spawn().expect("the tool");
-    expect_refused_meanwhile(&case);
-    let told: Told = child.wait_with_output().unwrap().into();
-    let told = told.expect(1);
+    let told = start_alone(&case, &run).wait_with_output().unwrap();
+    let told = Told::from(told).expect(1);
     assert_eq!(told.err, "", "no bar in a pipe");
     let report = parse(&told.out);
     for class in faults {
@@ -99,17 +94,22 @@ fn full_tables_are_checked_classed_and_repaired() {
     time("run");
 }
 
-/// While the run has the case, nobody else has. Its lock is new, so that it can be waited for.
-fn expect_refused_meanwhile(case: &Case) {
-    let lock = case.path().join(LOCK);
-    let started = Instant::now();
-    while !lock.exists() {
-        assert!(started.elapsed() < Duration::from_secs(20));
-        std::thread::sleep(Duration::from_millis(5));
+/// Starts a command that keeps the case long enough to see that nobody else gets it meanwhile.
+fn start_alone(case: &Case, words: &[&str]) -> Child {
+    for attempt in 1..=6 {
+        let mut command = case.command(words);
+        let command = command.stdout(Stdio::piped()).stderr(Stdio::piped());
+        let mut child = command.spawn().expect("the tool");
+        std::thread::sleep(Duration::from_millis(50 * attempt));
+        let second = case.run(&["show", "1:1"]);
+        if second.status == Some(74) {
+            second.expect_line(74, "another lfsck-offline has this case open");
+            return child;
+        }
+        // The second was the first to open the case.
+        child.wait().expect("the tool");
     }
-    std::thread::sleep(Duration::from_millis(50));
-    case.run(&["check"])
-        .expect_line(74, "another lfsck-offline has this case open");
+    panic!("a command never has the case for itself");
 }
 
 #[test]

@@ -1,10 +1,14 @@
 //! Bad input gets one clear line and changes nothing.
 
+use std::ffi::OsStr;
 use std::fs;
+use std::os::unix::ffi::OsStrExt;
+use std::os::unix::fs::{MetadataExt, PermissionsExt};
+use std::os::unix::process::CommandExt;
 use std::path::Path;
 use std::process::Command;
 
-use crate::tool::{Case, POSITION, TOOL, Told};
+use crate::tool::{Case, JOURNAL, NOBODY, POSITION, TOOL, Told, sha256};
 
 /// The commands that read a case.
 const READERS: [&[&str]; 4] = [
@@ -18,7 +22,7 @@ fn tool(words: &[&str]) -> Told {
     Command::new(TOOL).args(words).output().unwrap().into()
 }
 
-/// Everything in a directory, the lock too.
+/// Everything in a directory.
 fn names(directory: &Path) -> Vec<String> {
     let entries = fs::read_dir(directory).unwrap();
     let mut names: Vec<String> = entries
@@ -93,7 +97,7 @@ fn each_table_must_be_there() {
             let told = case.run(words).expect_line(74, table);
             assert!(told.err.contains("no such file"), "{told:?}");
         }
-        assert_eq!(names(case.path()), before, "not even a lock is left");
+        assert_eq!(names(case.path()), before);
     }
 }
 
@@ -173,9 +177,152 @@ fn a_position_that_cannot_be_read_is_refused() {
     case.run(&["run"]).expect(0);
 }
 
+/// The saved position with other numbers, as if it had been saved so.
+fn forged(good: &[u8], position: &str) -> String {
+    let good = str::from_utf8(good).unwrap();
+    let lines = good.lines().filter(|line| !line.starts_with("digest "));
+    let text: String = lines
+        .map(|line| match line.strip_prefix("position ") {
+            Some(_) => format!("position {position}\n"),
+            None => format!("{line}\n"),
+        })
+        .collect();
+    let digest = sha256(text.as_bytes());
+    format!("{text}digest {digest}\n")
+}
+
+#[test]
+fn a_saved_position_that_the_tables_do_not_have_is_refused() {
+    let case = Case::sample("no-such-position");
+    case.run(&["run", "--steps", "5"]).expect(1);
+    let good = case.read(POSITION);
+    assert_eq!(forged(&good, "1 2 0").as_bytes(), good);
+    for position in ["1 99 7", "1 0 9", "2 22 0", "2 0 1", "3 0 1", "9 9 9"] {
+        case.write(POSITION, forged(&good, position).as_bytes());
+        let before = case.files();
+        let told = case
+            .run(&["run"])
+            .expect_line(2, "refused with 16: no such position");
+        assert!(told.err.contains("--from-start"), "{told:?}");
+        assert_eq!(case.files(), before);
+    }
+    case.run(&["run", "--from-start"]).expect(0);
+}
+
+#[test]
+fn a_directory_in_place_of_a_file_of_the_tool_is_trouble_with_files() {
+    let case = Case::sample("directory-as-position");
+    let before = case.files();
+    fs::create_dir(case.path().join(POSITION)).unwrap();
+    for words in [&["run"][..], &["run", "--from-start"]] {
+        case.run(words).expect_line(74, "this is a directory");
+    }
+    case.run(&["check"]).expect(0);
+    fs::remove_dir(case.path().join(POSITION)).unwrap();
+    fs::create_dir(case.path().join(JOURNAL)).unwrap();
+    for words in READERS {
+        case.run(words).expect_line(74, "this is a directory");
+    }
+    assert_eq!(case.files(), before);
+}
+
+#[test]
+fn an_empty_word_is_no_directory() {
+    let case = Case::empty("empty-word");
+    for words in [&["sample", ""][..], &["check", ""], &["run", ""]] {
+        let mut command = Command::new(TOOL);
+        command.args(words).current_dir(case.path());
+        let told: Told = command.output().unwrap().into();
+        told.expect_line(64, "the directory of the case is missing");
+    }
+    assert!(names(case.path()).is_empty());
+}
+
+/// Names of directories that trip programs.
+#[test]
+fn a_directory_may_have_any_name() {
+    let case = Case::empty("names");
+    let names: [&[u8]; 4] = [b"two words", b"-d", b"line\nline", b"caf\xe9 \x1b[1m"];
+    for name in names {
+        let name = OsStr::from_bytes(name);
+        let run = |words: &[&str]| -> Told {
+            let mut command = Command::new(TOOL);
+            command.args(words).arg("--").arg(name);
+            command.current_dir(case.path()).output().unwrap().into()
+        };
+        run(&["check"]).expect_line(74, "no such file or directory");
+        run(&["sample"]).expect(0);
+        run(&["sample"]).expect_line(74, "already there");
+        run(&["check"]).expect(0);
+        run(&["run", "--create"]).expect(0);
+        crate::json::parse(&run(&["classes", "--json"]).expect(0).out);
+    }
+}
+
+#[test]
+fn words_that_are_no_text_are_usage() {
+    let case = Case::sample("no-text");
+    let before = case.files();
+    let word = OsStr::from_bytes(b"\xff");
+    for words in [&["check"][..], &["run", "--steps"], &["classes", "--only"]] {
+        let mut command = case.command(words);
+        let told: Told = command.arg(word).output().unwrap().into();
+        told.expect_line(64, "see lfsck-offline --help");
+    }
+    let told: Told = case.command(&["show"]).arg(word).output().unwrap().into();
+    told.expect_line(64, "is no FID");
+    let told: Told = Command::new(TOOL).arg(word).output().unwrap().into();
+    told.expect_line(64, "there is no command");
+    assert_eq!(case.files(), before);
+}
+
+/// A case that can be read and not written, and the tool as a user without rights.
+#[test]
+fn a_case_that_cannot_be_written_can_be_read() {
+    let place = std::env::temp_dir().join(format!("lfsck-offline-{}", std::process::id()));
+    let directory = place.join("case");
+    let tool = place.join("lfsck-offline");
+    fs::create_dir_all(&place).unwrap();
+    fs::copy(TOOL, &tool).unwrap();
+    let as_root = fs::metadata(&place).unwrap().uid() == 0;
+    let run = |words: &[&str]| -> Told {
+        let mut command = Command::new(&tool);
+        command.arg(words[0]).arg(&directory).args(&words[1..]);
+        if as_root {
+            command.uid(NOBODY).gid(NOBODY);
+        }
+        command.output().unwrap().into()
+    };
+    let made = Command::new(TOOL).arg("sample").arg(&directory).output();
+    Told::from(made.unwrap()).expect(0);
+    for path in [&place, &directory] {
+        fs::set_permissions(path, fs::Permissions::from_mode(0o555)).unwrap();
+    }
+    let before = names(&directory);
+    for words in [
+        &["check"][..],
+        &["classes"],
+        &["show", "0x200000401:1"],
+        &["run", "--steps", "0", "--json"],
+    ] {
+        let told = run(words);
+        assert!(matches!(told.status, Some(0 | 1)), "{told:?}");
+    }
+    run(&["run", "--create"]).expect_line(74, "permission denied");
+    run(&["sample"]).expect_line(74, "already there");
+    assert_eq!(names(&directory), before);
+    let parents = directory.join("parents.tbl");
+    fs::set_permissions(&parents, fs::Permissions::from_mode(0)).unwrap();
+    run(&["check"]).expect_line(74, "parents.tbl: permission denied");
+    for path in [&place, &directory] {
+        fs::set_permissions(path, fs::Permissions::from_mode(0o755)).unwrap();
+    }
+    fs::remove_dir_all(&place).unwrap();
+}
+
 #[test]
 fn a_directory_that_cannot_be_written_is_trouble_with_files() {
-    let case = Case::sample("read-only");
+    let case = Case::sample("in-the-way");
     let before = case.files();
     // A directory in the way of the journal, which nobody can write over.
     fs::create_dir(case.path().join("lfsck-offline.journal.new")).unwrap();

@@ -1,9 +1,10 @@
 //! A crash at any moment of a save leaves the old state or the new one.
 
 use std::fs;
+use std::os::unix::fs::{MetadataExt, PermissionsExt, chown};
 
 use crate::oracle;
-use crate::tool::{Case, Files, JOURNAL, Told};
+use crate::tool::{Case, Files, JOURNAL, NOBODY, Told, sha256};
 
 const RUN: [&str; 5] = ["run", "--create", "--adopt", "--steps", "40"];
 
@@ -212,8 +213,7 @@ fn a_journal_writes_no_other_file() {
     let mut journal = b"lfsck-offline journal, format 1\n../stray 5 nothing\nwords\n".to_vec();
     journal.truncate(journal.len() - 1);
     journal.extend(b"end\n");
-    let digest = sha256(&journal);
-    journal.extend(digest);
+    journal.extend(digest(&journal));
     case.write(JOURNAL, &journal);
     case.run(&["check"]).expect_line(74, "stray");
     assert!(!case.path().join("../stray").exists());
@@ -221,30 +221,35 @@ fn a_journal_writes_no_other_file() {
     assert_eq!(case.files(), before);
 }
 
-/// The digest, by another program.
-fn sha256(bytes: &[u8]) -> Vec<u8> {
-    use std::io::Write;
-    use std::process::{Command, Stdio};
-    let mut child = Command::new("sha256sum")
-        .stdin(Stdio::piped())
-        .stdout(Stdio::piped())
-        .spawn()
-        .expect("sha256sum");
-    child.stdin.take().unwrap().write_all(bytes).unwrap();
-    let out = child.wait_with_output().unwrap().stdout;
-    out[..64]
-        .chunks(2)
-        .map(|pair| u8::from_str_radix(str::from_utf8(pair).unwrap(), 16).unwrap())
+/// The digest as bytes.
+fn digest(bytes: &[u8]) -> Vec<u8> {
+    let text = sha256(bytes);
+    let pairs = (0..text.len()).step_by(2).map(|at| &text[at..at + 2]);
+    pairs
+        .map(|pair| u8::from_str_radix(pair, 16).expect("two digits"))
         .collect()
 }
 
 #[test]
 fn permissions_stay() {
-    use std::os::unix::fs::PermissionsExt;
     let case = Case::sample("permissions");
     let parents = case.path().join("parents.tbl");
     fs::set_permissions(&parents, fs::Permissions::from_mode(0o640)).unwrap();
     case.run(&["run", "--create", "--adopt"]).expect(0);
     let mode = fs::metadata(&parents).unwrap().permissions().mode();
     assert_eq!(mode & 0o777, 0o640);
+}
+
+#[test]
+fn the_owner_stays_where_it_may() {
+    let case = Case::sample("owner");
+    let objects = case.path().join("objects.tbl");
+    // Only root can give a file away; others keep their own.
+    let given = chown(&objects, Some(NOBODY), Some(NOBODY)).is_ok();
+    let before = fs::metadata(&objects).unwrap();
+    assert_eq!(before.uid() == NOBODY, given);
+    case.run(&["run", "--create", "--adopt"]).expect(0);
+    let after = fs::metadata(&objects).unwrap();
+    assert_ne!(after.ino(), before.ino(), "the file is a new one");
+    assert_eq!((after.uid(), after.gid()), (before.uid(), before.gid()));
 }

@@ -1,20 +1,22 @@
 //! Running the tool on a case.
 
 use std::collections::BTreeMap;
+use std::io::Write;
 use std::path::{Path, PathBuf};
-use std::process::{Command, Output};
+use std::process::{Command, Output, Stdio};
 
 use crate::json::{self, Value};
 
 /// The program.
 pub const TOOL: &str = env!("CARGO_BIN_EXE_lfsck-offline");
 
-/// The file that keeps two commands apart.
-pub const LOCK: &str = "lfsck-offline.lock";
 /// The saved position.
 pub const POSITION: &str = "lfsck-offline.position";
 /// The journal of a save.
 pub const JOURNAL: &str = "lfsck-offline.journal";
+
+/// A user without rights.
+pub const NOBODY: u32 = 65_534;
 
 /// A directory of a test's own, removed when the test is done with it.
 pub struct Case {
@@ -32,7 +34,7 @@ pub struct Told {
     pub err: String,
 }
 
-/// The files of a case but the lock, by name.
+/// The files of a case, by name.
 pub type Files = BTreeMap<String, Vec<u8>>;
 
 impl Case {
@@ -82,13 +84,13 @@ impl Case {
         self.write(name, &bytes);
     }
 
-    /// All files but the lock.
+    /// All files.
     pub fn files(&self) -> Files {
         let entries = std::fs::read_dir(&self.directory).expect("the directory");
         let names = entries.map(|entry| entry.expect("an entry").file_name());
         let names = names.map(|name| name.into_string().expect("a name"));
         names
-            .filter(|name| name != LOCK && self.directory.join(name).is_file())
+            .filter(|name| self.directory.join(name).is_file())
             .map(|name| {
                 let bytes = self.read(&name);
                 (name, bytes)
@@ -167,4 +169,16 @@ impl From<Output> for Told {
             err: text(output.stderr),
         }
     }
+}
+
+/// The SHA-256 digest in hexadecimal digits, by another program.
+pub fn sha256(bytes: &[u8]) -> String {
+    let mut child = Command::new("sha256sum")
+        .stdin(Stdio::piped())
+        .stdout(Stdio::piped())
+        .spawn()
+        .expect("sha256sum");
+    child.stdin.take().unwrap().write_all(bytes).unwrap();
+    let out = child.wait_with_output().unwrap().stdout;
+    String::from_utf8(out[..64].to_vec()).expect("digits")
 }

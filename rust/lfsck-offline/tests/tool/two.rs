@@ -4,7 +4,7 @@ use std::fs::File;
 use std::process::Stdio;
 
 use crate::oracle;
-use crate::tool::{Case, LOCK, Told};
+use crate::tool::{Case, Told};
 
 const RUN: [&str; 3] = ["run", "--create", "--adopt"];
 
@@ -12,7 +12,7 @@ const RUN: [&str; 3] = ["run", "--create", "--adopt"];
 fn a_case_that_is_open_is_refused() {
     let case = Case::sample("locked");
     let before = case.files();
-    let lock = File::open(case.path().join(LOCK)).unwrap();
+    let lock = File::open(case.path()).unwrap();
     lock.try_lock().expect("nobody else has the case");
     for words in [
         &RUN[..],
