@@ -139,10 +139,26 @@ impl View<'_> {
         match file.slots[slot as usize] {
             None => format!("  slot {slot}: {class}\n"),
             Some(stripe) => format!(
-                "  slot {slot}: {class}, object {} on OST {}, generation {}\n",
-                stripe.object, stripe.ost, stripe.generation
+                "  slot {slot}: {class}, object {} on OST {}, generation {}\n{}",
+                stripe.object,
+                stripe.ost,
+                stripe.generation,
+                self.object_line(stripe.object)
             ),
         }
+    }
+
+    /// What the object of a slot says of itself, if it is there.
+    fn object_line(&self, fid: OstFid) -> String {
+        let Some(object) = self.site.object_of(fid) else {
+            return "      the object is absent\n".to_string();
+        };
+        let fresh = if object.fresh { "is fresh, " } else { "" };
+        let claim = claim_words(object);
+        format!(
+            "      the object {fresh}has owner {} and {claim}\n",
+            object.owner
+        )
     }
 
     fn object_text(&self, fid: OstFid) -> String {
@@ -174,16 +190,13 @@ impl View<'_> {
         } else {
             "not fresh: it may hold data"
         };
-        let claim = match object.claim {
-            Some(claim) => format!("claims {claim}"),
-            None => "claims nothing".to_string(),
-        };
         let finding = self.finding(Position::Object(row));
         format!(
-            "Object {}, object row {row}\n  on OST {}, owner {}\n  {data}\n  {claim}\n  {}: {}\n{}",
+            "Object {}, object row {row}\n  on OST {}, owner {}\n  {data}\n  {}\n  {}: {}\n{}",
             object.fid,
             object.ost,
             object.owner,
+            claim_words(&object),
             finding.class.name(),
             finding.class.meaning(),
             more(&finding)
@@ -276,6 +289,14 @@ impl View<'_> {
     }
 }
 
+/// What an object claims.
+fn claim_words(object: &Object) -> String {
+    match object.claim {
+        Some(claim) => format!("claims {claim}"),
+        None => "claims nothing".to_string(),
+    }
+}
+
 /// Why a position has its class and what its repair would do, where there is something to say.
 fn more(finding: &Finding) -> String {
     let mut text = String::new();
@@ -285,17 +306,8 @@ fn more(finding: &Finding) -> String {
             let words = rule.words().replace("this slot", "that slot");
             add(format!("the keeper is {keeper}: {words}"));
         }
-        (Class::Unmatched(claim), Some((_, rule))) => {
-            add(format!("the object claims {claim}"));
-            add(format!("this slot is the keeper: {}", rule.words()));
-        }
-        (Class::Dangling | Class::Blank | Class::Owner | Class::Clean, Some((_, rule))) => {
-            if finding.class != Class::Clean {
-                add(finding.class.meaning().to_string());
-            }
-            add(format!("this slot is the keeper: {}", rule.words()));
-        }
-        _ => (),
+        (Class::Kept, _) | (_, None) => (),
+        (_, Some((_, rule))) => add(format!("this slot is the keeper: {}", rule.words())),
     }
     if let Some(denial) = &finding.denial {
         add(format!("no repair: {denial}"));

@@ -350,6 +350,26 @@ fn a_file_is_shown_with_its_slots_and_rules() {
     ] {
         assert!(told.out.contains(line), "{line}: {}", told.out);
     }
+    let told = case.run(&["show", "0x200000401:5"]).expect(0);
+    for line in [
+        "the object has owner 1001:100 and claims nothing\n",
+        "the object has owner 1001:100 and claims slot 1 of [0x200000401:0x1:0x0]\n",
+        "this slot is the keeper: it is the first slot in scan order that names the object\n",
+        "the object has owner 0:0 and claims slot 2 of [0x200000401:0x5:0x0]\n",
+        "repair, always: write the owner 1001:100\n",
+    ] {
+        assert!(told.out.contains(line), "{line}: {}", told.out);
+    }
+    let told = case.run(&["show", "0x200000401:4"]).expect(0);
+    assert!(
+        told.out.contains("      the object is absent\n"),
+        "{told:?}"
+    );
+    let told = case.run(&["show", "0x200000401:7"]).expect(0);
+    assert!(
+        told.out.contains("the object is fresh, has owner"),
+        "{told:?}"
+    );
     let json = case.json(&["show", "0x200000401:5"], 0);
     let positions = json.get("file").list("positions");
     let classes: Vec<&str> = positions.iter().map(|it| it.text("class")).collect();
@@ -422,30 +442,91 @@ fn there_is_help_for_every_command() {
     }
 }
 
+/// Every option of the help and every class is in the man page, and the other way round.
+#[test]
+fn the_man_page_has_what_the_help_has() {
+    const PAGE: &str = concat!(env!("CARGO_MANIFEST_DIR"), "/../../docs/lfsck-offline.1");
+    let page = std::fs::read_to_string(PAGE).expect("the man page");
+    let options = |text: &str| -> std::collections::BTreeSet<String> {
+        let words = text.split(|letter: char| !letter.is_ascii_alphanumeric() && letter != '-');
+        let options = words.filter(|word| word.starts_with("--") && word.len() > 2);
+        options.map(str::to_string).collect()
+    };
+    let mut help = String::new();
+    for command in ["sample", "check", "classes", "run", "show"] {
+        let mut tool = std::process::Command::new(TOOL);
+        let told: Told = tool.args([command, "--help"]).output().unwrap().into();
+        help += &told.expect(0).out;
+        assert!(
+            page.contains(&format!("\\fBlfsck-offline {command}\\fR")),
+            "{command}"
+        );
+    }
+    let told: Told = std::process::Command::new(TOOL)
+        .arg("help")
+        .output()
+        .unwrap()
+        .into();
+    help += &told.expect(0).out;
+    assert_eq!(options(&help), options(&page));
+    for class in CLASSES {
+        assert!(page.contains(class) && help.contains(class), "{class}");
+    }
+    for status in [0, 1, 2, 3, 64, 74] {
+        assert!(page.contains(&format!(".B {status}\n")), "{status}");
+    }
+}
+
+/// What each command prints has somewhere to go, or not; a run is saved either way.
+const PRINTERS: [(&[&str], i32); 5] = [
+    (&["check"], 0),
+    (&["classes"], 0),
+    (&["show", "0x200000401:3"], 0),
+    (&["run", "--steps", "9"], 1),
+    (&["run", "--json"], 0),
+];
+
 #[test]
 fn a_reader_that_leaves_is_no_trouble() {
     let case = Case::sample("broken-pipe");
-    let mut command = case.command(&["classes"]);
-    let mut child = command
-        .stdout(std::process::Stdio::piped())
-        .stderr(std::process::Stdio::piped())
-        .spawn()
-        .unwrap();
-    drop(child.stdout.take());
-    let told: Told = child.wait_with_output().unwrap().into();
-    assert_eq!(told.expect(0).err, "");
+    let uncut = oracle::run(&case.files(), 0, u64::MAX);
+    for (words, status) in PRINTERS {
+        let mut command = case.command(words);
+        let mut child = command
+            .stdout(std::process::Stdio::piped())
+            .stderr(std::process::Stdio::piped())
+            .spawn()
+            .unwrap();
+        drop(child.stdout.take());
+        let told: Told = child.wait_with_output().unwrap().into();
+        assert_eq!(told.expect(status).err, "");
+    }
+    uncut.expect_in(&case);
 }
 
 #[test]
 fn output_that_cannot_be_written_is_trouble_with_files() {
     let case = Case::sample("full-device");
-    let full = std::fs::File::options()
-        .write(true)
-        .open("/dev/full")
-        .unwrap();
-    let mut command = case.command(&["classes"]);
-    let told: Told = command.stdout(full).output().unwrap().into();
-    told.expect_line(74, "standard output");
+    let uncut = oracle::run(&case.files(), 0, u64::MAX);
+    for (words, _) in PRINTERS {
+        let full = std::fs::File::options().write(true).open("/dev/full");
+        let mut command = case.command(words);
+        let told: Told = command.stdout(full.unwrap()).output().unwrap().into();
+        told.expect_line(74, "standard output");
+    }
+    uncut.expect_in(&case);
+}
+
+#[test]
+fn steps_may_be_as_many_as_a_number_can_be() {
+    let case = Case::sample("many-steps");
+    let uncut = oracle::run(&case.files(), 3, u64::MAX);
+    let most = u64::MAX.to_string();
+    let told = case.json(&["run", "--create", "--adopt", "--steps", &most], 0);
+    assert_eq!(told.number("steps_done"), uncut.report[0]);
+    uncut.expect_in(&case);
+    case.run(&["run", "--steps", "18446744073709551616"])
+        .expect_line(64, "is no number of steps");
 }
 
 #[test]

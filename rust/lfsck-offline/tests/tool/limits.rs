@@ -4,7 +4,7 @@ use std::process::{Child, Stdio};
 use std::time::{Duration, Instant};
 
 use crate::bytes::{object, object_row, parent_row};
-use crate::json::parse;
+use crate::json::{Value, parse};
 use crate::tool::{Case, Told};
 
 const PARENTS: usize = 1024;
@@ -123,6 +123,69 @@ fn no_rows_are_a_case() {
     assert_eq!(report.number("steps_done"), 0);
     case.run(&["show", "0x200000401:1"])
         .expect_line(2, "nothing in");
+}
+
+/// E10: a file of 160 slots is made, and none of 161.
+#[test]
+fn a_made_file_has_160_slots_at_most() {
+    for (index, answer) in [(159, "ORPHAN"), (160, "CONFLICT"), (u32::MAX, "CONFLICT")] {
+        let objects = object_row(0x30, (9, index));
+        let case = Case::with("index", &[0; 3915], &objects, &[]);
+        let before = case.files();
+        let classes = case.json(&["classes"], 0);
+        assert_eq!(classes.list("findings")[0].text("class"), answer, "{index}");
+        let report = case.json(&["run", "--adopt"], 0);
+        let made = u64::from(answer == "ORPHAN");
+        assert_eq!(report.get("repairs").number("ORPHAN"), made);
+        let shown = case.json(&["show", "0x200000401:9"], 0);
+        if made == 1 {
+            assert_eq!(shown.get("file").number("slots"), 160);
+        } else {
+            assert_eq!(shown.get("file"), &Value::Null);
+            assert_eq!(case.read("parents.tbl"), before["parents.tbl"]);
+            assert_eq!(case.read("objects.tbl"), before["objects.tbl"]);
+        }
+    }
+}
+
+/// The least and the greatest of each field is good, and one beyond is named.
+#[test]
+fn the_bounds_of_fields_are_held_to() {
+    let fid = |sequence: u64, id: u32, version: u32| {
+        [
+            &sequence.to_le_bytes()[..],
+            &id.to_le_bytes(),
+            &version.to_le_bytes(),
+        ]
+        .concat()
+    };
+    for (fid, good) in [
+        (fid(0x2_0000_0400, 1, 0), true),
+        (fid(u64::MAX - 1, u32::MAX, 0), true),
+        (fid(0x2_0000_03ff, 1, 0), false),
+        (fid(u64::MAX, 1, 0), false),
+        (fid(0x2_0000_0400, 0, 0), false),
+        (fid(0x2_0000_0400, 1, 1), false),
+    ] {
+        let case = Case::with("reserve-bounds", b"", b"", &fid);
+        let told = case.json(&["check"], if good { 0 } else { 2 });
+        assert_eq!(told.number("answer"), if good { 0 } else { 14 });
+        assert_eq!(told.list("faults").is_empty(), good);
+    }
+    for (ost, answer) in [(65_535_u32, 0), (65_536, 14)] {
+        let mut object = object_row(1, (1, 0));
+        object[17..21].copy_from_slice(&ost.to_le_bytes());
+        let case = Case::with("ost-bounds", b"", &object, b"");
+        let status = if answer == 0 { 0 } else { 2 };
+        assert_eq!(case.json(&["check"], status).number("answer"), answer);
+    }
+    for (slots, answer) in [(160, 0), (161, 13)] {
+        let mut parent = parent_row(1, &[0; 160]);
+        parent[27 + 28..27 + 30].copy_from_slice(&(slots as u16).to_le_bytes());
+        let case = Case::with("slot-bounds", &parent, b"", b"");
+        let status = if answer == 0 { 0 } else { 2 };
+        assert_eq!(case.json(&["check"], status).number("answer"), answer);
+    }
 }
 
 #[test]
