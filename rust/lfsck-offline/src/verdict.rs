@@ -2,9 +2,10 @@
 //!
 //! The library checks everything that it is handed on every call, and that takes long for full
 //! tables. So a large case is not handed over whole for each of its positions, but by the rows
-//! that bear on the position: its own, the claimed file's, the first that names the object, and
-//! where a place is asked for, those of the object that stands there. The tests compare both
-//! ways on many tables.
+//! that bear on the position, in their order: its own; the claimed file's; the first that names
+//! the object, because the keeper is looked for in scan order; and where a place is asked for,
+//! the object that stands there and another file that names it. No rule of the classes looks at
+//! more. The tests compare both ways on many tables.
 
 use crate::class::Class;
 use crate::position::Position;
@@ -154,28 +155,85 @@ mod tests {
         fids: 6,
     };
 
+    /// Few objects, so that many slots name the same.
+    const CROWDED: Shape = Shape {
+        parents: 6,
+        objects: 4,
+        slots: 3,
+        files: 6,
+        fids: 3,
+    };
+
+    /// How often each class was met, and how often rows were left out.
+    #[derive(Debug, Default)]
+    struct Met {
+        classes: [u64; 14],
+        left_out: [u64; 14],
+    }
+
+    /// Both ways give the same class at every position.
+    fn compare(tables: &Tables, met: &mut Met) {
+        let site = Site::new(tables);
+        let verdicts = Verdicts::new(tables, &site);
+        for position in Position::all(&site) {
+            let class = ask(&tables.parents, &tables.objects, position.to_numbers());
+            assert_eq!(verdicts.at_by_bearing(position), class);
+            assert_eq!(verdicts.at(position), class);
+            met.classes[class.number()] += 1;
+            let rows = Bearing::on(position, &site);
+            let few = rows.parents.len() < site.files.len();
+            met.left_out[class.number()] += u64::from(few);
+        }
+    }
+
     #[test]
     fn the_rows_that_bear_on_a_position_give_the_class_of_the_whole_tables() {
         let mut random = Random::for_test("bearing");
-        let mut met = [0; 14];
-        for _ in 0..20_000 {
-            let (parents, objects) = to_bytes(&random_tables(SHAPE, &mut random), &mut random);
+        let mut met = Met::default();
+        for round in 0..40_000 {
+            let shape = if round % 2 == 0 { SHAPE } else { CROWDED };
+            let (parents, objects) = to_bytes(&random_tables(shape, &mut random), &mut random);
             let tables = Tables {
                 parents,
                 objects,
                 reserve: Vec::new(),
             };
-            let site = Site::new(&tables);
-            let verdicts = Verdicts::new(&tables, &site);
-            assert!(verdicts.whole);
-            for position in Position::all(&site) {
-                let class = verdicts.at(position);
-                assert_eq!(verdicts.at_by_bearing(position), class);
-                met[class.number()] += 1;
-            }
+            compare(&tables, &mut met);
         }
-        println!("classes met: {met:?}");
-        assert!(met.iter().all(|&count| count > 100), "{met:?}");
+        println!("{met:?}");
+        let all = met.classes.iter().chain(&met.left_out);
+        assert!(all.into_iter().all(|&count| count > 100), "{met:?}");
+    }
+
+    /// Random tables among so many unused rows that the case is no longer handed over whole.
+    #[test]
+    fn large_tables_are_classed_as_the_library_classes_them_whole() {
+        let mut random = Random::for_test("large");
+        let mut met = Met::default();
+        for _ in 0..300 {
+            let (parents, objects) = to_bytes(&random_tables(SHAPE, &mut random), &mut random);
+            let tables = Tables {
+                parents: scattered(&parents, Table::Parents, FEW_PARENTS + 1, &mut random),
+                objects: scattered(&objects, Table::Objects, 100, &mut random),
+                reserve: Vec::new(),
+            };
+            compare(&tables, &mut met);
+        }
+        assert!(met.classes.iter().all(|&count| count > 10), "{met:?}");
+    }
+
+    /// The rows of a table in their order, among unused ones.
+    fn scattered(bytes: &[u8], table: Table, count: usize, random: &mut Random) -> Vec<u8> {
+        let size = table.row_bytes();
+        let mut rows = vec![0; size * count];
+        let mut places: Vec<usize> = (0..count).collect();
+        random.shuffle(&mut places);
+        places.truncate(bytes.len() / size);
+        places.sort_unstable();
+        for (row, place) in bytes.chunks(size).zip(places) {
+            rows[size * place..][..size].copy_from_slice(row);
+        }
+        rows
     }
 
     #[test]

@@ -1,11 +1,11 @@
-//! The outputs in docs/TOUR.md are what the commands print.
+//! The outputs in README.md and docs/TOUR.md are what the commands print.
 
 use std::path::Path;
 use std::process::Command;
 
 use crate::tool::{Case, TOOL, Told};
 
-const TOUR: &str = concat!(env!("CARGO_MANIFEST_DIR"), "/../../docs/TOUR.md");
+const REPOSITORY: &str = concat!(env!("CARGO_MANIFEST_DIR"), "/../..");
 
 /// The command of a line, if it is one of ours.
 fn command(line: &str) -> Option<Vec<&str>> {
@@ -25,16 +25,14 @@ fn printed(words: &[&str], directory: &Path) -> String {
     told.out + &told.err
 }
 
-#[test]
-fn the_tour_is_true() {
-    let tour = std::fs::read_to_string(TOUR).expect("docs/TOUR.md");
-    let case = Case::empty("tour");
+/// The text with what the commands in it print, and how many commands there are.
+fn told(text: &str, directory: &Path) -> (String, usize) {
     let mut told = String::new();
     let mut commands = 0;
     let mut in_output = false;
-    for line in tour.lines() {
+    for line in text.lines() {
         if let Some(words) = command(line) {
-            told += &format!("{line}\n{}", printed(&words, case.path()));
+            told += &format!("{line}\n{}", printed(&words, directory));
             commands += 1;
             in_output = true;
         } else if !in_output || line == "```" {
@@ -42,12 +40,31 @@ fn the_tour_is_true() {
             told += &format!("{line}\n");
         }
     }
-    assert!(commands >= 8, "{commands} commands");
-    if told != tour {
+    (told, commands)
+}
+
+/// A text has at least so many commands, and what they print.
+fn expect_true(file: &str, least: usize) {
+    let path = Path::new(REPOSITORY).join(file);
+    let text = std::fs::read_to_string(path).expect(file);
+    let case = Case::empty(&file.replace('/', "-"));
+    let (told, commands) = told(&text, case.path());
+    assert!(commands >= least, "{file}: {commands} commands");
+    if told != text {
         let differs = told
             .lines()
-            .zip(tour.lines())
-            .find(|(told, tour)| told != tour);
-        panic!("the commands print otherwise: {differs:?}");
+            .zip(text.lines())
+            .find(|(told, text)| told != text);
+        panic!("{file}: the commands print otherwise: {differs:?}");
     }
+}
+
+#[test]
+fn the_tour_is_true() {
+    expect_true("docs/TOUR.md", 10);
+}
+
+#[test]
+fn the_readme_is_true() {
+    expect_true("README.md", 4);
 }
