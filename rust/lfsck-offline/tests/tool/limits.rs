@@ -1,11 +1,11 @@
 //! Cases at the limits of document 01.
 
-use std::process::{Child, Stdio};
+use std::process::{Child, Command, Stdio};
 use std::time::{Duration, Instant};
 
 use crate::bytes::{object, object_row, parent_row};
 use crate::json::{Value, parse};
-use crate::tool::{Case, Told};
+use crate::tool::{Case, TOOL, Told};
 
 const PARENTS: usize = 1024;
 const SLOTS: usize = 160;
@@ -17,37 +17,40 @@ fn id(row: usize, slot: usize) -> u32 {
     (1 + SLOTS * row + slot) as u32
 }
 
-/// 1,024 files of 160 slots; every object is where it belongs, but for a few faults in the
-/// first files.
-fn parents() -> Vec<u8> {
-    let mut parents = Vec::with_capacity(PARENTS * 3915);
-    for row in 0..PARENTS {
-        let named = |slot| if row < NAMED { id(row, slot) } else { 0 };
-        let mut slots: Vec<u32> = (0..SLOTS).map(named).collect();
-        match row {
-            2 => slots[7] = id(1, 7),
-            3 => slots[5] = 900_000,
-            _ => (),
-        }
+/// Files of 160 slots, the first of them with all slots named; every object is where it
+/// belongs.
+fn clean(files: usize, named: usize) -> (Vec<u8>, Vec<u8>) {
+    let (mut parents, mut objects) = (Vec::new(), Vec::new());
+    for row in 0..files {
+        let name = |slot| if row < named { id(row, slot) } else { 0 };
+        let slots: Vec<u32> = (0..SLOTS).map(name).collect();
         parents.extend(parent_row(1 + row as u32, &slots));
-    }
-    // The own id in the layout of file 5.
-    parents[4 * 3915 + 27 + 8] ^= 0x40;
-    parents
-}
-
-fn objects() -> Vec<u8> {
-    let mut objects = Vec::with_capacity(OBJECTS * 46);
-    for row in 0..NAMED {
-        for slot in 0..SLOTS {
+        for slot in 0..if row < named { SLOTS } else { 0 } {
             objects.extend(object_row(id(row, slot), (1 + row as u32, slot as u32)));
         }
     }
+    (parents, objects)
+}
+
+/// Full tables with a few faults in the first files.
+fn full() -> (Vec<u8>, Vec<u8>) {
+    let (mut parents, mut objects) = clean(PARENTS, NAMED);
+    // A slot that names another file's object, and one whose object is absent.
+    name(&mut parents, 2, 7, id(1, 7));
+    name(&mut parents, 3, 5, 900_000);
+    // The own id in the layout of file 5.
+    parents[4 * 3915 + 27 + 8] ^= 0x40;
     // The claim of one object and the owner of another.
     objects[6 * SLOTS * 46 + 41] = 9;
     objects[(7 * SLOTS + 1) * 46 + 21] ^= 1;
     objects.resize(OBJECTS * 46, 0);
-    objects
+    (parents, objects)
+}
+
+/// Lets a slot name another object.
+fn name(parents: &mut [u8], row: usize, slot: usize, id: u32) {
+    let at = 3915 * row + 27 + 32 + 24 * slot;
+    parents[at..at + 16].copy_from_slice(&object(id).to_bytes());
 }
 
 fn reserve() -> Vec<u8> {
@@ -59,7 +62,8 @@ fn reserve() -> Vec<u8> {
 fn full_tables_are_checked_classed_and_repaired() {
     let started = Instant::now();
     let time = |what: &str| println!("{what}: {:.1} s", started.elapsed().as_secs_f64());
-    let case = Case::with("full", &parents(), &objects(), &reserve());
+    let (parents, objects) = full();
+    let case = Case::with("full", &parents, &objects, &reserve());
 
     let sound = case.json(&["check"], 0);
     assert_eq!(sound.number("parent_rows"), 1024);
@@ -110,6 +114,46 @@ fn start_alone(case: &Case, words: &[&str]) -> Child {
         child.wait().expect("the tool");
     }
     panic!("a command never has the case for itself");
+}
+
+/// What a command prints on a terminal, by the program `script`; none where there is no such
+/// program.
+fn on_terminal(case: &Case, words: &str) -> Option<String> {
+    let mut script = Command::new("script");
+    let command = format!("'{TOOL}' run . {words}");
+    script.args(["-qec", &command, "/dev/null"]);
+    script.current_dir(case.path()).stdin(Stdio::null());
+    let told: Told = script.output().ok()?.into();
+    Some(told.expect(0).out)
+}
+
+/// Work of some seconds shows a bar on a terminal, and clears it. Short work shows none.
+#[test]
+fn long_work_has_a_bar_on_a_terminal() {
+    let (parents, objects) = clean(500, 200);
+    let case = Case::with("bar", &parents, &objects, b"");
+    let started = Instant::now();
+    let Some(told) = on_terminal(&case, "--create --adopt") else {
+        println!("no program `script`: the bar is not tested");
+        return;
+    };
+    let long = started.elapsed() > Duration::from_secs(2);
+    println!("on a terminal: {:.1} s", started.elapsed().as_secs_f64());
+    let bar = told.contains("[####") && told.contains(" of 112500 steps");
+    assert!(bar || !long, "{told:?}");
+    let last = told
+        .rsplit('\r')
+        .find(|part| part.starts_with("The run begins"));
+    assert!(
+        told.starts_with("The run begins") || last.is_some(),
+        "{told:?}"
+    );
+    assert!(told.contains("Steps: 112500 done, 0 left."), "{told:?}");
+
+    let case = Case::sample("no-bar");
+    let told = on_terminal(&case, "--create --adopt").expect("a terminal");
+    assert!(told.starts_with("The run begins at the start"), "{told:?}");
+    assert!(!told.contains('#'), "{told:?}");
 }
 
 #[test]
