@@ -76,6 +76,86 @@ static void test_stop(void)
     check("with no steps the slot is not looked at", run(&in, 0, 3, report, 9) == LFSCK_STEPS_USED);
 }
 
+/* Q, a second file that names A; A claims P. */
+static struct input shared(void)
+{
+    struct input in = sound();
+    uint8_t *q = in.parents + LFSCK_PARENT_BYTES;
+
+    memcpy(q, in.parents, LFSCK_PARENT_BYTES);
+    q[PARENT_SELF + 8] = 2;
+    q[PARENT_LAYOUT + 8] = 2;
+    in.policy = LFSCK_CREATE;
+    return in;
+}
+
+static void test_redirect(void)
+{
+    struct input in = shared();
+    uint8_t slot[24] = {0};
+    uint64_t report[9];
+    const uint8_t *q = in.parents + LFSCK_PARENT_BYTES;
+
+    memcpy(slot, n, 16);
+    slot[20] = 3;
+    check("a slot is redirected", run(&in, 99, 3, report, 9) == LFSCK_OK);
+    check("it names N", memcmp(q + PARENT_LAYOUT + 32, slot, 24) == 0);
+    check("N is made in the unused row", in.objects[0] == 1 &&
+                                             memcmp(in.objects + OBJECT_SELF, n, 16) == 0);
+    check("it is counted as MULTIPLE", report[LFSCK_REPORT_STEPS] == 6 &&
+                                           report[LFSCK_REPORT_MULTIPLE] == 1);
+
+    in = shared();
+    in.reserve_bytes = 0;
+    check("no reserve", run(&in, 99, 3, report, 9) == LFSCK_NO_RESERVE);
+    check("it rests on Q's slot", stands_at(&in, 1, 1, 1) && report[LFSCK_REPORT_STEPS] == 3);
+}
+
+/* P is absent, and A, which may hold data, claims a slot of it. */
+static struct input orphan(uint8_t index)
+{
+    struct input in = sound();
+
+    memset(in.parents, 0, LFSCK_PARENT_BYTES);
+    in.objects[LFSCK_OBJECT_BYTES + OBJECT_CLAIM + 12] = index;
+    in.policy = LFSCK_ADOPT;
+    return in;
+}
+
+/* E10: a parent of 160 slots is made, with A in the last. */
+static void test_made_parent(void)
+{
+    struct input in = orphan(159);
+    struct input before;
+    uint64_t report[9];
+    uint8_t made[LFSCK_PARENT_BYTES] = {1};
+    uint8_t *layout = made + PARENT_LAYOUT;
+
+    memcpy(made + PARENT_SELF, p, 16);
+    made[PARENT_LENGTH] = (32 + 24 * 160) % 256;
+    made[PARENT_LENGTH + 1] = (32 + 24 * 160) / 256;
+    memcpy(layout, e2, 32);
+    layout[7] = 0x40;
+    layout[28] = 160;
+    memcpy(layout + 32 + 24 * 159, e2 + 32, 24);
+    check("E10, index 159", run(&in, 99, 3, report, 9) == LFSCK_OK);
+    check("a parent of 160 slots", memcmp(in.parents, made, sizeof made) == 0);
+    check("it is counted as ORPHAN", report[LFSCK_REPORT_STEPS] == 4 &&
+                                         report[LFSCK_REPORT_ORPHAN] == 1);
+
+    in = orphan(160);
+    memcpy(&before, &in, sizeof before);
+    check("E10, index 160", run(&in, 99, 3, report, 9) == LFSCK_OK);
+    check("CONFLICT, no change", memcmp(in.parents, before.parents, sizeof in.parents) == 0 &&
+                                     memcmp(in.objects, before.objects, sizeof in.objects) == 0);
+
+    in = orphan(159);
+    in.parents_bytes = 0;
+    in.position[0] = LFSCK_STAGE_OBJECTS;
+    check("no parent row", run(&in, 99, 3, report, 9) == LFSCK_NO_PARENT_ROW);
+    check("it rests on the object", stands_at(&in, 2, 1, 0));
+}
+
 static void test_refusals(void)
 {
     struct input in = dangling();
@@ -88,6 +168,15 @@ static void test_refusals(void)
     check("a position of two numbers", run(&in, 9, 2, report, 9) == LFSCK_NO_POSITION);
     check("16 before 17", run(&in, 9, 2, report, 8) == LFSCK_NO_POSITION);
     check("a report of eight numbers", run(&in, 9, 3, report, 8) == LFSCK_NO_ROOM);
+    in.policy = 4;
+    check("policy 4", run(&in, 9, 3, report, 9) == LFSCK_BAD_POLICY);
+    in.policy = LFSCK_CREATE;
+    in.position[0] = 4;
+    check("stage 4", run(&in, 9, 3, report, 9) == LFSCK_NO_POSITION);
+    in.position[0] = LFSCK_STAGE_PARENTS;
+    in.parents_bytes--;
+    check("no whole rows", run(&in, 9, 3, report, 9) == LFSCK_BAD_TABLE);
+    in.parents_bytes++;
     for (int i = 0; i < 9; i++)
         untouched = untouched && report[i] == 99;
     check("nothing is written then", untouched && memcmp(&in, &before, sizeof in) == 0);
@@ -97,6 +186,8 @@ int main(void)
 {
     test_dangling();
     test_stop();
+    test_redirect();
+    test_made_parent();
     test_refusals();
     return report_all();
 }
