@@ -19,7 +19,7 @@ pub fn meaning(number: u32) -> &'static str {
         21 => "a slot is to be redirected, and no FID of the reserve can be used",
         22 => "an object is to be made, and no object row is unused",
         23 => "a file is to be made, and no parent row is unused",
-        _ => "an answer that document 01 does not know",
+        _ => "an unknown answer",
     }
 }
 

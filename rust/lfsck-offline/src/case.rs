@@ -2,8 +2,8 @@
 //!
 //! A save writes everything new into one file, the journal, and renames it into place; that is
 //! the moment of the save. Then each file is replaced, and the journal removed. Whoever opens
-//! the case completes a journal that is whole and discards one that is not, so after opening
-//! the files are all old or all new.
+//! the case completes a journal that is there, so after opening the files are all old or all
+//! new.
 
 use std::fs::{self, File, TryLockError};
 use std::path::Path;
@@ -16,8 +16,8 @@ use crate::saved::{self, POSITION, Saved};
 use crate::tables::{Table, Tables};
 
 const JOURNAL: &str = "lfsck-offline.journal";
-/// What a file that is still being written has after its name.
-const NEW: &str = ".new";
+/// What the names of the tool's own files begin with.
+const OWN: &str = "lfsck-offline.";
 /// The files that a save may write.
 const SAVED: [&str; 4] = ["parents.tbl", "objects.tbl", "reserve.tbl", POSITION];
 /// More than a file of a case, or a journal of them all, can have.
@@ -80,22 +80,33 @@ impl Case {
         Ok(case)
     }
 
-    /// Completes a save whose journal is whole, and clears away what a cut-off one left.
+    /// Completes a save that was cut off after its journal was in place, and clears away what
+    /// one that was cut off before has left. A journal is in place only when the disk has all of
+    /// it; one that is not whole was spoilt by somebody else.
     fn recover(&self) -> Result<(), Failure> {
         if self.disk.has(JOURNAL) {
             let journal = self.disk.read(JOURNAL, MOST_BYTES)?;
-            match journal::decode(&journal) {
-                Some(changes) => self.complete(&changes)?,
-                None => self.disk.remove(JOURNAL)?,
-            }
+            let changes = journal::decode(&journal);
+            let broken = || self.journal_trouble(JOURNAL, "this is no whole journal");
+            self.complete(&changes.ok_or_else(broken)?)?;
         }
         for name in SAVED.iter().chain([&JOURNAL]) {
-            let unfinished = format!("{name}{NEW}");
+            let unfinished = unfinished(name);
             if self.disk.has(&unfinished) {
-                self.disk.remove(&unfinished)?;
+                // What stays is written over by the next save.
+                let _ = self.disk.remove(&unfinished);
             }
         }
         Ok(())
+    }
+
+    /// A journal that cannot be completed.
+    fn journal_trouble(&self, name: &str, what: &str) -> Failure {
+        let path = self.disk.path(name);
+        Failure::files(format!(
+            "{}: {what}; remove {JOURNAL} to keep the files as they are",
+            path.display()
+        ))
     }
 
     /// Completes a save. Files that are neither old nor new were changed by somebody since, and
@@ -105,11 +116,8 @@ impl Case {
             let stands = self.digest(&change.name)?;
             let known = stands == change.before || stands == Some(Digest::of(&change.after));
             if !known || !SAVED.contains(&change.name.as_str()) {
-                let path = self.disk.path(&change.name);
-                return Err(Failure::files(format!(
-                    "{}: changed since a save was cut off; remove {JOURNAL} to keep the files as they are",
-                    path.display()
-                )));
+                let what = "changed since a save was cut off";
+                return Err(self.journal_trouble(&change.name, what));
             }
         }
         self.replace(changes)
@@ -182,7 +190,7 @@ impl Case {
     }
 
     fn save(&self, changes: &[Change]) -> Result<(), Failure> {
-        let unfinished = format!("{JOURNAL}{NEW}");
+        let unfinished = unfinished(JOURNAL);
         let journal = journal::encode(changes);
         // Nobody may read it who may not read the tables.
         self.disk
@@ -201,7 +209,7 @@ impl Case {
     /// Replaces the files of a journal that is in place, and removes it.
     fn replace(&self, changes: &[Change]) -> Result<(), Failure> {
         for change in changes {
-            let unfinished = format!("{}{NEW}", change.name);
+            let unfinished = unfinished(&change.name);
             self.disk.write(&unfinished, &change.after, &change.name)?;
             self.disk.rename(&unfinished, &change.name)?;
         }
@@ -209,4 +217,11 @@ impl Case {
         self.disk.remove(JOURNAL)?;
         self.disk.sync()
     }
+}
+
+/// The name of a file while it is still being written: the tool's own, whatever else there is in
+/// the directory.
+fn unfinished(name: &str) -> String {
+    let name = name.strip_prefix(OWN).unwrap_or(name);
+    format!("{OWN}{name}.new")
 }

@@ -93,11 +93,13 @@ fn expect_order(operations: &[String]) {
         "objects.tbl",
         "lfsck-offline.position",
     ] {
+        let own = name.strip_prefix("lfsck-offline.").unwrap_or(name);
+        let new = format!("lfsck-offline.{own}.new");
         let order = [
-            format!("create {name}.new"),
-            format!("write half of {name}.new"),
-            format!("write the rest of {name}.new"),
-            format!("sync {name}.new"),
+            format!("create {new}"),
+            format!("write half of {new}"),
+            format!("write the rest of {new}"),
+            format!("sync {new}"),
             format!("rename to {name}"),
         ];
         let places: Vec<usize> = order.iter().map(|it| at(it)).collect();
@@ -192,8 +194,9 @@ fn what_somebody_changed_after_a_crash_is_not_overwritten() {
     assert_eq!(reopened(&case), new);
 }
 
+/// No crash leaves such a journal, so nobody knows whether the files are old or new.
 #[test]
-fn a_journal_that_is_not_whole_is_discarded() {
+fn a_journal_that_is_not_whole_is_left_to_people() {
     let (case, old, _) = old_and_new("broken-journal");
     cut_off(&case, &old);
     let journal = case.read(JOURNAL);
@@ -202,7 +205,34 @@ fn a_journal_that_is_not_whole_is_discarded() {
     for broken in [&journal[..journal.len() - 1], &bent, b""] {
         case.restore(&old);
         case.write(JOURNAL, broken);
+        let before = case.files();
+        for words in [&["check"][..], &RUN] {
+            let told = case.run(words).expect_line(74, "no whole journal");
+            assert!(
+                told.err.contains("remove lfsck-offline.journal"),
+                "{told:?}"
+            );
+        }
+        assert_eq!(case.files(), before);
+        fs::remove_file(case.path().join(JOURNAL)).unwrap();
         assert_eq!(reopened(&case), old);
+    }
+}
+
+/// The tool writes and clears away files of its own names alone.
+#[test]
+fn other_files_in_the_directory_stay() {
+    let case = Case::sample("other-files");
+    let names = ["parents.tbl.new", "objects.tbl~", "notes", "lfsck-offline"];
+    for name in names {
+        case.write(name, name.as_bytes());
+    }
+    case.run_with_fault(&RUN, "abort:9".to_string());
+    for words in [&["check"][..], &RUN] {
+        case.run(words);
+        for name in names {
+            assert_eq!(case.read(name), name.as_bytes());
+        }
     }
 }
 
