@@ -25,12 +25,19 @@ fn main() {
     let rounds = std::env::args().nth(1);
     let rounds = rounds.map_or(ROUNDS, |word| word.parse().expect("a number of rounds"));
     println!("The verified library beside plain Rust, best of {rounds} each.\n");
-    println!("| What | Library | Plain Rust | Ratio |");
-    println!("|---|---|---|---|");
+    println!("| What | Library | Plain Rust | Ratio | Growth: library, plain Rust |");
+    println!("|---|---|---|---|---|");
     measure_check(rounds);
-    let growth = SIZES.map(|slots| measure_classes(slots, rounds));
+    let classes = measure_growth(rounds);
     measure_run(rounds);
-    print_growth(&growth);
+    let [least, most] = [SIZES[0], SIZES[SIZES.len() - 1]];
+    println!(
+        "\nFrom {} to {} slots, {} times as many, the classes grow by {}.",
+        grouped(least),
+        grouped(most),
+        most / least,
+        growth(classes[0], classes[SIZES.len() - 1])
+    );
 }
 
 /// The check of full tables.
@@ -45,23 +52,33 @@ fn measure_check(rounds: usize) {
         || timed(|| plain::check(parents, objects, reserve, 3, end)),
     );
     let what = "check: 1,024 files of 160 slots, 65,536 objects, 65,536 reserve FIDs";
-    print_line(what, times);
+    print_line(what, times, "");
+}
+
+/// The classes at each size, with the growth from the one before.
+fn measure_growth(rounds: usize) -> Vec<Times> {
+    let mut all: Vec<Times> = Vec::new();
+    for slots in SIZES {
+        let objects = slots * 65_536 / 160_000;
+        let times = measure_classes(slots, objects, rounds);
+        let growth = all.last().map(|before| growth(*before, times));
+        let (slots, objects) = (grouped(slots), grouped(objects));
+        let what = format!("classes of all positions: {slots} slots, {objects} objects, clean");
+        print_line(&what, times, &growth.unwrap_or_default());
+        all.push(times);
+    }
+    all
 }
 
 /// The class of every position of clean tables: a run with create and adopt, which asks for
 /// each of them and changes nothing.
-fn measure_classes(slots: usize, rounds: usize) -> Times {
-    let objects = slots * 65_536 / 160_000;
+fn measure_classes(slots: usize, objects: usize, rounds: usize) -> Times {
     let tables = Tables::clean(slots, objects, 0);
-    let times = side_by_side(
+    side_by_side(
         rounds,
         || unchanged(run(&tables, lfsck_run), &tables),
         || unchanged(run(&tables, plain::run), &tables),
-    );
-    let (slots, objects) = (grouped(slots), grouped(objects));
-    let what = format!("classes of all positions: {slots} slots, {objects} objects, clean");
-    print_line(&what, times);
-    times
+    )
 }
 
 /// A whole run on damaged tables.
@@ -76,7 +93,7 @@ fn measure_run(rounds: usize) {
     );
     let what =
         "run, policy 3: 1,000 files of 160 slots, 65,536 objects, one slot in a hundred damaged";
-    print_line(what, times);
+    print_line(what, times, "");
 }
 
 /// A run by either side.
@@ -154,30 +171,25 @@ fn repaired(run: Timed<Ran>) -> Timed<Ran> {
     run
 }
 
-fn print_line(what: &str, times: Times) {
+fn print_line(what: &str, times: Times, growth: &str) {
     let ratio = times.ratio();
     let mark = if ratio > MOST_RATIO { ", over 1.3" } else { "" };
     println!(
-        "| {what} | {:.3} s | {:.3} s | {ratio:.2}{mark} |",
+        "| {what} | {:.3} s | {:.3} s | {ratio:.2}{mark} | {growth} |",
         times.library.as_secs_f64(),
         times.plain.as_secs_f64()
     );
     let _ = std::io::stdout().flush();
 }
 
-fn print_growth(growth: &[Times]) {
-    println!("\n| Classes, growth with the slots | Library | Plain Rust |");
-    println!("|---|---|---|");
+/// How many times as long the library and plain Rust take.
+fn growth(before: Times, after: Times) -> String {
     let factor = |from: Duration, to: Duration| to.as_secs_f64() / from.as_secs_f64();
-    for (sizes, times) in SIZES.windows(2).zip(growth.windows(2)) {
-        println!(
-            "| {} to {} | times {:.2} | times {:.2} |",
-            grouped(sizes[0]),
-            grouped(sizes[1]),
-            factor(times[0].library, times[1].library),
-            factor(times[0].plain, times[1].plain)
-        );
-    }
+    format!(
+        "times {:.2}, times {:.2}",
+        factor(before.library, after.library),
+        factor(before.plain, after.plain)
+    )
 }
 
 /// A number with a comma before each three digits.
