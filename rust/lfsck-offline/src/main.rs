@@ -9,6 +9,7 @@ mod bar;
 mod case;
 mod changes;
 mod class;
+mod columns;
 mod commands;
 mod digest;
 mod disk;

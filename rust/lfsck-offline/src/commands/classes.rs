@@ -5,6 +5,7 @@ use std::path::Path;
 use crate::answers::require_sound;
 use crate::case::Case;
 use crate::class::{Class, MEANINGS, NAMES};
+use crate::columns::{self, Line};
 use crate::finding::Finding;
 use crate::json::Json;
 use crate::outcome::{Failure, Outcome};
@@ -48,42 +49,28 @@ fn people(findings: &[Finding], counts: &Counts, only: Option<usize>) -> String 
             None => "Nothing to report: every file and object is as it should be.\n".to_string(),
         };
     }
-    if findings.iter().any(|finding| !is_object(&finding)) {
-        text += "Files:\n";
-        text += &heading();
-        for finding in findings.iter().filter(|finding| !is_object(finding)) {
-            text += &line(finding);
-        }
-    }
-    if findings.iter().any(|finding| is_object(&finding)) {
-        text += "Objects (file and slot are what the object claims):\n";
-        text += &heading();
-        for finding in findings.iter().filter(is_object) {
-            text += &line(finding);
-        }
-    }
+    let (objects, files): (Vec<_>, Vec<_>) = findings.iter().partition(is_object);
+    text += &section("Files:", &files);
+    text += &section(
+        "Objects (file and slot are what the object claims):",
+        &objects,
+    );
     text + &summary(counts)
 }
 
-fn heading() -> String {
-    columns("file", "slot", "object", "class", "repair")
-}
-
-fn columns(file: &str, slot: &str, object: &str, class: &str, repair: &str) -> String {
-    let line = format!("  {file:<24} {slot:>4}  {object:<24} {class:<9}  {repair}");
-    format!("{}\n", line.trim_end())
-}
-
-/// A finding on a line.
-fn line(finding: &Finding) -> String {
-    let or_none = |text: Option<String>| text.unwrap_or_else(|| "-".to_string());
-    columns(
-        &or_none(finding.file.map(|fid| fid.to_string())),
-        &or_none(finding.slot.map(|slot| slot.to_string())),
-        &or_none(finding.object.map(|fid| fid.to_string())),
-        finding.class.name(),
-        &repair(finding),
-    )
+/// Findings under a title, if there are any.
+fn section(title: &str, findings: &[&Finding]) -> String {
+    if findings.is_empty() {
+        return String::new();
+    }
+    let class_and_repair = |class: &str, repair: &str| format!("{class:<9}  {repair}");
+    let heading = Line::heading(&class_and_repair("class", "repair"));
+    let lines = findings.iter().map(|finding| {
+        let rest = class_and_repair(finding.class.name(), &repair(finding));
+        Line::new(finding.file, finding.slot, finding.object, rest)
+    });
+    let lines: Vec<Line> = std::iter::once(heading).chain(lines).collect();
+    format!("{title}\n{}", columns::text(&lines))
 }
 
 /// What the repair would do, or why there is none.

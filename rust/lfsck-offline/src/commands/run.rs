@@ -7,6 +7,7 @@ use crate::args::RunOptions;
 use crate::bar::Bar;
 use crate::case::Case;
 use crate::changes::{Change, changes};
+use crate::columns::{self, Line};
 use crate::json::Json;
 use crate::outcome::{Failure, Outcome, Status};
 use crate::position::Position;
@@ -174,19 +175,12 @@ impl Report {
         if self.changes.is_empty() {
             return "Nothing was changed.\n".to_string();
         }
-        let mut text = String::from("Changed:\n");
-        for change in &self.changes {
-            let or_none = |text: Option<String>| text.unwrap_or_else(|| "-".to_string());
-            let line = format!(
-                "  {:<24} {:>4}  {:<24} {}\n",
-                or_none(change.file.map(|fid| fid.to_string())),
-                or_none(change.slot.map(|slot| slot.to_string())),
-                or_none(change.object.map(|fid| fid.to_string())),
-                change.what
-            );
-            text += &line;
-        }
-        text
+        let line = |change: &Change| {
+            let what = change.what.clone();
+            Line::new(change.file, change.slot, change.object, what)
+        };
+        let lines: Vec<Line> = self.changes.iter().map(line).collect();
+        format!("Changed:\n{}", columns::text(&lines))
     }
 
     fn repairs_for_people(&self) -> String {

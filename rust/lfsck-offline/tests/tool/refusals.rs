@@ -312,7 +312,7 @@ fn a_case_that_cannot_be_written_can_be_read() {
     run(&["sample"]).expect_line(74, "already there");
     assert_eq!(names(&directory), before);
     let parents = directory.join("parents.tbl");
-    fs::set_permissions(&parents, fs::Permissions::from_mode(0)).unwrap();
+    fs::set_permissions(&parents, fs::Permissions::from_mode(0o000)).unwrap();
     run(&["check"]).expect_line(74, "parents.tbl: permission denied");
     for path in [&place, &directory] {
         fs::set_permissions(path, fs::Permissions::from_mode(0o755)).unwrap();
