@@ -225,3 +225,56 @@ fn unfinished(name: &str) -> String {
     let name = name.strip_prefix(OWN).unwrap_or(name);
     format!("{OWN}{name}.new")
 }
+
+#[cfg(test)]
+mod tests {
+    use super::*;
+
+    /// A case with a row in each table, in a directory of its own.
+    fn case(name: &str) -> (Case, Tables, std::path::PathBuf) {
+        let name = format!("lfsck-offline-case-{name}-{}", std::process::id());
+        let directory = std::env::temp_dir().join(name);
+        let tables = Tables {
+            parents: vec![0; 3915],
+            objects: vec![0; 46],
+            reserve: vec![1; 16],
+        };
+        Case::make(&directory, &tables).expect("a new case");
+        let case = Case::open(&directory).expect("the case");
+        (case, tables, directory)
+    }
+
+    #[test]
+    fn what_somebody_changed_meanwhile_is_not_overwritten() {
+        let (case, old, directory) = case("meanwhile");
+        let mut new = old.clone();
+        new.objects[1] = 1;
+        let saved = Saved::new([3, 0, 0], 0, &new);
+        for table in Table::ALL {
+            let path = directory.join(table.file());
+            fs::write(&path, b"other").expect("the file");
+            let failure = case.save_run(&old, &new, &saved).expect_err("a refusal");
+            assert!(failure.message.contains(table.file()), "{failure:?}");
+            assert!(failure.message.contains("nothing is saved"), "{failure:?}");
+            assert_eq!(fs::read(&path).expect("the file"), b"other");
+            assert!(!case.disk.has(POSITION) && !case.disk.has(JOURNAL));
+            fs::write(&path, old.of(table)).expect("the file");
+        }
+        case.save_run(&old, &new, &saved).expect("a save");
+        assert_eq!(case.tables().expect("the tables"), new);
+        assert_eq!(case.position().expect("the position"), Some(saved));
+        fs::remove_dir_all(&directory).expect("the directory");
+    }
+
+    #[test]
+    fn what_has_not_changed_is_not_written() {
+        let (case, old, directory) = case("unchanged");
+        let saved = Saved::new([3, 0, 0], 0, &old);
+        case.save_run(&old, &old, &saved).expect("a save");
+        let time = |name| fs::metadata(case.disk.path(name)).and_then(|it| it.modified());
+        let before = time(POSITION).expect("the position");
+        case.save_run(&old, &old, &saved).expect("nothing to save");
+        assert_eq!(time(POSITION).expect("the position"), before);
+        fs::remove_dir_all(&directory).expect("the directory");
+    }
+}
