@@ -2,6 +2,7 @@
 
 mod bytes;
 mod commands;
+mod histories;
 mod json;
 mod limits;
 mod oracle;

@@ -23,10 +23,16 @@ pub struct Run {
 
 /// A run from the start over the tables of a case.
 pub fn run(files: &Files, policy: u64, most: u64) -> Run {
+    let mut start = [0; 3];
+    let (parents, objects) = (&files["parents.tbl"], &files["objects.tbl"]);
+    assert_eq!(interface::start(parents, objects, &mut start), 0);
+    run_from(files, start, policy, most)
+}
+
+/// A run from a position.
+pub fn run_from(files: &Files, mut position: [u64; 3], policy: u64, most: u64) -> Run {
     let mut parents = files["parents.tbl"].clone();
     let mut objects = files["objects.tbl"].clone();
-    let mut position = [0; 3];
-    assert_eq!(interface::start(&parents, &objects, &mut position), 0);
     let mut report = [0; 9];
     let answer = interface::run(
         &mut parents,
