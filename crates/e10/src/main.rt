@@ -20,22 +20,22 @@ fn print_number(name: &[u8], n: u64) {
     io::print_decimal(STDOUT_FILENO, n);
 }
 
-// Object A, with a claim on slot `index` of file P.
-fn put_object(objects: &mut [u8; 46], index: u32) {
-    objects[0] = 1;
-    let name = Fid {
+// Object A.
+fn object_name() -> Fid {
+    Fid {
         seq: 0x2_4000_0400,
         oid: 0x10,
         ver: 0,
-    };
-    let claim = Fid {
+    }
+}
+
+// A claim on slot `index` of file P.
+fn claim_on(index: u32) -> Fid {
+    Fid {
         seq: 0x2_0000_0401,
         oid: 1,
         ver: index,
-    };
-    fid::write_fid(objects, 1, name);
-    wire::put_le32(objects, 17, 3);
-    fid::write_fid(objects, 29, claim);
+    }
 }
 
 // The run from the start, with adopt: its answer, the steps done and the objects adopted.
@@ -68,12 +68,15 @@ fn show_layout(layout: &[u8]) {
     io::write_all(STDOUT_FILENO, b"\n");
 }
 
-// One unused parent row, and the object.
+// One unused parent row, and object A with its claim.
 fn show(index: u32) {
     let mut parents = [0u8; 3915];
     let mut objects = [0u8; 46];
     let mut out = [0u64; 4];
-    put_object(&mut objects, index);
+    objects[0] = 1;
+    fid::write_fid(&mut objects, 1, object_name());
+    wire::put_le32(&mut objects, 17, 3);
+    fid::write_fid(&mut objects, 29, claim_on(index));
     let answer = capi::classes::lfsck_class(&parents, &objects, 2, 0, 0, &mut out);
     print_number(b"index ", index as u64);
     print_number(b": answer ", answer as u64);

@@ -1,5 +1,5 @@
 use denote.Ref.{now}
-use mathlib.Core.Path.{_≡_, ap, _∙_}
+use mathlib.Core.Path.{_≡_, ap, _∙_, sym}
 use Rattle.wire.specs.Numbers.{Bytes}
 use Rattle.tables.specs.Bytes.{decodeObject}
 use Rattle.tables.specs.declared.Claim.the-variants.{Claims}
@@ -17,7 +17,7 @@ use Rattle.tables.proofs.rows.row_at.Reads as row-at-reads
 claims : (c : tie.After-known-told) →
     let v = c .before .claim .given .0 in
     c .before .before .before .decode-object .result .claim ≡ Claims (v .0) (v .1 .0)
-claims c = cc
+claims c = c .before .claim .given .1
 
 row-at-requires : tie.Need-row-at-requires
 row-at-requires c κs = search needs
@@ -42,7 +42,7 @@ same-length c = search needs
 
 returns : tie.Need-returns
 unfolding Bytes
-returns c = let d = c .before .before .before .before .before .before .before in let a = d .args in claim-none (now (a .parents)) (now (a .objects)) (d .pre .0) (λ i. c .before .before .before .before .before .before .slice-known .given i .fits) (λ i. c .before .before .before .before .before .slice-known2 .given i .fits) (a .k) _ (c .before .before .decode-object .ensures ∙ ap decodeObject (c .before .before .before .row-at .ensures .0)) (cc)
+returns c = let d = c .before .before .before .before .before .before .before in let a = d .args in claim-none (now (a .parents)) (now (a .objects)) (d .pre .0) (λ i. c .before .before .before .before .before .before .slice-known .given i .fits) (λ i. c .before .before .before .before .before .slice-known2 .given i .fits) (a .k) _ (c .before .before .decode-object .ensures ∙ ap decodeObject (c .before .before .before .row-at .ensures .0)) (c .enum-told .given .1)
 
 same-length-2 : tie.Need-same-length-2
 same-length-2 c = search needs

@@ -21,16 +21,16 @@ use Rattle.search.proofs.slots.slot_of.Reads as slot-of-reads
 
 -- the way, arm by arm
 is-new : (c : tie.After-enum-told2) → c .before .before .way .result ≡ NewParent
-is-new c = cc
+is-new c = c .enum-told2 .given .1
 
 is-fill : (c : tie.After-known-told) → c .before .before .before .way .result ≡ Fill (c .before .way2 .given .0 .0)
-is-fill c = cc
+is-fill c = c .before .way2 .given .1
 
 is-grow : (c : tie.After-known-told2) → c .before .before .before .way .result ≡ Grow (c .before .way3 .given .0 .0)
-is-grow c = cc
+is-grow c = c .before .way3 .given .1
 
 is-take : (c : tie.After-known-told3) → c .before .before .before .way .result ≡ Take (c .before .way4 .given .0 .0)
-is-take c = cc
+is-take c = c .before .way4 .given .1
 
 way-requires : tie.Need-way-requires
 way-requires c κs = let d = c .before .before .before .before in let a = d .args in sound-facts _ _ (d .pre .0) .layouts
@@ -79,7 +79,7 @@ same-length-2 c = search needs
 
 returns : tie.Need-returns
 unfolding Bytes
-returns c = let d = c .before .before .before .before .before .before .before in let a = d .args in adopt-none (now (a .parents)) (now (a .objects)) (d .pre .0) (λ i. c .before .before .before .before .before .before .slice-known .given i .fits) (λ i. c .before .before .before .before .before .slice-known2 .given i .fits) (a .k) (d .pre .1) (a .x) (a .f) (a .i) _ (c .before .before .way .ensures) (cc)
+returns c = let d = c .before .before .before .before .before .before .before in let a = d .args in adopt-none (now (a .parents)) (now (a .objects)) (d .pre .0) (λ i. c .before .before .before .before .before .before .slice-known .given i .fits) (λ i. c .before .before .before .before .before .slice-known2 .given i .fits) (a .k) (d .pre .1) (a .x) (a .f) (a .i) _ (c .before .before .way .ensures) (c .enum-told .given .1)
 
 same-length-3 : tie.Need-same-length-3
 same-length-3 c = search needs

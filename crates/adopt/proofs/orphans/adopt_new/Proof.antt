@@ -1,5 +1,5 @@
 use denote.Ref.{now}
-use mathlib.Core.Path.{_≡_}
+use mathlib.Core.Path.{_≡_, sym, _∙_}
 use Rattle.tables.specs.Bytes.{parse}
 use Rattle.rules.specs.Rows.{freeParent}
 use Rattle.rules.specs.declared.Row.the-variants.{RowIs}
@@ -18,7 +18,7 @@ use Rattle.stores.proofs.files.make.Reads as make-reads
 
 -- the row that was found
 found-is : (c : tie.After-known-told) → freeParent (parse (now (c .before .before .before .before .before .before .args .parents)) []) ≡ RowIs (c .before .free .given .0 .0)
-found-is c = cc
+found-is c = sym (c .before .before .before .free-parent .ensures) ∙ c .before .free .given .1
 
 free-parent-requires : tie.Need-free-parent-requires
 free-parent-requires c κs = search needs
@@ -33,13 +33,13 @@ slot-for-requires : tie.Need-slot-for-requires
 slot-for-requires c κs = search needs
 
 make-requires : tie.Need-make-requires
-make-requires c κs = let a = c .before .before .before .before .before .before .before .before .before .args in let h = free-parent-inside (now (a .parents)) [] (c .before .before .before .before .free .given .0 .0) (cc) in (omega arith, c .before .before .before .before .before .before .before .before .before .pre)
+make-requires c κs = let a = c .before .before .before .before .before .before .before .before .before .args in let h = free-parent-inside (now (a .parents)) [] (c .before .before .before .before .free .given .0 .0) (sym (c .before .before .before .before .before .before .free-parent .ensures) ∙ c .before .before .before .before .free .given .1) in (omega arith, c .before .before .before .before .before .before .before .before .before .pre)
 
 same-length : tie.Need-same-length
 same-length c = search needs
 
 returns : tie.Need-returns
-returns c = let a = c .before .before .before .before .before .args in made-none (now (a .parents)) (a .f) (a .i) (a .x) _ (cc)
+returns c = let a = c .before .before .before .before .before .args in made-none (now (a .parents)) (a .f) (a .i) (a .x) _ (sym (c .before .before .free-parent .ensures) ∙ c .enum-told .given .1)
 
 same-length-2 : tie.Need-same-length-2
 same-length-2 c = search needs

@@ -15,16 +15,16 @@ enum-known-d : tie.Need-enum-known-d
 enum-known-d c = search needs
 
 destroy-requires : tie.Need-destroy-requires
-destroy-requires c κs = let a = c .before .before .before .before .before .args in let h = row-in (now (a .objects)) (a .d) (c .before .before .d .given .0 .0) (c .before .before .before .before .before .pre) (cc) in omega arith
+destroy-requires c κs = let a = c .before .before .before .before .before .args in let h = row-in (now (a .objects)) (a .d) (c .before .before .d .given .0 .0) (c .before .before .before .before .before .pre) (c .before .before .d .given .1) in omega arith
 
 returns : tie.Need-returns
-returns c = dropped-none _ _ (cc)
+returns c = dropped-none _ _ (c .enum-told .given .1)
 
 same-length : tie.Need-same-length
 same-length c = search needs
 
 returns-2 : tie.Need-returns-2
-returns-2 c = dropped-row _ _ _ (c .before .before .before .before .before .d .given .0 .0) (cc) (c .before .before .destroy .ensures)
+returns-2 c = dropped-row _ _ _ (c .before .before .before .before .before .d .given .0 .0) (c .before .before .before .before .before .d .given .1) (c .before .before .destroy .ensures)
 
 pub drop-row-spec : {M : Type 1} → statement M
 drop-row-spec =

@@ -16,10 +16,10 @@ object-row-requires : tie.Need-object-row-requires
 object-row-requires c κs = search needs
 
 returns : tie.Need-returns
-returns c = named-hole _ _ (cc)
+returns c = named-hole _ _ (c .enum-told .given .1)
 
 returns-2 : tie.Need-returns-2
-returns-2 c = let v = c .before .before .s .given .0 in named-names _ _ (v .0) (v .1 .0) (v .1 .1 .0) (cc) _ (c .object-row .ensures)
+returns-2 c = let v = c .before .before .s .given .0 in named-names _ _ (v .0) (v .1 .0) (v .1 .1 .0) (c .before .before .s .given .1) _ (c .object-row .ensures)
 
 pub named-row-spec : {M : Type 1} → statement M
 named-row-spec = tie.close (tie.spec enum-told enum-known-s object-row-requires returns returns-2)

@@ -18,10 +18,10 @@ use Rattle.stores.proofs.objects.destroy.Reads as destroy-reads
 
 -- the class, arm by arm
 is-empty : (c : tie.After-enum-told5) → c .before .before .object-class .result ≡ EMPTY
-is-empty c = cc
+is-empty c = c .enum-told5 .given .1
 
 is-orphan : (c : tie.After-enum-told6) → c .before .before .object-class .result ≡ ORPHAN
-is-orphan c = cc
+is-orphan c = c .enum-told6 .given .1
 
 adopting : (c : tie.Else1) → adopts (c .before .before .before .before .args .policy) ≡ true
 adopting c = sym (c .before .may-adopt .ensures) ∙ not-false _ (c .if1 .left)
@@ -68,7 +68,7 @@ same-length-2 c = search needs
 
 returns-2 : tie.Need-returns-2
 unfolding Bytes
-returns-2 c = let d = c .before .before .before .before .before .before .before .before .before in let a = d .args in object-unused-row (now (a .parents)) (now (a .objects)) (d .pre .0) (λ i. c .before .before .before .before .before .before .before .before .slice-known .given i .fits) (λ i. c .before .before .before .before .before .before .before .slice-known2 .given i .fits) (a .policy) (a .k) _ (c .before .before .object-class .ensures) (cc)
+returns-2 c = let d = c .before .before .before .before .before .before .before .before .before in let a = d .args in object-unused-row (now (a .parents)) (now (a .objects)) (d .pre .0) (λ i. c .before .before .before .before .before .before .before .before .slice-known .given i .fits) (λ i. c .before .before .before .before .before .before .before .slice-known2 .given i .fits) (a .policy) (a .k) _ (c .before .before .object-class .ensures) (c .enum-told .given .1)
 
 same-length-3 : tie.Need-same-length-3
 same-length-3 c = search needs
@@ -78,7 +78,7 @@ same-length-4 c = search needs
 
 returns-3 : tie.Need-returns-3
 unfolding Bytes
-returns-3 c = let d = c .before .before .before .before .before .before .before .before .before in let a = d .args in object-named (now (a .parents)) (now (a .objects)) (d .pre .0) (λ i. c .before .before .before .before .before .before .before .before .slice-known .given i .fits) (λ i. c .before .before .before .before .before .before .before .slice-known2 .given i .fits) (a .policy) (a .k) _ (c .before .before .object-class .ensures) (cc)
+returns-3 c = let d = c .before .before .before .before .before .before .before .before .before in let a = d .args in object-named (now (a .parents)) (now (a .objects)) (d .pre .0) (λ i. c .before .before .before .before .before .before .before .before .slice-known .given i .fits) (λ i. c .before .before .before .before .before .before .before .slice-known2 .given i .fits) (a .policy) (a .k) _ (c .before .before .object-class .ensures) (c .enum-told2 .given .1)
 
 same-length-5 : tie.Need-same-length-5
 same-length-5 c = search needs
@@ -88,7 +88,7 @@ same-length-6 c = search needs
 
 returns-4 : tie.Need-returns-4
 unfolding Bytes
-returns-4 c = let d = c .before .before .before .before .before .before .before .before .before in let a = d .args in object-spare (now (a .parents)) (now (a .objects)) (d .pre .0) (λ i. c .before .before .before .before .before .before .before .before .slice-known .given i .fits) (λ i. c .before .before .before .before .before .before .before .slice-known2 .given i .fits) (a .policy) (a .k) _ (c .before .before .object-class .ensures) (cc)
+returns-4 c = let d = c .before .before .before .before .before .before .before .before .before in let a = d .args in object-spare (now (a .parents)) (now (a .objects)) (d .pre .0) (λ i. c .before .before .before .before .before .before .before .before .slice-known .given i .fits) (λ i. c .before .before .before .before .before .before .before .slice-known2 .given i .fits) (a .policy) (a .k) _ (c .before .before .object-class .ensures) (c .enum-told3 .given .1)
 
 same-length-7 : tie.Need-same-length-7
 same-length-7 c = search needs
@@ -98,7 +98,7 @@ same-length-8 c = search needs
 
 returns-5 : tie.Need-returns-5
 unfolding Bytes
-returns-5 c = let d = c .before .before .before .before .before .before .before .before .before in let a = d .args in object-conflict (now (a .parents)) (now (a .objects)) (d .pre .0) (λ i. c .before .before .before .before .before .before .before .before .slice-known .given i .fits) (λ i. c .before .before .before .before .before .before .before .slice-known2 .given i .fits) (a .policy) (a .k) _ (c .before .before .object-class .ensures) (cc)
+returns-5 c = let d = c .before .before .before .before .before .before .before .before .before in let a = d .args in object-conflict (now (a .parents)) (now (a .objects)) (d .pre .0) (λ i. c .before .before .before .before .before .before .before .before .slice-known .given i .fits) (λ i. c .before .before .before .before .before .before .before .slice-known2 .given i .fits) (a .policy) (a .k) _ (c .before .before .object-class .ensures) (c .enum-told4 .given .1)
 
 same-length-9 : tie.Need-same-length-9
 same-length-9 c = search needs

@@ -36,7 +36,7 @@ same-length-2 c = search needs
 -- src/steps.rt:101:1
 returns : tie.Need-returns
 unfolding Bytes
-returns c = let d = c .before .before .before .before .before .before .before .before in let a = d .args in redirect-empty (now (a .parents)) (now (a .objects)) (now (a .reserve)) (a .r) (a .j) (a .ost) _ (c .before .before .usable .ensures) (d .pre .tables) (λ i. c .before .before .before .before .before .before .before .slice-known .given i .fits) (λ i. c .before .before .before .before .before .before .slice-known2 .given i .fits) (cc)
+returns c = let d = c .before .before .before .before .before .before .before .before in let a = d .args in redirect-empty (now (a .parents)) (now (a .objects)) (now (a .reserve)) (a .r) (a .j) (a .ost) _ (c .before .before .usable .ensures) (d .pre .tables) (λ i. c .before .before .before .before .before .before .before .slice-known .given i .fits) (λ i. c .before .before .before .before .before .before .slice-known2 .given i .fits) (c .enum-told .given .1)
 
 -- src/steps.rt:101:1
 same-length-3 : tie.Need-same-length-3
@@ -48,7 +48,7 @@ same-length-4 c = search needs
 
 -- src/steps.rt:101:1
 returns-2 : tie.Need-returns-2
-returns-2 c = let d = c .before .before .before .before .before .before .before .before .before .before .before .before .before .before .before .before in let a = d .args in carry (now (a .parents)) (now (a .objects)) _ _ (reserve-takes (now (a .parents)) (now (a .objects)) (now (a .reserve)) (a .r) (a .j) (a .ost) _ (c .before .before .before .before .before .before .before .before .before .before .usable .ensures) (c .before .before .before .before .before .before .before .before .found .given .0 .0) (cc)) _ _ _ (c .before .before .before .before .redirect-to .ensures)
+returns-2 c = let d = c .before .before .before .before .before .before .before .before .before .before .before .before .before .before .before .before in let a = d .args in carry (now (a .parents)) (now (a .objects)) _ _ (reserve-takes (now (a .parents)) (now (a .objects)) (now (a .reserve)) (a .r) (a .j) (a .ost) _ (c .before .before .before .before .before .before .before .before .before .before .usable .ensures) (c .before .before .before .before .before .before .before .before .found .given .0 .0) (c .before .before .before .before .before .before .before .before .found .given .1)) _ _ _ (c .before .before .before .before .redirect-to .ensures)
 
 pub redirect-spec : {M : Type 1} → statement M
 redirect-spec =

@@ -12,21 +12,21 @@ use Rattle.mend.proofs.steps.repair_slot.Lts as lts
 
 -- the class, arm by arm
 is-multiple : (c : tie.After-enum-told3) → c .before .before .slot-class .result ≡ MULTIPLE
-is-multiple c = cc
+is-multiple c = c .enum-told3 .given .1
 
 is-dangling : (c : tie.After-enum-told4) → c .before .before .slot-class .result ≡ DANGLING
-is-dangling c = cc
+is-dangling c = c .enum-told4 .given .1
 
 is-blank : (c : tie.After-enum-told5) → c .before .before .slot-class .result ≡ BLANK
-is-blank c = cc
+is-blank c = c .enum-told5 .given .1
 
 is-owner : (c : tie.After-enum-told6) → c .before .before .slot-class .result ≡ OWNER
-is-owner c = cc
+is-owner c = c .enum-told6 .given .1
 
 unmatched-is : (c : tie.After-known-told) →
     let v = c .before .class .given .0 in
     c .before .before .before .slot-class .result ≡ UNMATCHED (v .0) (v .1 .0)
-unmatched-is c = cc
+unmatched-is c = c .before .class .given .1
 
 -- src/steps.rt:201:9
 slot-class-requires : tie.Need-slot-class-requires
@@ -59,7 +59,7 @@ same-length-2 c = search needs
 -- src/steps.rt:207:17
 returns : tie.Need-returns
 unfolding Bytes
-returns c = let d = c .before .before .before .before .before .before .before .before .before .before in let a = d .args in rested (now (a .parents)) (now (a .objects)) (d .pre .tables) (λ i. c .before .before .before .before .before .before .before .before .before .slice-known .given i .fits) (λ i. c .before .before .before .before .before .before .before .before .slice-known2 .given i .fits) _ (slot-multiple-off (now (a .parents)) (now (a .objects)) (now (a .reserve)) (a .policy) (a .r) (a .j) (a .f) (a .ost) _ (c .before .before .before .before .slot-class .ensures) (cc) (sym (c .before .creates .ensures) ∙ not-true _ (c .if1 .taken)))
+returns c = let d = c .before .before .before .before .before .before .before .before .before .before in let a = d .args in rested (now (a .parents)) (now (a .objects)) (d .pre .tables) (λ i. c .before .before .before .before .before .before .before .before .before .slice-known .given i .fits) (λ i. c .before .before .before .before .before .before .before .before .slice-known2 .given i .fits) _ (slot-multiple-off (now (a .parents)) (now (a .objects)) (now (a .reserve)) (a .policy) (a .r) (a .j) (a .f) (a .ost) _ (c .before .before .before .before .slot-class .ensures) (c .before .before .enum-told3 .given .1) (sym (c .before .creates .ensures) ∙ not-true _ (c .if1 .taken)))
 
 -- src/steps.rt:209:13
 redirect-requires : tie.Need-redirect-requires
@@ -84,7 +84,7 @@ same-length-4 c = search needs
 -- src/steps.rt:213:17
 returns-2 : tie.Need-returns-2
 unfolding Bytes
-returns-2 c = let d = c .before .before .before .before .before .before .before .before .before .before in let a = d .args in rested (now (a .parents)) (now (a .objects)) (d .pre .tables) (λ i. c .before .before .before .before .before .before .before .before .before .slice-known .given i .fits) (λ i. c .before .before .before .before .before .before .before .before .slice-known2 .given i .fits) _ (slot-dangling-off (now (a .parents)) (now (a .objects)) (now (a .reserve)) (a .policy) (a .r) (a .j) (a .f) (a .ost) _ (c .before .before .before .before .slot-class .ensures) (cc) (sym (c .before .creates2 .ensures) ∙ not-true _ (c .if2 .taken)))
+returns-2 c = let d = c .before .before .before .before .before .before .before .before .before .before in let a = d .args in rested (now (a .parents)) (now (a .objects)) (d .pre .tables) (λ i. c .before .before .before .before .before .before .before .before .before .slice-known .given i .fits) (λ i. c .before .before .before .before .before .before .before .before .slice-known2 .given i .fits) _ (slot-dangling-off (now (a .parents)) (now (a .objects)) (now (a .reserve)) (a .policy) (a .r) (a .j) (a .f) (a .ost) _ (c .before .before .before .before .slot-class .ensures) (c .before .before .enum-told4 .given .1) (sym (c .before .creates2 .ensures) ∙ not-true _ (c .if2 .taken)))
 
 -- src/steps.rt:215:13
 make-object-requires : tie.Need-make-object-requires
@@ -125,7 +125,7 @@ same-length-6 c = search needs
 -- src/steps.rt:195:1
 returns-3 : tie.Need-returns-3
 unfolding Bytes
-returns-3 c = let d = c .before .before .before .before .before .before .before .before in let a = d .args in rested (now (a .parents)) (now (a .objects)) (d .pre .tables) (λ i. c .before .before .before .before .before .before .before .slice-known .given i .fits) (λ i. c .before .before .before .before .before .before .slice-known2 .given i .fits) _ (slot-hole (now (a .parents)) (now (a .objects)) (now (a .reserve)) (a .policy) (a .r) (a .j) (a .f) (a .ost) _ (c .before .before .slot-class .ensures) (cc))
+returns-3 c = let d = c .before .before .before .before .before .before .before .before in let a = d .args in rested (now (a .parents)) (now (a .objects)) (d .pre .tables) (λ i. c .before .before .before .before .before .before .before .slice-known .given i .fits) (λ i. c .before .before .before .before .before .before .slice-known2 .given i .fits) _ (slot-hole (now (a .parents)) (now (a .objects)) (now (a .reserve)) (a .policy) (a .r) (a .j) (a .f) (a .ost) _ (c .before .before .slot-class .ensures) (c .enum-told .given .1))
 
 -- src/steps.rt:195:1
 same-length-7 : tie.Need-same-length-7
@@ -138,7 +138,7 @@ same-length-8 c = search needs
 -- src/steps.rt:195:1
 returns-4 : tie.Need-returns-4
 unfolding Bytes
-returns-4 c = let d = c .before .before .before .before .before .before .before .before in let a = d .args in rested (now (a .parents)) (now (a .objects)) (d .pre .tables) (λ i. c .before .before .before .before .before .before .before .slice-known .given i .fits) (λ i. c .before .before .before .before .before .before .slice-known2 .given i .fits) _ (slot-clean (now (a .parents)) (now (a .objects)) (now (a .reserve)) (a .policy) (a .r) (a .j) (a .f) (a .ost) _ (c .before .before .slot-class .ensures) (cc))
+returns-4 c = let d = c .before .before .before .before .before .before .before .before in let a = d .args in rested (now (a .parents)) (now (a .objects)) (d .pre .tables) (λ i. c .before .before .before .before .before .before .before .slice-known .given i .fits) (λ i. c .before .before .before .before .before .before .slice-known2 .given i .fits) _ (slot-clean (now (a .parents)) (now (a .objects)) (now (a .reserve)) (a .policy) (a .r) (a .j) (a .f) (a .ost) _ (c .before .before .slot-class .ensures) (c .enum-told2 .given .1))
 
 -- src/steps.rt:195:1
 same-length-9 : tie.Need-same-length-9

@@ -16,7 +16,7 @@ use Rattle.mend.proofs.steps.slot_step.Lts as lts
 names : (c : tie.After-known-told) →
     let v = c .before .slot .given .0 in
     c .before .before .before .slot-of .result ≡ Names (v .0) (v .1 .0) (v .1 .1 .0)
-names c = cc
+names c = c .before .slot .given .1
 
 slot-of-requires : tie.Need-slot-of-requires
 slot-of-requires c κs = let d = c .before .before .before .before in (sound-facts _ _ (d .pre .0) .layouts, d .pre .1)
@@ -41,7 +41,7 @@ same-length-2 c = search needs
 
 returns : tie.Need-returns
 unfolding Bytes
-returns c = let d = c .before .before .before .before .before .before .before in let a = d .args in rested (now (a .parents)) (now (a .objects)) (d .pre .0) (λ i. c .before .before .before .before .before .before .slice-known .given i .fits) (λ i. c .before .before .before .before .before .slice-known2 .given i .fits) _ (slot-step-hole (now (a .parents)) (now (a .objects)) (now (a .reserve)) (a .policy) (a .r) (a .j) _ (c .before .before .slot-of .ensures) (cc))
+returns c = let d = c .before .before .before .before .before .before .before in let a = d .args in rested (now (a .parents)) (now (a .objects)) (d .pre .0) (λ i. c .before .before .before .before .before .before .slice-known .given i .fits) (λ i. c .before .before .before .before .before .slice-known2 .given i .fits) _ (slot-step-hole (now (a .parents)) (now (a .objects)) (now (a .reserve)) (a .policy) (a .r) (a .j) _ (c .before .before .slot-of .ensures) (c .enum-told .given .1))
 
 same-length-3 : tie.Need-same-length-3
 same-length-3 c = search needs

@@ -1,4 +1,4 @@
-use mathlib.Core.Path.{_≡_}
+use mathlib.Core.Path.{_≡_, sym, _∙_}
 use Rattle.tables.specs.Bytes.{parse}
 use Rattle.rules.specs.Rows.{objectRow}
 use Rattle.rules.specs.declared.Row.the-variants.{RowIs}
@@ -28,7 +28,7 @@ enum-known-found c = search needs
 
 -- src/steps.rt:160:41
 row-at-requires : tie.Need-row-at-requires
-row-at-requires c κs = let d = c .before .before .before .before .before .before .before .before in let a = d .args in let h = object-inside [] (now (a .objects)) (a .f) (c .before .before .found .given .0 .0) (cc) in omega arith
+row-at-requires c κs = let d = c .before .before .before .before .before .before .before .before in let a = d .args in let h = object-inside [] (now (a .objects)) (a .f) (c .before .before .found .given .0 .0) (sym (c .before .before .before .before .object-row .ensures) ∙ c .before .before .found .given .1) in omega arith
 
 -- src/steps.rt:160:17
 decode-object-requires : tie.Need-decode-object-requires
@@ -38,7 +38,7 @@ decode-object-requires c κs = search needs
 found-is : (c : tie.After-known-told) →
     let a = c .before .before .before .before .before .before .before .args in
     objectRow (parse [] (now (a .objects))) (a .f) ≡ RowIs (c .before .found .given .0 .0)
-found-is c = cc
+found-is c = sym (c .before .before .before .object-row .ensures) ∙ c .before .found .given .1
 
 -- src/steps.rt:161:17
 claimed-requires : tie.Need-claimed-requires
@@ -46,7 +46,7 @@ claimed-requires c κs = search needs
 
 -- src/steps.rt:162:13
 put-object-requires : tie.Need-put-object-requires
-put-object-requires c κs = let d = c .before .before .before .before .before .before .before .before .before .before .before .before in let a = d .args in let h = object-inside [] (now (a .objects)) (a .f) (c .before .before .before .before .before .before .found .given .0 .0) (cc) in omega arith
+put-object-requires c κs = let d = c .before .before .before .before .before .before .before .before .before .before .before .before in let a = d .args in let h = object-inside [] (now (a .objects)) (a .f) (c .before .before .before .before .before .before .found .given .0 .0) (sym (c .before .before .before .before .before .before .before .before .object-row .ensures) ∙ c .before .before .before .before .before .before .found .given .1) in omega arith
 
 -- src/steps.rt:150:1
 same-length : tie.Need-same-length
@@ -55,7 +55,7 @@ same-length c = search needs
 -- src/steps.rt:150:1
 returns : tie.Need-returns
 unfolding Bytes
-returns c = let d = c .before .before .before .before .before .before in let a = d .args in claim-absent (now (a .parents)) (now (a .objects)) (d .pre .tables) (λ i. c .before .before .before .before .before .shared-slice-known .given i .fits) (λ i. c .before .before .before .before .slice-known .given i .fits) (a .f) (cc) (a .class) (a .r) (a .j)
+returns c = let d = c .before .before .before .before .before .before in let a = d .args in claim-absent (now (a .parents)) (now (a .objects)) (d .pre .tables) (λ i. c .before .before .before .before .before .shared-slice-known .given i .fits) (λ i. c .before .before .before .before .slice-known .given i .fits) (a .f) (sym (c .before .before .object-row .ensures) ∙ c .enum-told .given .1) (a .class) (a .r) (a .j)
 
 -- src/steps.rt:150:1
 same-length-2 : tie.Need-same-length-2
