@@ -252,14 +252,7 @@ pub fn repair_slot(
             make_object(parents, objects, r, j, ost, f)
         }
         SlotClass::BLANK => write_claim(parents, objects, Repair::OfBlank, r, j, f),
-        SlotClass::UNMATCHED(_, _index) => write_claim(
-            parents,
-            objects,
-            Repair::OfUnmatched,
-            r,
-            j,
-            f,
-        ),
+        SlotClass::UNMATCHED(_, _i) => write_claim(parents, objects, Repair::OfUnmatched, r, j, f),
         SlotClass::OWNER => write_owner(parents, objects, r, j, f),
     }
 }
