@@ -32,7 +32,7 @@ fn main() {
     measure_run(rounds);
     let [least, most] = [SIZES[0], SIZES[SIZES.len() - 1]];
     println!(
-        "\nFrom {} to {} slots, {} times as many, the classes grow by {}.",
+        "\nFrom {} to {} slots, {} times as many, the classes grow by{}.",
         grouped(least),
         grouped(most),
         most / least,
@@ -175,7 +175,7 @@ fn print_line(what: &str, times: Times, growth: &str) {
     let ratio = times.ratio();
     let mark = if ratio > MOST_RATIO { ", over 1.3" } else { "" };
     println!(
-        "| {what} | {:.3} s | {:.3} s | {ratio:.2}{mark} | {growth} |",
+        "| {what} | {:.3} s | {:.3} s | {ratio:.2}{mark} |{growth} |",
         times.library.as_secs_f64(),
         times.plain.as_secs_f64()
     );
@@ -186,7 +186,7 @@ fn print_line(what: &str, times: Times, growth: &str) {
 fn growth(before: Times, after: Times) -> String {
     let factor = |from: Duration, to: Duration| to.as_secs_f64() / from.as_secs_f64();
     format!(
-        "times {:.2}, times {:.2}",
+        " times {:.2}, times {:.2}",
         factor(before.library, after.library),
         factor(before.plain, after.plain)
     )

@@ -87,8 +87,11 @@ fn length_fault(table: Table, bytes: &[u8]) -> Option<Fault> {
     let reason = if bytes.len() > most {
         format!("the file is longer than {most} bytes, which are the most rows there may be")
     } else if !bytes.len().is_multiple_of(size) {
-        let rest = bytes.len() % size;
-        format!("{rest} bytes after the last whole row of {size} bytes")
+        let rest = match bytes.len() % size {
+            1 => "1 byte".to_string(),
+            rest => format!("{rest} bytes"),
+        };
+        format!("{rest} after the last whole row of {size} bytes")
     } else {
         return None;
     };

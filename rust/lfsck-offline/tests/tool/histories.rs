@@ -156,7 +156,7 @@ impl History {
         let before = position();
         let died = self.case.run_with_fault(&words, fault).status.is_none();
         self.case.run(&["check"]).expect(0);
-        let saved = position() != before;
+        let saved = position() != before || !self.model.is_in(&self.case);
         if saved {
             self.model = after;
         }

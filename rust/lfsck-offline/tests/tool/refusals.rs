@@ -146,9 +146,9 @@ fn a_table_of_broken_rows_is_refused() {
     let case = Case::with("broken-rows", &[0; 3916], &[0; 45], &[0; 17]);
     let told = case.run(&["check"]).expect(2);
     for line in [
-        "parents.tbl, length: 1 bytes after the last whole row",
+        "parents.tbl, length: 1 byte after the last whole row",
         "objects.tbl, length: 45 bytes after the last whole row",
-        "reserve.tbl, length: 1 bytes after the last whole row",
+        "reserve.tbl, length: 1 byte after the last whole row",
     ] {
         assert!(told.out.contains(line), "{line}: {told:?}");
     }
