@@ -1,18 +1,22 @@
-.PHONY: test bench clean
+.PHONY: test demo bench clean
 
-ARCHIVES := target/staticlib/libcapi.a target/staticlib/libmeasure.a
+ARCHIVE := target/staticlib/libcapi.a
 
 # The proofs, the C programs and the Rust tests.
 test:
 	@tests/run
 
+# The tour of the command on a sample.
+demo: $(ARCHIVE)
+	@tests/demo
+
 # The proved library beside plain Rust.
-bench: $(ARCHIVES)
+bench: $(ARCHIVE)
 	@tests/bench
 
-# The proved library, and what the benchmark calls.
-target/staticlib/lib%.a: $(shell find crates crates.txt -type f 2>/dev/null)
-	rt staticlib $*
+# The proved library.
+$(ARCHIVE): $(shell find crates crates.txt -type f 2>/dev/null)
+	rt staticlib capi
 
 clean:
 	rm -rf target

@@ -79,7 +79,21 @@ enum {
     LFSCK_WRITE_FIELDS = 7,     /* a header to be written */
     LFSCK_SLOT_NUMBERS = 5,     /* a slot */
     LFSCK_POSITION_NUMBERS = 3, /* a position: stage, row, part */
-    LFSCK_CLASS_NUMBERS = 4     /* a class and what it carries */
+    LFSCK_CLASS_NUMBERS = 4,    /* a class and what it carries */
+    LFSCK_REPORT_NUMBERS = 9    /* the report of a run */
+};
+
+/* The numbers of a report: the steps done, and the repairs of each class among them. */
+enum {
+    LFSCK_REPORT_STEPS = 0,
+    LFSCK_REPORT_SELF = 1,
+    LFSCK_REPORT_MULTIPLE = 2,
+    LFSCK_REPORT_DANGLING = 3,
+    LFSCK_REPORT_BLANK = 4,
+    LFSCK_REPORT_UNMATCHED = 5,
+    LFSCK_REPORT_OWNER = 6,
+    LFSCK_REPORT_EMPTY = 7,
+    LFSCK_REPORT_ORPHAN = 8
 };
 
 /* The classes of a header, a slot and an object. */
@@ -160,6 +174,32 @@ uint32_t lfsck_class(const uint8_t *parents, size_t parents_bytes,
                      const uint8_t *objects, size_t objects_bytes,
                      uint64_t stage, uint64_t row, uint64_t part,
                      uint64_t *out, size_t out_count);
+
+/*
+ * Checks the input as lfsck_check does, then repairs in place, step by step.
+ *
+ *   parents, objects  the tables, changed
+ *   reserve           FIDs for new objects, 16 bytes each
+ *   policy            0 to 3
+ *   most              the greatest number of steps
+ *   position          exactly 3 numbers, changed: where to begin, then where the run stands
+ *   report            9 numbers, written
+ *
+ * LFSCK_OK           the end is reached
+ * LFSCK_STEPS_USED   the steps are used up before the end; the next step was not looked at
+ * LFSCK_NO_RESERVE, LFSCK_NO_OBJECT_ROW, LFSCK_NO_PARENT_ROW
+ *                    the position rests on a step that could not be made; tables and report
+ *                    are those after the steps before it
+ * LFSCK_BAD_TABLE to LFSCK_NO_POSITION
+ *                    as lfsck_check; a position of fewer or more than 3 numbers is none
+ * LFSCK_NO_ROOM      fewer than 9 numbers for the report
+ */
+uint32_t lfsck_run(uint8_t *parents, size_t parents_bytes,
+                   uint8_t *objects, size_t objects_bytes,
+                   const uint8_t *reserve, size_t reserve_bytes,
+                   uint64_t policy, uint64_t most,
+                   uint64_t *position, size_t position_count,
+                   uint64_t *report, size_t report_count);
 
 /*
  * A header is version (1 or 3), pattern, own id, own sequence, stripe size, stripe count and

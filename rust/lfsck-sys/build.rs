@@ -1,4 +1,4 @@
-//! Finds the archives of the verified library, built by `rt staticlib capi` and, for the benchmark, `rt staticlib measure`.
+//! Finds the archive of the verified library, built by `rt staticlib capi`.
 
 use std::path::Path;
 
@@ -6,12 +6,9 @@ fn main() {
     let archives = Path::new(env!("CARGO_MANIFEST_DIR")).join("../../target/staticlib");
     println!("cargo::rustc-link-search=native={}", archives.display());
     println!("cargo::rustc-link-lib=static=capi");
-    println!("cargo::rustc-link-lib=static=measure");
-    for archive in ["libcapi.a", "libmeasure.a"] {
-        println!(
-            "cargo::rerun-if-changed={}",
-            archives.join(archive).display()
-        );
-    }
+    println!(
+        "cargo::rerun-if-changed={}",
+        archives.join("libcapi.a").display()
+    );
     println!("cargo::rerun-if-changed=build.rs");
 }

@@ -2,3 +2,4 @@
 pub mod checks;
 pub mod classes;
 pub mod layouts;
+pub mod runs;

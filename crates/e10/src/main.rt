@@ -1,5 +1,5 @@
-// Example E10 of the paper: an object that may hold data claims slot 159, and then slot 160, of an absent file. Prints the class of the object: at
-// index 159 a parent of 160 slots can be made for it, at 160 its place can't be had.
+// Example E10 of the paper: an object that may hold data claims slot 159, and then slot 160, of an absent file. Prints the class of the object and
+// what a run that adopts makes of it: at index 159 a parent of 160 slots is made for it, at 160 its place can't be had.
 use fid::Fid;
 use libc::STDOUT_FILENO;
 
@@ -15,38 +15,72 @@ fn print_class(class: u64) {
     io::write_all(STDOUT_FILENO, b"another class\n");
 }
 
-// One unused parent row, and object A with a claim on slot `index` of file P.
+fn print_number(name: &[u8], n: u64) {
+    io::write_all(STDOUT_FILENO, name);
+    io::print_decimal(STDOUT_FILENO, n);
+}
+
+// Object A, with a claim on slot `index` of file P.
+fn put_object(objects: &mut [u8; 46], index: u32) {
+    objects[0] = 1;
+    let name = Fid {
+        seq: 0x2_4000_0400,
+        oid: 0x10,
+        ver: 0,
+    };
+    let claim = Fid {
+        seq: 0x2_0000_0401,
+        oid: 1,
+        ver: index,
+    };
+    fid::write_fid(objects, 1, name);
+    wire::put_le32(objects, 17, 3);
+    fid::write_fid(objects, 29, claim);
+}
+
+// The run from the start, with adopt: its answer, the steps done and the objects adopted.
+fn show_run(parents: &mut [u8], objects: &mut [u8]) {
+    let reserve = [0u8; 0];
+    let mut position = [0u64; 3];
+    let mut report = [0u64; 9];
+    let started = capi::checks::lfsck_start(parents, objects, &mut position);
+    let answer = capi::runs::lfsck_run(
+        parents,
+        objects,
+        &reserve,
+        2,
+        100,
+        &mut position,
+        &mut report,
+    );
+    print_number(b"start ", started as u64);
+    print_number(b", run ", answer as u64);
+    print_number(b", steps ", report[0]);
+    print_number(b", adopted ", report[8]);
+}
+
+// The slots of the layout that is 3,872 bytes long: 32 of header and 24 for each of 160.
+fn show_layout(layout: &[u8]) {
+    let mut fields = [0u64; 8];
+    let answer = capi::layouts::lfsck_layout_read(layout, &mut fields);
+    print_number(b"; layout ", answer as u64);
+    print_number(b", slots ", fields[5]);
+    io::write_all(STDOUT_FILENO, b"\n");
+}
+
+// One unused parent row, and the object.
 fn show(index: u32) {
-    let parents = [0u8; 3915];
+    let mut parents = [0u8; 3915];
     let mut objects = [0u8; 46];
     let mut out = [0u64; 4];
-    objects[0] = 1;
-    fid::write_fid(
-        &mut objects,
-        1,
-        Fid {
-            seq: 0x2_4000_0400,
-            oid: 0x10,
-            ver: 0,
-        },
-    );
-    wire::put_le32(&mut objects, 17, 3);
-    fid::write_fid(
-        &mut objects,
-        29,
-        Fid {
-            seq: 0x2_0000_0401,
-            oid: 1,
-            ver: index,
-        },
-    );
+    put_object(&mut objects, index);
     let answer = capi::classes::lfsck_class(&parents, &objects, 2, 0, 0, &mut out);
-    io::write_all(STDOUT_FILENO, b"index ");
-    io::print_decimal(STDOUT_FILENO, index as u64);
-    io::write_all(STDOUT_FILENO, b": answer ");
-    io::print_decimal(STDOUT_FILENO, answer as u64);
+    print_number(b"index ", index as u64);
+    print_number(b": answer ", answer as u64);
     io::write_all(STDOUT_FILENO, b", ");
     print_class(out[0]);
+    show_run(&mut parents, &mut objects);
+    show_layout(&parents[27..3899]);
 }
 
 fn main() {

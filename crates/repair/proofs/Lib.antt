@@ -1,9 +1,1 @@
-pub mod StoreLaws
-pub mod ObjectStores
-pub mod ParentStores
-pub mod RowStores
-pub mod FileLaws
-pub mod TableLaws
-pub mod StepLaws
-pub mod SlotSteps
-pub mod SlotReads
+pub mod PartLaws

@@ -25,7 +25,8 @@ use Rattle.engine.specs.RunBytes.{Ran, refused, rendered, runBytes}
 use Rattle.theorems.specs.Calls.{Lent, tablesOf, RunCall, call, number, Accepted, ran, left, leaves, AtEnd}
 use Rattle.theorems.specs.Promises.{then, Answered, end-reached, used-up, stopped, EveryCall}
 use Rattle.theorems.proofs.FromRules.{step-others, run-destroys-nothing, a-then-b, OneStep, ended, stuck, moved, one-step, run-makes, exists-is, is-exists, is-end, step-makes, Makes}
-use Rattle.theorems.proofs.Written.{Good, written, good-read, good-sound, good-run, sound-good, sound-written, reserve-fits, Parts, accepted-parts, parts-accepted}
+use Rattle.engine.proofs.Standing.{Good, reserve-fits}
+use Rattle.theorems.proofs.Written.{written, good-read, written-sound, good-run, tables-good, sound-written, Parts, accepted-parts, parts-accepted}
 
 -- ## Bytes that say good tables
 
@@ -37,10 +38,10 @@ pub says-read : {t : Lent} {T : Tables} → Says t T → tablesOf t ≡ T
 says-read {t} {T} s = ap tablesOf (s .bytes) ∙ good-read T (s .good)
 
 pub says-sound : {t : Lent} {T : Tables} → Says t T → Sound (t .parents) (t .objects)
-says-sound {t} {T} s = subst (λ (u : Lent). Sound (u .parents) (u .objects)) (sym (s .bytes)) (good-sound T (s .good))
+says-sound {t} {T} s = subst (λ (u : Lent). Sound (u .parents) (u .objects)) (sym (s .bytes)) (written-sound T (s .good))
 
 pub sound-says : (t : Lent) → Sound (t .parents) (t .objects) → Bytes (t .parents) → Bytes (t .objects) → Says t (tablesOf t)
-sound-says t s a b = record { good = sound-good t s a b; bytes = sound-written t s a b }
+sound-says t s a b = record { good = tables-good t s a b; bytes = sound-written t s a b }
 
 -- ## One call
 

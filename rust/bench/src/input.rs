@@ -3,6 +3,7 @@
 /// The slots of a file; the last file of a table may have fewer.
 const SLOTS: usize = 160;
 const PARENT: usize = 3915;
+const OBJECT: usize = 46;
 /// Where the slots of a layout of version 1 start in a parent row.
 const SLOTS_AT: usize = 27 + 32;
 const SLOT: usize = 24;
@@ -91,6 +92,36 @@ impl Tables {
             let bytes = self.slot_mut(slot);
             if bytes.iter().all(|&byte| byte == 0) {
                 bytes[..16].copy_from_slice(&name);
+            }
+        }
+    }
+
+    /// Damages as many objects as one slot in a hundred, evenly spread, in six ways in turn.
+    pub fn damage(&mut self, slots: usize) {
+        let objects = self.objects.len() / OBJECT;
+        let count = slots / 100;
+        for fault in 0..count {
+            let number = fault * objects / count;
+            let slot = number * slots / objects;
+            let other = (number + objects / 2) % objects;
+            let row = OBJECT * number;
+            match fault % 6 {
+                // The object is gone.
+                0 => self.objects[row..row + OBJECT].fill(0),
+                // The slot names another file's object, and its own is gone.
+                1 => {
+                    let name = fid(OBJECTS, other as u32 + 1, 0);
+                    self.slot_mut(slot)[..16].copy_from_slice(&name);
+                    self.objects[row..row + OBJECT].fill(0);
+                }
+                // The object claims nothing.
+                2 => self.objects[row + 29..row + 45].fill(0),
+                // It claims another slot.
+                3 => self.objects[row + 41] ^= 0x80,
+                // It has another owner.
+                4 => self.objects[row + 21] ^= 1,
+                // The slot is a hole, and the object an orphan.
+                _ => self.slot_mut(slot).fill(0),
             }
         }
     }

@@ -4,7 +4,7 @@ use std::io::Write;
 use std::time::Duration;
 
 use bench::input::Tables;
-use bench::measure::{Times, side_by_side, timed};
+use bench::measure::{Timed, Times, side_by_side, timed};
 use bench::plain;
 
 /// The ratio that the library is to keep to.
@@ -13,18 +13,31 @@ const MOST_RATIO: f64 = 1.3;
 const ROUNDS: usize = 3;
 /// The slots of a file.
 const SLOTS: usize = 160;
+/// Create and adopt.
+const POLICY: u64 = 3;
 /// The sizes between which the growth is measured.
 const SIZES: [usize; 5] = [10_000, 20_000, 40_000, 80_000, 160_000];
+
+/// Answer, position, report and tables after a run.
+type Ran = (u32, [u64; 3], [u64; 9], Tables);
 
 fn main() {
     let rounds = std::env::args().nth(1);
     let rounds = rounds.map_or(ROUNDS, |word| word.parse().expect("a number of rounds"));
     println!("The verified library beside plain Rust, best of {rounds} each.\n");
-    println!("| What | Library | Plain Rust | Ratio |");
-    println!("|---|---|---|---|");
+    println!("| What | Library | Plain Rust | Ratio | Growth: library, plain Rust |");
+    println!("|---|---|---|---|---|");
     measure_check(rounds);
-    let growth = SIZES.map(|slots| measure_classes(slots, rounds));
-    print_growth(&growth);
+    let classes = measure_growth(rounds);
+    measure_run(rounds);
+    let [least, most] = [SIZES[0], SIZES[SIZES.len() - 1]];
+    println!(
+        "\nFrom {} to {} slots, {} times as many, the classes grow by {}.",
+        grouped(least),
+        grouped(most),
+        most / least,
+        growth(classes[0], classes[SIZES.len() - 1])
+    );
 }
 
 /// The check of full tables.
@@ -39,46 +52,158 @@ fn measure_check(rounds: usize) {
         || timed(|| plain::check(parents, objects, reserve, 3, end)),
     );
     let what = "check: 1,024 files of 160 slots, 65,536 objects, 65,536 reserve FIDs";
-    print_line(what, times);
+    print_line(what, times, "");
 }
 
-/// The class of every position of clean tables, in one call.
-fn measure_classes(slots: usize, rounds: usize) -> Times {
-    let count = slots * 65_536 / 160_000;
-    let tables = Tables::clean(slots, count, 0);
-    let (parents, objects) = (&tables.parents, &tables.objects);
+/// The classes at each size, with the growth from the one before.
+fn measure_growth(rounds: usize) -> Vec<Times> {
+    let mut all: Vec<Times> = Vec::new();
+    for slots in SIZES {
+        let objects = slots * 65_536 / 160_000;
+        let times = measure_classes(slots, objects, rounds);
+        let growth = all.last().map(|before| growth(*before, times));
+        let (slots, objects) = (grouped(slots), grouped(objects));
+        let what = format!("classes of all positions: {slots} slots, {objects} objects, clean");
+        print_line(&what, times, &growth.unwrap_or_default());
+        all.push(times);
+    }
+    all
+}
+
+/// The class of every position of clean tables: a run with create and adopt, which asks for
+/// each of them and changes nothing.
+fn measure_classes(slots: usize, objects: usize, rounds: usize) -> Times {
+    let tables = Tables::clean(slots, objects, 0);
+    side_by_side(
+        rounds,
+        || unchanged(run(&tables, lfsck_run), &tables),
+        || unchanged(run(&tables, plain::run), &tables),
+    )
+}
+
+/// A whole run on damaged tables.
+fn measure_run(rounds: usize) {
+    let slots = 1000 * SLOTS;
+    let mut tables = Tables::clean(slots, 65_536, 65_536);
+    tables.damage(slots);
     let times = side_by_side(
         rounds,
-        || timed(|| lfsck_sys::measure_classes(parents, objects)),
-        || timed(|| plain::classes(parents, objects)),
+        || repaired(run(&tables, lfsck_run)),
+        || repaired(run(&tables, plain::run)),
     );
-    let what = format!("classes of all positions: {slots} slots, {count} objects, clean");
-    print_line(&what, times);
-    times
+    let what =
+        "run, policy 3: 1,000 files of 160 slots, 65,536 objects, one slot in a hundred damaged";
+    print_line(what, times, "");
 }
 
-fn print_line(what: &str, times: Times) {
+/// A run by either side.
+type RunCall = fn(&mut [u8], &mut [u8], &[u8], u64, u64, &mut [u64; 3], &mut [u64; 9]) -> u32;
+
+/// The library's run.
+fn lfsck_run(
+    parents: &mut [u8],
+    objects: &mut [u8],
+    reserve: &[u8],
+    policy: u64,
+    most: u64,
+    position: &mut [u64; 3],
+    report: &mut [u64; 9],
+) -> u32 {
+    lfsck_sys::run(parents, objects, reserve, policy, most, position, report)
+}
+
+/// Times a run with create and adopt from the start, which must get to the end.
+fn run(tables: &Tables, call: RunCall) -> Timed<Ran> {
+    let Tables {
+        mut parents,
+        mut objects,
+        reserve,
+    } = tables.clone();
+    let (mut position, mut report) = ([1, 0, 0], [0; 9]);
+    let Timed { result, took } = timed(|| {
+        call(
+            &mut parents,
+            &mut objects,
+            &reserve,
+            POLICY,
+            u64::MAX,
+            &mut position,
+            &mut report,
+        )
+    });
+    assert_eq!((result, position), (0, [3, 0, 0]));
+    let after = Tables {
+        parents,
+        objects,
+        reserve,
+    };
+    Timed {
+        result: (result, position, report, after),
+        took,
+    }
+}
+
+/// A run that had nothing to repair.
+fn unchanged(run: Timed<Ran>, before: &Tables) -> Timed<Ran> {
+    let (_, _, report, after) = &run.result;
+    assert_eq!(report[1..], [0; 8]);
+    assert!(after == before, "a run changed clean tables");
+    run
+}
+
+/// A run that had repairs of each class that the damage brings.
+fn repaired(run: Timed<Ran>) -> Timed<Ran> {
+    let (_, _, report, _) = &run.result;
+    let [
+        _,
+        own,
+        multiple,
+        dangling,
+        blank,
+        unmatched,
+        owner,
+        empty,
+        orphan,
+    ] = *report;
+    assert_eq!([own, empty], [0; 2]);
+    let all = [multiple, dangling, blank, unmatched, owner, orphan];
+    assert!(all.iter().all(|&count| count > 100), "{report:?}");
+    run
+}
+
+fn print_line(what: &str, times: Times, growth: &str) {
     let ratio = times.ratio();
     let mark = if ratio > MOST_RATIO { ", over 1.3" } else { "" };
     println!(
-        "| {what} | {:.3} s | {:.3} s | {ratio:.2}{mark} |",
+        "| {what} | {:.3} s | {:.3} s | {ratio:.2}{mark} | {growth} |",
         times.library.as_secs_f64(),
         times.plain.as_secs_f64()
     );
     let _ = std::io::stdout().flush();
 }
 
-fn print_growth(growth: &[Times]) {
-    println!("\n| Classes, growth with the slots | Library | Plain Rust |");
-    println!("|---|---|---|");
+/// How many times as long the library and plain Rust take.
+fn growth(before: Times, after: Times) -> String {
     let factor = |from: Duration, to: Duration| to.as_secs_f64() / from.as_secs_f64();
-    for (sizes, times) in SIZES.windows(2).zip(growth.windows(2)) {
-        println!(
-            "| {} to {} | times {:.2} | times {:.2} |",
-            sizes[0],
-            sizes[1],
-            factor(times[0].library, times[1].library),
-            factor(times[0].plain, times[1].plain)
-        );
-    }
+    format!(
+        "times {:.2}, times {:.2}",
+        factor(before.library, after.library),
+        factor(before.plain, after.plain)
+    )
+}
+
+/// A number with a comma before each three digits.
+fn grouped(number: usize) -> String {
+    let digits = number.to_string();
+    let from_end = digits
+        .char_indices()
+        .map(|(at, digit)| (digits.len() - at, digit));
+    from_end.fold(String::new(), |text, (left, digit)| {
+        let comma = if !text.is_empty() && left % 3 == 0 {
+            ","
+        } else {
+            ""
+        };
+        format!("{text}{comma}{digit}")
+    })
 }

@@ -10,7 +10,9 @@ mod check;
 mod class;
 mod layout;
 mod position;
+mod repair;
+mod run;
 mod search;
 
 pub use check::check;
-pub use class::classes;
+pub use run::run;

@@ -13,16 +13,43 @@ const SHAPE: Shape = Shape {
 };
 
 #[test]
-fn classes_are_those_of_the_library() {
-    let mut random = Random::for_test("plain classes");
-    let mut faults = 0;
+fn runs_are_those_of_the_library() {
+    let mut random = Random::for_test("plain runs");
     for _ in 0..20_000 {
         let (parents, objects) = to_bytes(&random_tables(SHAPE, &mut random), &mut random);
-        let library = lfsck_sys::measure_classes(&parents, &objects);
-        assert_eq!(plain::classes(&parents, &objects), library);
-        faults += library;
+        let mut reserve: Vec<u8> = OBJECTS.iter().flat_map(|fid| fid.to_bytes()).collect();
+        reserve.truncate(16 * random.below(11));
+        let policy = random.below(5) as u64;
+        let most = random.pick(&[0, 3, 20, u64::MAX]);
+        let mut start = [0; 3];
+        assert_eq!(lfsck_sys::start(&parents, &objects, &mut start), 0);
+
+        let (mut library, mut plain) = ((parents.clone(), objects.clone()), (parents, objects));
+        let (mut position, mut report) = (start, [0; 9]);
+        let answer = lfsck_sys::run(
+            &mut library.0,
+            &mut library.1,
+            &reserve,
+            policy,
+            most,
+            &mut position,
+            &mut report,
+        );
+        let (mut plain_position, mut plain_report) = (start, [0; 9]);
+        let plain_answer = plain::run(
+            &mut plain.0,
+            &mut plain.1,
+            &reserve,
+            policy,
+            most,
+            &mut plain_position,
+            &mut plain_report,
+        );
+        assert_eq!(plain_answer, answer);
+        assert_eq!(plain_position, position);
+        assert_eq!(plain_report, report);
+        assert_eq!(plain, library);
     }
-    assert!(faults > 20_000);
 }
 
 #[test]

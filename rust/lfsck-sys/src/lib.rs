@@ -13,9 +13,9 @@
 mod check;
 mod class;
 mod layout;
-mod measure;
+mod run;
 
 pub use check::{check, start, steps};
 pub use class::class;
 pub use layout::{layout_read, layout_slot, layout_write, slot_rewrite};
-pub use measure::measure_all_classes as measure_classes;
+pub use run::run;

@@ -51,6 +51,12 @@ impl Fid {
         }
     }
 
+    pub fn write(self, bytes: &mut [u8], at: usize) {
+        bytes[at..at + 8].copy_from_slice(&self.sequence.to_le_bytes());
+        bytes[at + 8..at + 12].copy_from_slice(&self.id.to_le_bytes());
+        bytes[at + 12..at + 16].copy_from_slice(&self.version.to_le_bytes());
+    }
+
     pub fn is_good_number(self) -> bool {
         (0x2_0000_0400..=0xffff_ffff_ffff_fffe).contains(&self.sequence) && self.id >= 1
     }
@@ -68,6 +74,11 @@ impl Fid {
 /// Row `at` of a table.
 pub fn row(table: &[u8], size: usize, at: usize) -> &[u8] {
     &table[size * at..size * at + size]
+}
+
+/// Row `at` of a table, to be written.
+pub fn row_mut(table: &mut [u8], size: usize, at: usize) -> &mut [u8] {
+    &mut table[size * at..size * at + size]
 }
 
 pub fn is_used(row: &[u8]) -> bool {

@@ -1,6 +1,6 @@
 //! The searches, each from the first row on.
 
-use super::bytes::{CLAIM, Fid, NO_FID, OBJECT, PARENT, has_fid, row};
+use super::bytes::{CLAIM, ENTRY, Fid, NO_FID, OBJECT, PARENT, has_fid, is_used, row};
 use super::layout::{SLOT, names, slot, slot_area};
 
 /// A slot of a parent row.
@@ -17,6 +17,11 @@ pub fn object_row(objects: &[u8], fid: Fid) -> Option<usize> {
 
 pub fn parent_row(parents: &[u8], fid: Fid) -> Option<usize> {
     row_of(parents, PARENT, fid)
+}
+
+/// The first unused row.
+pub fn unused(table: &[u8], size: usize) -> Option<usize> {
+    (0..table.len() / size).find(|&at| !is_used(row(table, size, at)))
 }
 
 /// Slot `index` of parent row `at`, if there is one.
@@ -66,4 +71,12 @@ pub fn keeper(parents: &[u8], fid: Fid, claim: Fid) -> Option<Place> {
         Some(index) => Some((at, index)),
         None => first_naming(parents, fid),
     }
+}
+
+/// The first FID of the reserve that is neither in the object table nor named by a slot.
+pub fn usable(parents: &[u8], objects: &[u8], reserve: &[u8]) -> Option<Fid> {
+    let fids = (0..reserve.len() / ENTRY).map(|at| Fid::read(row(reserve, ENTRY, at), 0));
+    let in_use =
+        |fid: Fid| object_row(objects, fid).is_some() || first_naming(parents, fid).is_some();
+    fids.into_iter().find(|&fid| !in_use(fid))
 }

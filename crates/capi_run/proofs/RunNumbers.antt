@@ -1,0 +1,113 @@
+-- A run for C, case by case. Assumes nothing.
+use Prim.Native.Nat.{ℕ, _≤_, _<_}
+use mathlib.Core.Path.{_≡_, refl, sym, ap, _∙_}
+use mathlib.Core.List.{List, [], _∷_}
+use mathlib.Core.Bool.{Bool, true, false, cond, true≢false}
+use borrow.Author.Tests.{eq-eqb, ne-eqb, eqb-true, lt-ltb, le-ltb}
+use lib.Dec.{eqb}
+use lib.ListN.{length, getD, set}
+use lib.Seq.{sets}
+use Rattle.wire.proofs.Splice.{sets-at}
+use Rattle.tables.specs.Records.{Tables}
+use Rattle.tables.specs.Check.{checkNumber}
+use Rattle.tables.specs.Positions.{place, isPosition, isEnd}
+use Rattle.tables.specs.declared.Position.{Position}
+use Rattle.rules.specs.declared.Counts.{Counts}
+use Rattle.rules.specs.declared.Report.{Report}
+use Rattle.engine.specs.RunBytes.{Ran, runBytes}
+use Rattle.engine.specs.Ready.{stepsBytes}
+use Rattle.capi_tables.specs.Tables.{positionNumbers}
+use Rattle.capi_run.specs.Runs.{positionGiven, countNumbers, reportNumbers, Called, unwritten, handedOut, called}
+
+-- ## The position
+
+pub given-other : (l : List ℕ) → (length l ≡ 3 → ⊥) → place 0 0 0 ≡ positionGiven l
+unfolding positionGiven
+given-other l h = rw (ne-eqb _ _ h)
+
+pub given-three : (l : List ℕ) → length l ≡ 3 → place (getD l 0 0) (getD l 1 0) (getD l 2 0) ≡ positionGiven l
+unfolding positionGiven
+given-three l h = rw (eq-eqb _ _ h)
+
+-- a position that exists was handed in as three numbers
+pub given-is : (T : Tables) (l : List ℕ) (at : Position) → at ≡ positionGiven l → isPosition T at ≡ true → length l ≡ 3
+unfolding positionGiven isPosition isEnd place
+given-is T l at g h = go (eqb (length l) 3) refl (ap (isPosition T) (sym g) ∙ h)
+  where
+    go : (b : Bool) → eqb (length l) 3 ≡ b → isPosition T (cond b (place (getD l 0 0) (getD l 1 0) (getD l 2 0)) (place 0 0 0)) ≡ true → length l ≡ 3
+    go true e k = eqb-true (length l) 3 e
+    go false e k = absurd (true≢false (sym k))
+
+-- ## The report
+
+pub counts-put : (l x y : List ℕ) (c : Counts) → x ≡ sets l 1 (c .own ∷ c .multiple ∷ c .dangling ∷ c .blank ∷ []) →
+    y ≡ sets x 5 (c .unmatched ∷ c .owner ∷ c .empty ∷ c .orphan ∷ []) → y ≡ sets l 1 (countNumbers c)
+unfolding countNumbers
+counts-put l x y c p q =
+    q ∙ ap (λ (z : List ℕ). sets z 5 (c .unmatched ∷ c .owner ∷ c .empty ∷ c .orphan ∷ [])) p
+    ∙ sets-at (c .own ∷ c .multiple ∷ c .dangling ∷ c .blank ∷ []) (c .unmatched ∷ c .owner ∷ c .empty ∷ c .orphan ∷ []) l 1 4 refl
+
+pub report-put : (l x y : List ℕ) (r : Report) → x ≡ set l 0 (r .steps) → y ≡ sets x 1 (countNumbers (r .counts)) → y ≡ sets l 0 (reportNumbers r)
+unfolding reportNumbers
+report-put l x y r p q = rw (q, p)
+
+-- ## The clauses of the contract
+
+abbrev Five : Called → ℕ → List ℕ → List ℕ → List ℕ → List ℕ → Type 0
+Five x a p o q r = (a ≡ x .answer) × ((p ≡ x .parents) × ((o ≡ x .objects) × ((q ≡ x .position) × (r ≡ x .report))))
+
+five : {x y : Called} → x ≡ y → Five x (y .answer) (y .parents) (y .objects) (y .position) (y .report)
+five e = ((λ i. sym e i .answer), ((λ i. sym e i .parents), ((λ i. sym e i .objects), ((λ i. sym e i .position), (λ i. sym e i .report)))))
+
+module _ (p o s : List ℕ) (policy most : ℕ) (q r : List ℕ) (n : ℕ) (at : Position) (g : at ≡ positionGiven q) (e : n ≡ checkNumber p o s policy at) where
+  number-is : n ≡ checkNumber p o s policy (positionGiven q)
+  number-is = e ∙ ap (checkNumber p o s policy) g
+
+  is-refused : (n ≡ 0 → ⊥) → called p o s policy most q r ≡ unwritten n p o q r
+  unfolding called
+  is-refused z = rw (← number-is, ne-eqb n 0 z)
+
+  pub call-refused : (n ≡ 0 → ⊥) → Five (called p o s policy most q r) n p o q r
+  unfolding unwritten
+  call-refused z = five (is-refused z)
+
+  is-short : n ≡ 0 → length r < 9 → called p o s policy most q r ≡ unwritten 17 p o q r
+  unfolding called
+  is-short z h = rw (← number-is, eq-eqb n 0 z, lt-ltb (length r) 9 h)
+
+  pub call-short : n ≡ 0 → length r < 9 → Five (called p o s policy most q r) 17 p o q r
+  unfolding unwritten
+  call-short z h = five (is-short z h)
+
+  is-handed : n ≡ 0 → 9 ≤ length r → called p o s policy most q r ≡ handedOut (runBytes p o s policy most (positionGiven q)) q r
+  unfolding called
+  is-handed z h = rw (← number-is, eq-eqb n 0 z, le-ltb (length r) 9 h)
+
+  steps-are : n ≡ 0 → runBytes p o s policy most at ≡ stepsBytes p o s policy most at
+  unfolding runBytes stepsBytes
+  steps-are z = rw (← e, eq-eqb n 0 z)
+
+  is-done : n ≡ 0 → 9 ≤ length r → called p o s policy most q r ≡ handedOut (stepsBytes p o s policy most at) q r
+  is-done z h =
+      is-handed z h ∙ ap (λ (a : Position). handedOut (runBytes p o s policy most a) q r) (sym g)
+      ∙ ap (λ (x : Ran). handedOut x q r) (steps-are z)
+
+  pub call-done : n ≡ 0 → 9 ≤ length r → (x : Report) (p′ o′ q′ r′ : List ℕ) → x ≡ stepsBytes p o s policy most at .report →
+      p′ ≡ stepsBytes p o s policy most at .parents → o′ ≡ stepsBytes p o s policy most at .objects →
+      q′ ≡ sets q 0 (positionNumbers (x .position)) → r′ ≡ sets r 0 (reportNumbers x) →
+      Five (called p o s policy most q r) (x .answer) p′ o′ q′ r′
+  unfolding handedOut
+  call-done z h x p′ o′ q′ r′ a b c d f =
+      let k = five (is-done z h) in (
+        ap (λ (u : Report). u .answer) a ∙ k .0,
+        (
+          b ∙ k .1 .0,
+          (
+            c ∙ k .1 .1 .0,
+            (
+              d ∙ ap (λ (u : Report). sets q 0 (positionNumbers (u .position))) a ∙ k .1 .1 .1 .0,
+              f ∙ ap (λ (u : Report). sets r 0 (reportNumbers u)) a ∙ k .1 .1 .1 .1,
+            ),
+          ),
+        ),
+      )

@@ -1,0 +1,58 @@
+-- A run for C: the position in and out, the report as nine numbers.
+use Prim.Native.Nat.{ℕ}
+use mathlib.Core.List.{List, [], _∷_}
+use mathlib.Core.Bool.{cond}
+use lib.Dec.{eqb, ltb}
+use lib.ListN.{length, getD}
+use lib.Seq.{sets}
+use Rattle.tables.specs.Check.{checkNumber}
+use Rattle.tables.specs.Positions.{place}
+use Rattle.tables.specs.declared.Position.{Position}
+use Rattle.rules.specs.declared.Counts.{Counts}
+use Rattle.rules.specs.declared.Report.{Report}
+use Rattle.engine.specs.RunBytes.{Ran, runBytes}
+use Rattle.capi_tables.specs.Tables.{positionNumbers}
+
+-- three numbers; another amount is a position that doesn't exist
+unfoldable pub positionGiven : List ℕ → Position
+positionGiven l = cond (eqb (length l) 3) (place (getD l 0 0) (getD l 1 0) (getD l 2 0)) (place 0 0 0)
+
+-- "the repairs of SELF, MULTIPLE, DANGLING, BLANK, UNMATCHED, OWNER, EMPTY, ORPHAN"
+unfoldable pub countNumbers : Counts → List ℕ
+countNumbers c = c .own ∷ c .multiple ∷ c .dangling ∷ c .blank ∷ c .unmatched ∷ c .owner ∷ c .empty ∷ c .orphan ∷ []
+
+-- "steps done, then the repairs"
+unfoldable pub reportNumbers : Report → List ℕ
+reportNumbers r = r .steps ∷ countNumbers (r .counts)
+
+-- what a call answers and how it leaves what is lent
+pub record Called : Type 0 where
+  pub answer : ℕ
+  pub parents : List ℕ
+  pub objects : List ℕ
+  pub position : List ℕ
+  pub report : List ℕ
+
+-- "With an answer of 11 to 17 nothing lent is written, the report and the position included"
+unfoldable pub unwritten : ℕ → List ℕ → List ℕ → List ℕ → List ℕ → Called
+unwritten n parents objects position report =
+    record { answer = n; parents = parents; objects = objects; position = position; report = report }
+
+unfoldable pub handedOut : Ran → List ℕ → List ℕ → Called
+handedOut x position report =
+    record {
+      answer = x .report .answer;
+      parents = x .parents;
+      objects = x .objects;
+      position = sets position 0 (positionNumbers (x .report .position));
+      report = sets report 0 (reportNumbers (x .report));
+    }
+
+-- "16 where the position is not 3 numbers, and 17 (after 11 to 16) where the report has fewer than 9"
+unfoldable pub called : List ℕ → List ℕ → List ℕ → ℕ → ℕ → List ℕ → List ℕ → Called
+called parents objects reserve policy most position report =
+    cond (eqb (checkNumber parents objects reserve policy (positionGiven position)) 0)
+    (cond (ltb (length report) 9)
+    (unwritten 17 parents objects position report)
+    (handedOut (runBytes parents objects reserve policy most (positionGiven position)) position report))
+    (unwritten (checkNumber parents objects reserve policy (positionGiven position)) parents objects position report)

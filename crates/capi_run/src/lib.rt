@@ -1,0 +1,78 @@
+// Runs over the lent tables, as numbers.
+use rules::Counts;
+use rules::Report;
+use tables::Position;
+ghost use mathlib.Core.Path.{_≡_};
+ghost use Prim.Native.Nat.{_≤_};
+ghost use lib.ListN.{length};
+ghost use lib.Seq.{sets};
+ghost use Rattle.capi_run.specs.Runs.{positionGiven, countNumbers, reportNumbers, called};
+
+// The numbers of a report.
+const REPORT_SIZE: usize = 9;
+
+// The position that is handed in; another amount than three numbers is none.
+fn position_given(position: &[u64]) -> Position
+    ensures { λ p. ⌜ p ≡ positionGiven (now (position .entry)) ⌝ }
+{
+    if position.len() != 3 {
+        return Position {
+            stage: 0,
+            row: 0,
+            part: 0,
+        };
+    }
+    Position {
+        stage: position[0],
+        row: position[1],
+        part: position[2],
+    }
+}
+
+// Stores the repairs by class.
+fn put_counts(out: &mut [u64], c: Counts)
+    requires { ⌜ 9 ≤ length (now out) ⌝ }
+    ensures { λ _. ⌜ now (out .exit) ≡ sets (now (out .entry)) 1 (countNumbers c) ⌝ }
+{
+    capi_out::put_four(out, 1, c.own, c.multiple, c.dangling, c.blank);
+    capi_out::put_four(out, 5, c.unmatched, c.owner, c.empty, c.orphan);
+}
+
+// Stores the nine numbers of a report.
+fn put_report(out: &mut [u64], r: Report)
+    requires { ⌜ 9 ≤ length (now out) ⌝ }
+    ensures { λ _. ⌜ now (out .exit) ≡ sets (now (out .entry)) 0 (reportNumbers r) ⌝ }
+{
+    capi_out::put(out, 0, r.steps);
+    put_counts(out, r.counts);
+}
+
+// A run of at most so many steps: the position in and out, 9 numbers into report.
+pub fn run(
+    parents: &mut [u8],
+    objects: &mut [u8],
+    reserve: &[u8],
+    policy: u64,
+    most: u64,
+    position: &mut [u64],
+    report: &mut [u64],
+) -> u32
+    ensures answer { λ r. ⌜ r ≡ called (now (parents .entry)) (now (objects .entry)) (now (reserve .entry)) policy most (now (position .entry)) (now (report .entry)) .answer ⌝ }
+    ensures parents { λ _. ⌜ now (parents .exit) ≡ called (now (parents .entry)) (now (objects .entry)) (now (reserve .entry)) policy most (now (position .entry)) (now (report .entry)) .parents ⌝ }
+    ensures objects { λ _. ⌜ now (objects .exit) ≡ called (now (parents .entry)) (now (objects .entry)) (now (reserve .entry)) policy most (now (position .entry)) (now (report .entry)) .objects ⌝ }
+    ensures position { λ _. ⌜ now (position .exit) ≡ called (now (parents .entry)) (now (objects .entry)) (now (reserve .entry)) policy most (now (position .entry)) (now (report .entry)) .position ⌝ }
+    ensures report { λ _. ⌜ now (report .exit) ≡ called (now (parents .entry)) (now (objects .entry)) (now (reserve .entry)) policy most (now (position .entry)) (now (report .entry)) .report ⌝ }
+{
+    let at = position_given(position);
+    let number = tables::check(parents, objects, reserve, policy, at);
+    if number != 0 {
+        return number;
+    }
+    if report.len() < REPORT_SIZE {
+        return 17;
+    }
+    let ran = engine::steps::steps(parents, objects, reserve, policy, most, at);
+    put_report(report, ran);
+    capi_tables::put_position(position, ran.position);
+    ran.answer
+}

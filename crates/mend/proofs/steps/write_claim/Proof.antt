@@ -1,0 +1,83 @@
+use mathlib.Core.Path.{_≡_}
+use Rattle.tables.specs.Bytes.{parse}
+use Rattle.rules.specs.Rows.{objectRow}
+use Rattle.rules.specs.declared.Row.the-variants.{RowIs}
+use denote.Ref.{now}
+use native.Mathlib.Omega.{arith}
+use Rattle.wire.specs.Numbers.{Bytes}
+use mathlib.Core.List.{[]}
+use Rattle.search.proofs.FoundRows.{object-inside}
+use Rattle.mend.proofs.SlotSteps.{claim-absent, claim-done}
+use borrow.Author.Needs.{needs}
+use Rattle.mend.proofs.steps.write_claim.Statement.{statement}
+use Rattle.mend.proofs.steps.write_claim.Tie as tie
+use Rattle.mend.proofs.steps.write_claim.Reads as reads
+use Rattle.mend.proofs.steps.write_claim.Lts as lts
+
+-- src/steps.rt:156:9
+object-row-requires : tie.Need-object-row-requires
+object-row-requires c κs = search needs
+
+-- src/steps.rt:158:23
+enum-told : tie.Need-enum-told
+enum-told c = search needs
+
+-- src/steps.rt:159:20
+enum-known-found : tie.Need-enum-known-found
+enum-known-found c = search needs
+
+-- src/steps.rt:160:41
+row-at-requires : tie.Need-row-at-requires
+row-at-requires c κs = let d = c .before .before .before .before .before .before .before .before in let a = d .args in let h = object-inside [] (now (a .objects)) (a .f) (c .before .before .found .given .0 .0) (cc) in omega arith
+
+-- src/steps.rt:160:17
+decode-object-requires : tie.Need-decode-object-requires
+decode-object-requires c κs = search needs
+
+-- the row that was found
+found-is : (c : tie.After-known-told) →
+    let a = c .before .before .before .before .before .before .before .args in
+    objectRow (parse [] (now (a .objects))) (a .f) ≡ RowIs (c .before .found .given .0 .0)
+found-is c = cc
+
+-- src/steps.rt:161:17
+claimed-requires : tie.Need-claimed-requires
+claimed-requires c κs = search needs
+
+-- src/steps.rt:162:13
+put-object-requires : tie.Need-put-object-requires
+put-object-requires c κs = let d = c .before .before .before .before .before .before .before .before .before .before .before .before in let a = d .args in let h = object-inside [] (now (a .objects)) (a .f) (c .before .before .before .before .before .before .found .given .0 .0) (cc) in omega arith
+
+-- src/steps.rt:150:1
+same-length : tie.Need-same-length
+same-length c = search needs
+
+-- src/steps.rt:150:1
+returns : tie.Need-returns
+unfolding Bytes
+returns c = let d = c .before .before .before .before .before .before in let a = d .args in claim-absent (now (a .parents)) (now (a .objects)) (d .pre .tables) (λ i. c .before .before .before .before .before .shared-slice-known .given i .fits) (λ i. c .before .before .before .before .slice-known .given i .fits) (a .f) (cc) (a .class) (a .r) (a .j)
+
+-- src/steps.rt:150:1
+same-length-2 : tie.Need-same-length-2
+same-length-2 c = search needs
+
+-- src/steps.rt:150:1
+returns-2 : tie.Need-returns-2
+unfolding Bytes
+returns-2 c = let d = c .before .before .before .before .before .before .before .before .before .before .before .before .before .before .before in let a = d .args in claim-done (now (a .parents)) (now (a .objects)) (d .pre .tables) (λ i. c .before .before .before .before .before .before .before .before .before .before .before .before .before .before .shared-slice-known .given i .fits) (λ i. c .before .before .before .before .before .before .before .before .before .before .before .before .before .slice-known .given i .fits) (a .f) (c .before .before .before .before .before .before .before .before .before .found .given .0 .0) (found-is (c .before .before .before .before .before .before .before .before)) _ (c .before .before .before .before .before .before .row-at .ensures .0) _ (c .before .before .before .before .before .decode-object .ensures) _ _ (c .before .before .put-object .ensures) (a .class) (a .r) (a .j) (c .before .before .before .before .claimed .ensures)
+
+pub write-claim-spec : {M : Type 1} → statement M
+write-claim-spec =
+    tie.close
+    (tie.spec
+    object-row-requires
+    enum-told
+    enum-known-found
+    row-at-requires
+    decode-object-requires
+    claimed-requires
+    put-object-requires
+    same-length
+    returns
+    same-length-2
+    returns-2)

@@ -1,0 +1,78 @@
+-- The stores of an object row. Assumes nothing.
+use mathlib.Core.Path.{_≡_, refl, sym, ap, _∙_}
+use mathlib.Core.List.{List, [], _∷_, _++_}
+use Prim.Native.Nat.{ℕ, _+_, _*_, _-_, _≤_}
+use mathlib.Core.Bool.{Bool, true, false, cond}
+use native.Mathlib.Omega.{arith}
+use lib.ListN.{length, set, length-append, replicate}
+use lib.Seq.{sets}
+use Rattle.wire.specs.Numbers.{bytes}
+use Rattle.wire.proofs.NumberLaws.{length-bytes}
+use Rattle.wire.proofs.Splice.{sets-at, sets-whole}
+use Rattle.fid.specs.Fid.{encodeFid, zeroFid}
+use Rattle.fid.specs.declared.MdtFid.{MdtFid}
+use Rattle.fid.specs.declared.Fid.{Fid}
+use Rattle.fid.proofs.FidLaws.{length-encode}
+use Rattle.tables.specs.Records.{object}
+use Rattle.tables.specs.Bytes.{objectSize, encodeOwner, claimFid, mark, encodeObject, renderObject}
+use Rattle.tables.specs.declared.Owner.{Owner}
+use Rattle.tables.specs.declared.Claim.{Claim}
+use Rattle.tables.specs.declared.Claim.the-variants.{Unclaimed, Claims}
+use Rattle.tables.specs.declared.Object.{Object}
+use Rattle.rules.specs.Repairs.{destroyed}
+use Rattle.stores.proofs.StoreLaws.{length-owner}
+
+pub mark-one : (b : Bool) → b ≡ true → 1 ≡ mark b
+unfolding mark
+mark-one b e = rw e
+
+pub mark-zero : (b : Bool) → b ≡ false → 0 ≡ mark b
+unfolding mark
+mark-zero b e = rw e
+
+pub length-object : (x : Object) → length (renderObject (object x)) ≡ objectSize
+unfolding renderObject encodeObject
+length-object x = simp (length-append, length-encode, length-bytes, length-owner)
+
+pub object-stores : (a b c d e f g : List ℕ) (x : Object) (n : Fid) (m : ℕ) → length a ≡ objectSize → n ≡ claimFid (x .claim) → m ≡ mark (x .fresh) →
+    b ≡ set a 0 1 → c ≡ sets b 1 (encodeFid (x .fid .0)) → d ≡ sets c 17 (bytes 4 (x .ost)) → e ≡ sets d 21 (encodeOwner (x .owner)) →
+    f ≡ sets e 29 (encodeFid n) → g ≡ set f 45 m → g ≡ renderObject (object x)
+unfolding renderObject encodeObject
+object-stores a b c d e f g x n m h p q s1 s2 s3 s4 s5 s6 =
+    let F : List ℕ = encodeFid (x .fid .0) in
+    let O : List ℕ = bytes 4 (x .ost) in
+    let W : List ℕ = encodeOwner (x .owner) in
+    let C : List ℕ = encodeFid (claimFid (x .claim)) in
+    let M : List ℕ = mark (x .fresh) ∷ [] in
+    let k1 : c ≡ sets a 0 (1 ∷ F) = rw (s2, s1) (sets-at (1 ∷ []) F a 0 1 refl) in
+    let k2 : d ≡ sets a 0 (1 ∷ (F ++ O)) = rw (s3, k1) (sets-at (1 ∷ F) O a 0 17 (simp length-encode)) in
+    let k3 : e ≡ sets a 0 (1 ∷ (F ++ O ++ W)) = rw (s4, k2) (sets-at (1 ∷ (F ++ O)) W a 0 21 (simp (length-append, length-encode, length-bytes))) in
+    let k4 : f ≡ sets a 0 (1 ∷ (F ++ O ++ W ++ C)) = rw (s5, k3, p) (sets-at (1 ∷ (F ++ O ++ W)) C a 0 29 (simp (length-append, length-encode, length-bytes, length-owner))) in
+    let k5 : g ≡ sets a 0 (1 ∷ (F ++ O ++ W ++ C ++ M)) = rw (s6, k4, q) (sets-at (1 ∷ (F ++ O ++ W ++ C)) M a 0 45 (simp (length-append, length-encode, length-bytes, length-owner))) in
+    k5 ∙ sets-whole (1 ∷ (F ++ O ++ W ++ C ++ M)) a (h ∙ sym (length-object x))
+
+pub zero-stores : (a b c d e f g h : List ℕ) → length a ≡ objectSize → b ≡ sets a 0 (bytes 8 0) → c ≡ sets b 8 (bytes 8 0) → d ≡ sets c 16 (bytes 8 0) →
+    e ≡ sets d 24 (bytes 8 0) → f ≡ sets e 32 (bytes 8 0) → g ≡ sets f 40 (bytes 4 0) → h ≡ sets g 44 (bytes 2 0) → h ≡ renderObject destroyed
+unfolding bytes renderObject destroyed
+zero-stores a b c d e f g h n s1 s2 s3 s4 s5 s6 s7 = rw (s7, s6, s5, s4, s3, s2, s1) (sets-whole (replicate 46 0) a n)
+
+pub length-destroyed : length (renderObject destroyed) ≡ objectSize
+unfolding renderObject destroyed
+length-destroyed = refl
+
+-- the same as runs of stores, one in the other
+pub object-nested : (a : List ℕ) (x : Object) → length a ≡ objectSize →
+    set (sets (sets (sets (sets (set a 0 1) 1 (encodeFid (x .fid .0))) 17 (bytes 4 (x .ost))) 21 (encodeOwner (x .owner))) 29 (encodeFid (claimFid (x .claim)))) 45 (mark (x .fresh)) ≡ renderObject (object x)
+object-nested a x h = object-stores a _ _ _ _ _ _ x _ _ h refl refl refl refl refl refl refl refl
+
+pub zero-nested : (a : List ℕ) → length a ≡ objectSize →
+    sets (sets (sets (sets (sets (sets (sets a 0 (bytes 8 0)) 8 (bytes 8 0)) 16 (bytes 8 0)) 24 (bytes 8 0)) 32 (bytes 8 0)) 40 (bytes 4 0)) 44 (bytes 2 0) ≡ renderObject destroyed
+zero-nested a h = zero-stores a _ _ _ _ _ _ _ h refl refl refl refl refl refl refl
+
+pub claim-none : (k : Claim) → k ≡ Unclaimed → _≡_ {A = Fid} (record { seq = 0; oid = 0; ver = 0 }) (claimFid k)
+unfolding claimFid zeroFid
+claim-none k e = rw e
+
+pub claim-some : (k : Claim) (f : MdtFid) (i : ℕ) → k ≡ Claims f i → _≡_ {A = Fid} (record { seq = f .0 .seq; oid = f .0 .oid; ver = i }) (claimFid k)
+unfolding claimFid
+claim-some k f i e = rw e

@@ -1,0 +1,19 @@
+use mathlib.Core.Path.{refl}
+use Rattle.rules.specs.Repairs.{ownHeader}
+use borrow.Author.Needs.{needs}
+use Rattle.stores.proofs.parents.own_header.Statement.{statement}
+use Rattle.stores.proofs.parents.own_header.Tie as tie
+use Rattle.stores.proofs.parents.own_header.Reads as reads
+use Rattle.stores.proofs.parents.own_header.Lts as lts
+
+-- src/parents.rt:31:14
+cast-t4 : tie.Need-cast-t4
+cast-t4 c = search needs
+
+-- src/parents.rt:24:1
+returns : tie.Need-returns
+unfolding ownHeader
+returns c = refl
+
+pub own-header-spec : {M : Type 1} → statement M
+own-header-spec = tie.close (tie.spec cast-t4 returns)

@@ -1,0 +1,110 @@
+// Parent rows written in place: own id, slot, growth, and a parent made.
+use super::pieces;
+use fid::MdtFid;
+use layout::Header;
+use layout::Slot;
+use tables::Owner;
+use tables::rows;
+use tables::rows::LAYOUT_START;
+ghost use mathlib.Core.Path.{_≡_};
+ghost use Prim.Native.Nat.{_≤_, _<_};
+ghost use lib.ListN.{length, set, drop};
+ghost use lib.Seq.{sets};
+ghost use Rattle.wire.specs.Numbers.{bytes};
+ghost use Rattle.fid.specs.Fid.{encodeFid};
+ghost use Rattle.layout.specs.Layout.{maxSlots, stripeCount};
+ghost use Rattle.tables.specs.Bytes.{parentSize, encodeOwner, layoutBytes, parseParent, renderParent};
+ghost use Rattle.rules.specs.Repairs.{withOwn, withSlot, grown, made, ownHeader};
+ghost use Rattle.stores.specs.Made.{madeHeader};
+ghost use Rattle.stores.specs.UsedRow.{UsedRow};
+
+// The header with the own id and own sequence of its file.
+fn own_header(h: Header, f: MdtFid) -> Header
+    ensures { λ r. ⌜ r ≡ ownHeader h f ⌝ }
+{
+    let own = f.0;
+    Header {
+        magic: h.magic,
+        pattern: h.pattern,
+        oid: own.oid as u64,
+        seq: own.seq,
+        stripe: h.stripe,
+        generation: h.generation,
+    }
+}
+
+// Writes own id and own sequence.
+pub fn put_own(row: &mut [u8])
+    requires { ⌜ UsedRow (now row) ⌝ }
+    ensures { λ _. ⌜ now (row .exit) ≡ renderParent (withOwn (parseParent (now (row .entry)))) ⌝ }
+{
+    let f = rows::self_of(row);
+    let l = rows::layout_of(row);
+    let h = layout::read_header(l);
+    let n = layout::stripe_count(l);
+    pieces::put_header(row, LAYOUT_START, own_header(h, f), n);
+}
+
+// Writes slot j.
+pub fn put_slot(row: &mut [u8], j: usize, s: Slot)
+    requires { ⌜ UsedRow (now row) × (j < stripeCount (layoutBytes (now row))) ⌝ }
+    ensures { λ _. ⌜ now (row .exit) ≡ renderParent (withSlot (parseParent (now (row .entry))) j s) ⌝ }
+{
+    let start = layout::slot_start(rows::layout_of(row));
+    pieces::put_slot(row, LAYOUT_START + start + 24 * j, s);
+}
+
+// Grows the layout to i + 1 slots, the last of which is s and the others new are holes.
+pub fn grow(row: &mut [u8], i: usize, s: Slot)
+    requires { ⌜ UsedRow (now row) × (stripeCount (layoutBytes (now row)) ≤ i) × (i < maxSlots) ⌝ }
+    ensures { λ _. ⌜ now (row .exit) ≡ renderParent (withSlot (grown (parseParent (now (row .entry))) i) i s) ⌝ }
+{
+    let l = rows::layout_of(row);
+    let h = layout::read_header(l);
+    let start = layout::slot_start(l);
+    let n = layout::stripe_count(l) as usize;
+    let size = start + 24 * (i + 1);
+    wire::put_le16(row, 25, size as u16);
+    pieces::put_header(row, LAYOUT_START, h, (i + 1) as u16);
+    pieces::put_holes(row, LAYOUT_START + start + 24 * n, i + 1 - n);
+    pieces::put_slot(row, LAYOUT_START + start + 24 * i, s);
+}
+
+// The header of a parent that is made.
+fn made_header(f: MdtFid) -> Header
+    ensures { λ r. ⌜ r ≡ madeHeader f ⌝ }
+{
+    let own = f.0;
+    Header {
+        magic: layout::MAGIC_ONE,
+        pattern: layout::HOLE_PATTERN,
+        oid: own.oid as u64,
+        seq: own.seq,
+        stripe: 1048576,
+        generation: 0,
+    }
+}
+
+// What stands in front of a layout of this size: the mark, the file and its owner.
+fn put_front(row: &mut [u8], f: MdtFid, w: Owner, size: u16)
+    requires { ⌜ 27 ≤ length (now row) ⌝ }
+    ensures { λ _. ⌜ now (row .exit) ≡ sets (sets (sets (set (now (row .entry)) 0 1) 1 (encodeFid (f .0))) 17 (encodeOwner w)) 25 (bytes 2 size) ⌝ }
+{
+    let name = f.0;
+    pieces::put_byte(row, 0, 1);
+    fid::write_fid(row, 1, name);
+    pieces::put_owner(row, 17, w);
+    wire::put_le16(row, 25, size);
+}
+
+// Makes a parent of i + 1 slots, the last of which is s and the others are holes.
+pub fn make(row: &mut [u8], f: MdtFid, i: usize, w: Owner, s: Slot)
+    requires { ⌜ (length (now row) ≡ parentSize) × (i < maxSlots) ⌝ }
+    ensures { λ _. ⌜ now (row .exit) ≡ renderParent (withSlot (made f i w (drop 1 (now (row .entry)))) i s) ⌝ }
+{
+    let size = 32 + 24 * (i + 1);
+    put_front(row, f, w, size as u16);
+    pieces::put_header(row, LAYOUT_START, made_header(f), (i + 1) as u16);
+    pieces::put_holes(row, 59, i + 1);
+    pieces::put_slot(row, 59 + 24 * i, s);
+}

@@ -1,0 +1,206 @@
+//! What the comparison of runs is to meet.
+
+use crate::demand::{Scenario, Uncut};
+use crate::side::{Outcome, State};
+use difftest::Coverage;
+use reference::check::{Faults, read_reserve, read_tables};
+use reference::class::{Class, Way, way_to};
+use reference::fid::Fid;
+use reference::position::Position;
+use reference::site::Site;
+
+/// Counts of what was met.
+pub struct Seen {
+    /// Calls by their answer, without those that go step by step.
+    pub answers: Coverage<u32>,
+    /// How the uncut runs ended.
+    pub ends: Coverage<u32>,
+    pub policies: Coverage<u64>,
+    pub repairs: Coverage<&'static str>,
+    pub ways: Coverage<Way>,
+    /// Where calls were handed from.
+    pub begins: Coverage<&'static str>,
+    /// How many steps calls were given.
+    pub given: Coverage<&'static str>,
+    pub stops: Coverage<&'static str>,
+    pub reserve: Coverage<&'static str>,
+    pub refusals: Coverage<&'static str>,
+    /// Whatever else a list is to have.
+    pub turns: Coverage<&'static str>,
+}
+
+const REPAIRS: [&str; 8] = [
+    "SELF",
+    "MULTIPLE",
+    "DANGLING",
+    "BLANK",
+    "UNMATCHED",
+    "OWNER",
+    "EMPTY",
+    "ORPHAN",
+];
+
+impl Seen {
+    pub fn nothing() -> Seen {
+        Seen {
+            answers: Coverage::of(
+                "run answers",
+                [0, 1, 11, 12, 13, 14, 15, 16, 17, 21, 22, 23],
+            ),
+            ends: Coverage::of("ends of uncut runs", [0, 21, 22, 23]),
+            policies: Coverage::of("policies", 0..=3),
+            repairs: Coverage::of("repairs in uncut runs", REPAIRS),
+            ways: Coverage::of(
+                "ways of adoption",
+                [Way::MakeParent, Way::FillHole, Way::Grow, Way::ReplaceFresh],
+            ),
+            begins: Coverage::of(
+                "calls handed",
+                [
+                    "the start",
+                    "the start again",
+                    "a passed position",
+                    "the end",
+                ],
+            ),
+            given: Coverage::of("steps given", ["none", "some", "one too few", "enough"]),
+            stops: Coverage::of(
+                "stops",
+                [
+                    "21 alone",
+                    "21 before 22",
+                    "22",
+                    "22 of a redirect",
+                    "23",
+                    "1 before a stop",
+                ],
+            ),
+            reserve: Coverage::of(
+                "redirects",
+                [
+                    "first of the reserve",
+                    "past an object's FID",
+                    "past a named FID",
+                    "past a repeat",
+                ],
+            ),
+            refusals: Coverage::of("refused calls", crate::REFUSALS),
+            turns: Coverage::of(
+                "lists",
+                [
+                    "a call after the end",
+                    "a call after a stop",
+                    "a refused call before another",
+                    "retraced",
+                    "a then b",
+                    "a row made and destroyed in one call",
+                    "steps used up at the end",
+                ],
+            ),
+        }
+    }
+
+    pub fn require(&self) {
+        self.answers.require(100);
+        self.ends.require(100);
+        self.policies.require(100);
+        self.repairs.require(100);
+        self.ways.require(100);
+        self.begins.require(100);
+        self.given.require(100);
+        self.stops.require(100);
+        self.reserve.require(20);
+        self.refusals.require(100);
+        self.turns.require(100);
+    }
+
+    /// Counts the repairs and stops of an uncut run.
+    pub fn note_uncut(&mut self, scenario: &Scenario, uncut: &Uncut) {
+        self.ends.met(uncut.last().answer);
+        self.policies.met(scenario.policy);
+        let mut position = scenario.state.start();
+        for (at, outcome) in uncut.outcomes.iter().enumerate() {
+            let before = &uncut.states[at.min(uncut.states.len() - 1)];
+            self.note_step(scenario, &site_of(before), &position, outcome);
+            position = outcome.position.clone();
+        }
+        if uncut.last().answer > 20 && uncut.outcomes.len() > 1 {
+            self.stops.met("1 before a stop");
+        }
+    }
+
+    fn note_step(&mut self, scenario: &Scenario, site: &Site, at: &[u64], outcome: &Outcome) {
+        for (name, &count) in REPAIRS.into_iter().zip(outcome.repairs()) {
+            if count == 1 {
+                self.repairs.met(name);
+            }
+        }
+        let [.., multiple, _, _, _, _, _, orphan] = *outcome.repairs() else {
+            unreachable!("eight counts");
+        };
+        if multiple == 1 {
+            self.note_redirect(scenario, site);
+        }
+        if orphan == 1 {
+            self.note_adoption(site, at);
+        }
+        self.note_stop(scenario, site, at, outcome.answer);
+    }
+
+    /// Which FIDs a redirect passed over.
+    fn note_redirect(&mut self, scenario: &Scenario, site: &Site) {
+        let reserve = read_reserve(&scenario.reserve, &mut Faults::new());
+        let is_object = |fid: Fid| site.object_row(fid).is_some();
+        let is_named = |fid: Fid| site.named_by(fid).next().is_some();
+        let is_used = |fid: Fid| is_object(fid) || is_named(fid);
+        let passed: Vec<Fid> = reserve
+            .into_iter()
+            .take_while(|&fid| is_used(fid))
+            .collect();
+        if passed.is_empty() {
+            self.reserve.met("first of the reserve");
+        }
+        if passed.iter().any(|&fid| !is_named(fid)) {
+            self.reserve.met("past an object's FID");
+        }
+        if passed.iter().any(|&fid| !is_object(fid)) {
+            self.reserve.met("past a named FID");
+        }
+        if (1..passed.len()).any(|at| passed[..at].contains(&passed[at])) {
+            self.reserve.met("past a repeat");
+        }
+    }
+
+    fn note_adoption(&mut self, site: &Site, at: &[u64]) {
+        let orphan = site.object(at[1] as usize).expect("an orphan is there");
+        let claim = orphan.claim.expect("an orphan has a claim");
+        let way = way_to(site, claim).expect("an orphan's place can be had");
+        self.ways.met(way);
+    }
+
+    fn note_stop(&mut self, scenario: &Scenario, site: &Site, at: &[u64], answer: u32) {
+        let full = site.tables().objects.iter().all(Option::is_some);
+        match answer {
+            21 if full => self.stops.met("21 before 22"),
+            21 => self.stops.met("21 alone"),
+            22 => self.stops.met("22"),
+            23 => self.stops.met("23"),
+            _ => (),
+        }
+        if answer == 22 && is_redirect(site, at) {
+            assert!(!scenario.reserve.is_empty());
+            self.stops.met("22 of a redirect");
+        }
+    }
+}
+
+/// Whether the step at a position is to redirect its slot.
+fn is_redirect(site: &Site, at: &[u64]) -> bool {
+    let numbers = at.try_into().expect("three numbers");
+    let position = Position::of_numbers(numbers, site.tables()).expect("a position");
+    Class::at(site, position) == Some(Class::Multiple)
+}
+
+fn site_of(state: &State) -> Site {
+    Site::new(read_tables(&state.parents, &state.objects).0)
+}

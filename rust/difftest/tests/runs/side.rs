@@ -1,0 +1,151 @@
+//! The two sides of the comparison, and what a call lends them.
+
+use std::hint::black_box;
+
+use crate::demand::check_not_destroyed;
+use difftest::Random;
+use reference::interface;
+use reference::tables::{OBJECT_BYTES, PARENT_BYTES};
+
+/// Both tables as bytes.
+#[derive(Clone, PartialEq)]
+pub struct State {
+    pub parents: Vec<u8>,
+    pub objects: Vec<u8>,
+}
+
+/// What a run is handed beside the tables.
+#[derive(Clone, Debug, PartialEq)]
+pub struct Call {
+    pub reserve: Vec<u8>,
+    pub policy: u64,
+    pub most: u64,
+    pub position: Vec<u64>,
+    pub report: Vec<u64>,
+}
+
+/// The answer to a call, and all that was lent to be written, after it.
+#[derive(Clone, PartialEq)]
+pub struct Outcome {
+    pub answer: u32,
+    pub state: State,
+    pub position: Vec<u64>,
+    pub report: Vec<u64>,
+}
+
+type Run = fn(&mut [u8], &mut [u8], &[u8], u64, u64, &mut [u64], &mut [u64]) -> u32;
+
+/// The library or the reference, with every call that it has answered.
+pub struct Side {
+    pub name: &'static str,
+    run: Run,
+    pub log: Vec<(Call, Outcome)>,
+}
+
+impl Side {
+    pub fn library() -> Side {
+        Side {
+            name: "library",
+            run: lfsck_sys::run,
+            log: Vec::new(),
+        }
+    }
+
+    pub fn reference() -> Side {
+        Side {
+            name: "reference",
+            run: interface::run,
+            log: Vec::new(),
+        }
+    }
+
+    /// Makes a call on a copy of the tables. No call, in a list or not, destroys data.
+    pub fn call(&mut self, before: &State, call: &Call) -> Outcome {
+        let mut state = before.clone();
+        let mut position = call.position.clone();
+        let mut report = call.report.clone();
+        let reserve = call.reserve.clone();
+        let answer = (self.run)(
+            &mut state.parents,
+            &mut state.objects,
+            black_box(&reserve),
+            call.policy,
+            call.most,
+            &mut position,
+            &mut report,
+        );
+        assert!(
+            black_box(&reserve) == &call.reserve,
+            "{}: a run changed the reserve",
+            self.name
+        );
+        check_not_destroyed(before, &state);
+        let outcome = Outcome {
+            answer,
+            state,
+            position,
+            report,
+        };
+        self.log.push((call.clone(), outcome.clone()));
+        outcome
+    }
+}
+
+impl State {
+    /// The steps that the tables give by the paper's count.
+    pub fn steps(&self) -> u64 {
+        let mut steps = [0];
+        let answer = interface::steps(&self.parents, &self.objects, &mut steps);
+        assert_eq!(answer, 0, "sound tables");
+        steps[0]
+    }
+
+    /// Where a run begins.
+    pub fn start(&self) -> Vec<u64> {
+        let mut position = vec![0; 3];
+        let answer = interface::start(&self.parents, &self.objects, &mut position);
+        assert_eq!(answer, 0, "sound tables");
+        position
+    }
+
+    /// A copy that does not pass the check, most times.
+    pub fn damaged(&self, random: &mut Random) -> State {
+        let State {
+            mut parents,
+            mut objects,
+        } = self.clone();
+        match random.below(7) {
+            0 => parents.truncate(parents.len().saturating_sub(1)),
+            1 => objects.push(0),
+            2 => objects.iter_mut().take(1).for_each(|mark| *mark |= 2),
+            // The lengths of all layouts, the versions of all objects.
+            3 => parents
+                .chunks_mut(PARENT_BYTES)
+                .for_each(|row| row[25] ^= 1),
+            4 => objects.chunks_mut(OBJECT_BYTES).for_each(|row| row[13] = 1),
+            5 => parents.extend_from_within(..),
+            _ => objects.extend_from_within(..),
+        }
+        State { parents, objects }
+    }
+}
+
+impl Outcome {
+    /// The input did not pass the check.
+    pub fn is_refused(&self) -> bool {
+        (11..=17).contains(&self.answer)
+    }
+
+    pub fn is_at_end(&self) -> bool {
+        self.position == [3, 0, 0]
+    }
+
+    pub fn steps(&self) -> u64 {
+        self.report[0]
+    }
+
+    /// The repairs of SELF, MULTIPLE, DANGLING, BLANK, UNMATCHED, OWNER, EMPTY and ORPHAN.
+    pub fn repairs(&self) -> &[u64] {
+        &self.report[1..9]
+    }
+}

@@ -1,0 +1,56 @@
+//! The library's numbers in words.
+
+use crate::faults::{Fault, faults};
+use crate::outcome::Failure;
+use crate::tables::Tables;
+
+/// What a number of document 01 means.
+pub fn meaning(number: u32) -> &'static str {
+    match number {
+        0 => "end reached",
+        1 => "steps used up, end not reached",
+        11 => "table not whole rows, too long, or a mark not 0 or 1",
+        12 => "policy above 3",
+        13 => "layout against the rules",
+        14 => "bad FID, object index or claim, or fresh without claim",
+        15 => "a FID twice among used parents, or twice among used objects",
+        16 => "no such position",
+        17 => "no room for the answer",
+        21 => "a slot is to be redirected, and no FID of the reserve can be used",
+        22 => "an object is to be made, and no object row is unused",
+        23 => "a file is to be made, and no parent row is unused",
+        _ => "an unknown answer",
+    }
+}
+
+/// A fault in words.
+pub fn fault_line(fault: &Fault) -> String {
+    let file = fault.table.file();
+    let (field, reason, number) = (&fault.field, &fault.reason, fault.number);
+    match fault.row {
+        Some(row) => format!("{file} row {row}, {field}: {reason} ({number})"),
+        None => format!("{file}, {field}: {reason} ({number})"),
+    }
+}
+
+/// Ends a command on tables that do not pass the check.
+pub fn require_sound(tables: &Tables) -> Result<(), Failure> {
+    match tables.check() {
+        0 => Ok(()),
+        number => Err(refusal(number, tables)),
+    }
+}
+
+/// The line for tables that the library refused: the number and the first fault.
+pub fn refusal(number: u32, tables: &Tables) -> Failure {
+    let list = faults(tables);
+    let first = list.iter().find(|fault| fault.number == number);
+    let first = first.map_or(meaning(number).to_string(), fault_line);
+    let more = match list.len() {
+        0 | 1 => "",
+        _ => "; lfsck-offline check lists all that is wrong",
+    };
+    Failure::refused(format!(
+        "the tables are refused with {number}: {first}{more}"
+    ))
+}

@@ -1,0 +1,23 @@
+//! The commands.
+
+mod check;
+mod classes;
+mod run;
+mod sample;
+mod show;
+
+use crate::args::{Call, Command};
+use crate::outcome::{Failure, Outcome};
+
+/// Does what is asked.
+pub fn execute(call: &Call) -> Result<Outcome, Failure> {
+    let (directory, json) = (&call.directory, call.json);
+    match call.command {
+        Command::Help(topic) => Ok(Outcome::done(topic.text().to_string())),
+        Command::Sample => sample::sample(directory, json),
+        Command::Check => check::check(directory, json),
+        Command::Classes(only) => classes::classes(directory, only, json),
+        Command::Run(options) => run::run(directory, options, json),
+        Command::Show(fid) => show::show(directory, fid, json),
+    }
+}

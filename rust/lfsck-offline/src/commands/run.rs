@@ -1,0 +1,252 @@
+//! `run`: repairs, going on from the saved position.
+
+use std::path::Path;
+
+use crate::answers::{meaning, refusal};
+use crate::args::RunOptions;
+use crate::bar::Bar;
+use crate::case::Case;
+use crate::changes::{Change, changes};
+use crate::columns::{self, Line};
+use crate::json::Json;
+use crate::outcome::{Failure, Outcome, Status};
+use crate::position::Position;
+use crate::saved::{Saved, policy_words};
+use crate::site::Site;
+use crate::slices::{self, Run};
+use crate::tables::Tables;
+
+/// The classes whose repairs a run counts, in the order of its counts.
+const COUNTED: [&str; 8] = [
+    "SELF",
+    "MULTIPLE",
+    "DANGLING",
+    "BLANK",
+    "UNMATCHED",
+    "OWNER",
+    "EMPTY",
+    "ORPHAN",
+];
+
+/// The number for a position that the tables do not have.
+const NO_POSITION: u32 = 16;
+
+/// Where a run begins, and why there.
+struct Beginning {
+    position: [u64; 3],
+    words: String,
+    resumed: bool,
+}
+
+/// Everything that there is to say about a run.
+struct Report {
+    policy: u64,
+    beginning: Beginning,
+    run: Run,
+    position: Position,
+    place: String,
+    left: u64,
+    changes: Vec<Change>,
+}
+
+/// Runs on a case.
+pub fn run(directory: &Path, options: RunOptions, json: bool) -> Result<Outcome, Failure> {
+    let case = Case::open(directory)?;
+    let old = case.tables()?;
+    let saved = if options.from_start {
+        None
+    } else {
+        case.position()?
+    };
+    let beginning = beginning(&old, saved, options)?;
+    let before = Site::new(&old);
+    let mut tables = old.clone();
+    let run = run_from(&mut tables, &before, beginning.position, options);
+    if (11..=17).contains(&run.answer) {
+        return Err(match run.answer {
+            NO_POSITION => no_such_position(beginning.position),
+            number => refusal(number, &old),
+        });
+    }
+    if run.steps > 0 {
+        let saved = Saved::new(run.position, options.policy, &tables);
+        case.save_run(&old, &tables, &saved)?;
+    }
+    let after = Site::new(&tables);
+    let position = Position::of_numbers(run.position).expect("a position of document 01");
+    let report = Report {
+        policy: options.policy,
+        beginning,
+        run,
+        position,
+        place: position.words(&after),
+        left: position.steps_left(&after),
+        changes: changes(&before, &after),
+    };
+    Ok(Outcome {
+        text: if json {
+            report.machine()
+        } else {
+            report.people()
+        },
+        status: status(run.answer),
+    })
+}
+
+/// The tables are those of the saved position, and still it is none of theirs.
+fn no_such_position([stage, row, part]: [u64; 3]) -> Failure {
+    Failure::refused(format!(
+        "the saved position {stage}, {row}, {part} is refused with {NO_POSITION}: {}; \
+         --from-start begins without it",
+        meaning(NO_POSITION)
+    ))
+}
+
+fn status(answer: u32) -> Status {
+    match answer {
+        0 => Status::Done,
+        1 => Status::StepsLeft,
+        _ => Status::RanOut,
+    }
+}
+
+/// The saved position where it counts, else the start.
+fn beginning(
+    tables: &Tables,
+    saved: Option<Saved>,
+    options: RunOptions,
+) -> Result<Beginning, Failure> {
+    let why = match saved {
+        Some(saved) => match saved.differs(options.policy, tables) {
+            None => {
+                return Ok(Beginning {
+                    position: saved.position,
+                    words: "goes on from the saved position".to_string(),
+                    resumed: true,
+                });
+            }
+            Some(why) => format!("at the start; the saved position does not count: {why}"),
+        },
+        None if options.from_start => "at the start, as asked".to_string(),
+        None => "at the start; there is no saved position".to_string(),
+    };
+    let mut position = [0; 3];
+    match lfsck_sys::start(&tables.parents, &tables.objects, &mut position) {
+        0 => Ok(Beginning {
+            position,
+            words: format!("begins {why}"),
+            resumed: false,
+        }),
+        number => Err(refusal(number, tables)),
+    }
+}
+
+/// Runs, with a bar for somebody at a terminal.
+fn run_from(tables: &mut Tables, site: &Site, position: [u64; 3], options: RunOptions) -> Run {
+    let most = options.steps.unwrap_or(u64::MAX);
+    let left = Position::of_numbers(position).map_or(0, |position| position.steps_left(site));
+    let steps = left.min(most);
+    match Bar::on_terminal(steps) {
+        None => slices::run(tables, options.policy, most, position),
+        Some(mut bar) => {
+            let first = (steps / 50).max(200);
+            let show = |done| bar.show(done);
+            let run = slices::run_watched(tables, options.policy, most, position, first, show);
+            bar.clear();
+            run
+        }
+    }
+}
+
+impl Report {
+    fn people(&self) -> String {
+        let mut text = format!(
+            "The run {}.\nPolicy: {}.\n",
+            self.beginning.words,
+            policy_words(self.policy)
+        );
+        text += &self.changes_for_people();
+        text += &self.repairs_for_people();
+        text += &format!("Steps: {} done, {} left.\n", self.run.steps, self.left);
+        text + &self.answer_for_people()
+    }
+
+    fn changes_for_people(&self) -> String {
+        if self.changes.is_empty() {
+            return "Nothing was changed.\n".to_string();
+        }
+        let line = |change: &Change| {
+            let what = change.what.clone();
+            Line::new(change.file, change.slot, change.object, what)
+        };
+        let lines: Vec<Line> = self.changes.iter().map(line).collect();
+        format!("Changed:\n{}", columns::text(&lines))
+    }
+
+    fn repairs_for_people(&self) -> String {
+        let repairs = COUNTED.iter().zip(self.run.repairs);
+        let made: Vec<String> = repairs
+            .filter(|(_, count)| *count > 0)
+            .map(|(class, count)| format!("{class} {count}"))
+            .collect();
+        match made.len() {
+            0 => "Repairs: none.\n".to_string(),
+            _ => format!("Repairs: {}.\n", made.join(", ")),
+        }
+    }
+
+    fn answer_for_people(&self) -> String {
+        match self.run.answer {
+            0 => "Answer 0: the end is reached.\n".to_string(),
+            1 => format!(
+                "Answer 1: the steps are used up; the next step is at {}.\n",
+                self.place
+            ),
+            number => format!(
+                "Answer {number}: {}. The run rests at {}.\n",
+                meaning(number),
+                self.place
+            ),
+        }
+    }
+
+    fn machine(&self) -> String {
+        let [stage, row, part] = self.position.to_numbers();
+        let repairs = COUNTED.iter().zip(self.run.repairs);
+        Json::Object(vec![
+            ("answer", Json::Number(self.run.answer.into())),
+            ("meaning", Json::text(meaning(self.run.answer))),
+            ("policy", Json::Number(self.policy)),
+            ("resumed", Json::Bool(self.beginning.resumed)),
+            ("beginning", Json::text(&self.beginning.words)),
+            ("stage", Json::Number(stage)),
+            ("row", Json::Number(row)),
+            ("part", Json::Number(part)),
+            ("place", Json::text(&self.place)),
+            ("steps_done", Json::Number(self.run.steps)),
+            ("steps_left", Json::Number(self.left)),
+            (
+                "repairs",
+                Json::Object(
+                    repairs
+                        .map(|(class, count)| (*class, Json::Number(count)))
+                        .collect(),
+                ),
+            ),
+            (
+                "changes",
+                Json::List(self.changes.iter().map(change_json).collect()),
+            ),
+        ])
+        .line()
+    }
+}
+
+fn change_json(change: &Change) -> Json {
+    Json::Object(vec![
+        ("file", Json::maybe(change.file)),
+        ("slot", Json::maybe_number(change.slot)),
+        ("object", Json::maybe(change.object)),
+        ("what", Json::text(&change.what)),
+    ])
+}

@@ -1,0 +1,202 @@
+//! `sample`: a small case with every class in it.
+
+use std::path::Path;
+
+use crate::case::Case;
+use crate::fid::Fid;
+use crate::json::Json;
+use crate::outcome::{Failure, Outcome};
+use crate::rows::{FILE_OWNER_AT, HOLE_PATTERN, LAYOUT_AT, LENGTH_AT, SELF_AT};
+use crate::tables::{OBJECT_BYTES, PARENT_BYTES, Table, Tables};
+
+const PLAIN: u64 = 1;
+const ALICE: [u32; 2] = [1001, 100];
+const ROOT: [u32; 2] = [0, 0];
+
+/// Makes the case.
+pub fn sample(directory: &Path, json: bool) -> Result<Outcome, Failure> {
+    let tables = tables();
+    Case::make(directory, &tables)?;
+    let rows = |table| tables.rows(table).count();
+    let (parents, objects, reserve) = (
+        rows(Table::Parents),
+        rows(Table::Objects),
+        rows(Table::Reserve),
+    );
+    let text = if json {
+        Json::Object(vec![
+            ("directory", Json::text(directory.display())),
+            ("parent_rows", Json::Number(parents as u64)),
+            ("object_rows", Json::Number(objects as u64)),
+            ("reserve_fids", Json::Number(reserve as u64)),
+        ])
+        .line()
+    } else {
+        format!(
+            "A sample case is in {}: {parents} parent rows, {objects} object rows, \
+             {reserve} FIDs in reserve.\n",
+            directory.display()
+        )
+    };
+    Ok(Outcome::done(text))
+}
+
+/// A file's FID.
+const fn file(id: u32) -> Fid {
+    Fid::new(0x2_0000_0401, id)
+}
+
+/// An object's FID.
+const fn object(id: u32) -> Fid {
+    Fid::new(0x2_4000_0400, id)
+}
+
+/// A file to be written.
+struct NewFile<'case> {
+    fid: Fid,
+    own: Fid,
+    pattern: u64,
+    pool: &'case [u8],
+    slots: &'case [Option<(Fid, u64)>],
+}
+
+/// A file that names these objects, each on its OST.
+fn plain(fid: Fid, slots: &[Option<(Fid, u64)>]) -> NewFile<'_> {
+    NewFile {
+        fid,
+        own: fid,
+        pattern: PLAIN,
+        pool: b"",
+        slots,
+    }
+}
+
+/// The same, with holes.
+fn with_holes(fid: Fid, slots: &[Option<(Fid, u64)>]) -> NewFile<'_> {
+    NewFile {
+        pattern: HOLE_PATTERN,
+        ..plain(fid, slots)
+    }
+}
+
+fn tables() -> Tables {
+    let mut tables = Tables::default();
+    add_files(&mut tables.parents);
+    add_objects(&mut tables.objects);
+    // A FID that is in use and a repeat are skipped.
+    for id in [0x10, 0x80, 0x80, 0x81, 0x82] {
+        tables.reserve.extend(object(id).to_bytes());
+    }
+    tables
+}
+
+fn add_files(parents: &mut Vec<u8>) {
+    let clean = [Some((object(0x10), 0)), Some((object(0x11), 1))];
+    add_file(parents, plain(file(1), &clean));
+    let other = [Some((object(0x12), 2))];
+    add_file(
+        parents,
+        NewFile {
+            own: file(0x99),
+            pool: b"flash\0\0\0\0\0\0\0\0\0\0\0",
+            ..plain(file(2), &other)
+        },
+    );
+    let shared = [Some((object(0x11), 1)), Some((object(0x13), 3))];
+    add_file(parents, plain(file(3), &shared));
+    add_file(parents, plain(file(4), &[Some((object(0x14), 0))]));
+    let claims = [
+        Some((object(0x15), 1)),
+        Some((object(0x16), 2)),
+        Some((object(0x17), 3)),
+    ];
+    add_file(parents, plain(file(5), &claims));
+    let holes = [Some((object(0x18), 0)), None];
+    add_file(parents, with_holes(file(6), &holes));
+    let fresh = [Some((object(0x19), 1)), Some((object(0x1a), 2))];
+    add_file(parents, plain(file(7), &fresh));
+    add_file(parents, plain(file(8), &[Some((object(0x1b), 0))]));
+    parents.resize(parents.len() + 2 * PARENT_BYTES, 0);
+}
+
+fn add_objects(objects: &mut Vec<u8>) {
+    let mut add = |id, ost, owner, claim, fresh| {
+        add_object(objects, object(id), ost, owner, claim, fresh);
+    };
+    add(0x10, 0, ALICE, Some((1, 0)), false);
+    add(0x11, 1, ALICE, Some((1, 1)), false);
+    add(0x12, 2, ALICE, Some((2, 0)), false);
+    add(0x13, 3, ALICE, Some((3, 1)), false);
+    // 0x14, the object of file 4, is absent.
+    add(0x15, 1, ALICE, None, false);
+    add(0x16, 2, ALICE, Some((1, 1)), false);
+    add(0x17, 3, ROOT, Some((5, 2)), false);
+    add(0x18, 0, ALICE, Some((6, 0)), false);
+    add(0x19, 1, ALICE, Some((7, 0)), false);
+    add(0x1a, 2, ALICE, Some((7, 1)), true);
+    // 0x1b, the object of file 8, is absent, and 0x24 claims its place.
+    add(0x20, 3, ALICE, Some((6, 1)), false);
+    add(0x21, 0, ROOT, Some((6, 3)), false);
+    add(0x22, 1, ALICE, Some((9, 1)), false);
+    add(0x23, 2, ALICE, Some((7, 1)), false);
+    add(0x24, 0, ALICE, Some((8, 0)), false);
+    add(0x25, 1, ALICE, Some((1, 0)), false);
+    add(0x26, 2, ROOT, None, false);
+    add(0x27, 3, ALICE, Some((1, 7)), true);
+    objects.resize(objects.len() + 4 * OBJECT_BYTES, 0);
+}
+
+fn add_file(parents: &mut Vec<u8>, file: NewFile) {
+    let at = parents.len();
+    parents.resize(at + PARENT_BYTES, 0);
+    let row = &mut parents[at..];
+    row[0] = 1;
+    row[SELF_AT..SELF_AT + 16].copy_from_slice(&file.fid.to_bytes());
+    row[FILE_OWNER_AT..FILE_OWNER_AT + 4].copy_from_slice(&ALICE[0].to_le_bytes());
+    row[FILE_OWNER_AT + 4..FILE_OWNER_AT + 8].copy_from_slice(&ALICE[1].to_le_bytes());
+    let fields = [
+        if file.pool.is_empty() { 1 } else { 3 },
+        file.pattern,
+        file.own.id.into(),
+        file.own.sequence,
+        1 << 20,
+        file.slots.len() as u64,
+        0,
+    ];
+    let slots: Vec<u64> = file.slots.iter().copied().flat_map(numbers).collect();
+    let mut length = [0];
+    let room = &mut row[LAYOUT_AT..];
+    let answer = lfsck_sys::layout_write(&fields, file.pool, &slots, room, &mut length);
+    assert_eq!(answer, 0, "the library writes the sample's layouts");
+    row[LENGTH_AT..LAYOUT_AT].copy_from_slice(&(length[0] as u16).to_le_bytes());
+}
+
+/// The five numbers of a slot.
+fn numbers(slot: Option<(Fid, u64)>) -> [u64; 5] {
+    match slot {
+        None => [0; 5],
+        Some((fid, ost)) => [1, fid.sequence, fid.id.into(), 0, ost],
+    }
+}
+
+/// Adds an object that claims a slot of the file of that id.
+fn add_object(
+    objects: &mut Vec<u8>,
+    fid: Fid,
+    ost: u32,
+    owner: [u32; 2],
+    claim: Option<(u32, u32)>,
+    fresh: bool,
+) {
+    let claim = claim.map_or(Fid::new(0, 0), |(id, index)| Fid {
+        version: index,
+        ..file(id)
+    });
+    objects.push(1);
+    objects.extend(fid.to_bytes());
+    objects.extend(ost.to_le_bytes());
+    objects.extend(owner[0].to_le_bytes());
+    objects.extend(owner[1].to_le_bytes());
+    objects.extend(claim.to_bytes());
+    objects.push(fresh.into());
+}

@@ -1,0 +1,319 @@
+//! `show`: everything about one file or object.
+
+use std::path::Path;
+
+use crate::answers::require_sound;
+use crate::case::Case;
+use crate::class::Class;
+use crate::commands::classes::finding_json;
+use crate::fid::{Fid, MdtFid, OstFid};
+use crate::finding::Finding;
+use crate::json::Json;
+use crate::outcome::{Failure, Outcome};
+use crate::position::Position;
+use crate::rows::{File, Object};
+use crate::site::{Place, Site};
+use crate::verdict::Verdicts;
+use crate::why;
+
+/// A case to look things up in.
+struct View<'case> {
+    site: &'case Site,
+    verdicts: Verdicts<'case>,
+}
+
+/// Shows a file, an object, or both where both have the FID.
+pub fn show(directory: &Path, fid: Fid, json: bool) -> Result<Outcome, Failure> {
+    let tables = Case::open(directory)?.tables()?;
+    require_sound(&tables)?;
+    let site = Site::new(&tables);
+    let view = View {
+        site: &site,
+        verdicts: Verdicts::new(&tables, &site),
+    };
+    let file = view.is_file_known(MdtFid(fid));
+    let object = view.is_object_known(OstFid(fid));
+    if !file && !object {
+        let message = format!("nothing in {} has the FID {fid}", directory.display());
+        return Err(Failure::refused(message));
+    }
+    let text = if json {
+        view.machine(fid)
+    } else {
+        let file = file.then(|| view.file_text(MdtFid(fid)));
+        let object = object.then(|| view.object_text(OstFid(fid)));
+        [file, object].into_iter().flatten().collect()
+    };
+    Ok(Outcome::done(text))
+}
+
+impl View<'_> {
+    /// A row has the FID, or an object claims it.
+    fn is_file_known(&self, fid: MdtFid) -> bool {
+        self.site.file_row(fid).is_some() || !self.claimants(fid).is_empty()
+    }
+
+    /// A row has the FID, or a slot names it.
+    fn is_object_known(&self, fid: OstFid) -> bool {
+        self.site.object_row(fid).is_some() || !self.site.named_by(fid).is_empty()
+    }
+
+    /// The objects that claim a slot of the file, with their rows.
+    fn claimants(&self, fid: MdtFid) -> Vec<(usize, &Object)> {
+        let objects = self.site.objects.iter().enumerate();
+        let used = objects.filter_map(|(row, object)| Some((row, object.as_ref()?)));
+        used.filter(|(_, object)| object.claim.is_some_and(|claim| claim.file == fid))
+            .collect()
+    }
+
+    fn finding(&self, position: Position) -> Finding {
+        Finding::new(self.site, position, self.verdicts.at(position))
+    }
+
+    /// The findings of a file's header and slots.
+    fn file_findings(&self, row: usize, file: &File) -> Vec<Finding> {
+        let slots = (0..file.slots.len()).map(|slot| Position::Slot(Place { row, slot }));
+        let all = std::iter::once(Position::Header(row)).chain(slots);
+        all.map(|position| self.finding(position)).collect()
+    }
+
+    fn file_text(&self, fid: MdtFid) -> String {
+        let row = self.site.file_row(fid);
+        let file = row.and_then(|row| Some((row, self.site.file(row)?)));
+        let mut text = match file {
+            Some((row, file)) => self.present_file_text(row, file),
+            None => format!("File {fid}: absent\n"),
+        };
+        for (row, object) in self.claimants(fid) {
+            let Some(claim) = object.claim else { continue };
+            let finding = self.finding(Position::Object(row));
+            if finding.class == Class::Kept {
+                continue;
+            }
+            text += &format!(
+                "  object {} claims slot {}, and no slot names it: {}\n",
+                object.fid,
+                claim.index,
+                finding.class.name()
+            );
+            text += &more(&finding);
+        }
+        text
+    }
+
+    fn present_file_text(&self, row: usize, file: &File) -> String {
+        let header = &file.header;
+        let holes = if header.holes_allowed() {
+            "with holes"
+        } else {
+            "without holes"
+        };
+        let mut text = format!(
+            "File {}, parent row {row}\n  owner {}\n  layout version {}, pattern {:#x} ({holes}), \
+             stripe size {}, generation {}, {} slots\n",
+            file.fid,
+            file.owner,
+            header.version,
+            header.pattern,
+            header.stripe_size,
+            header.generation,
+            file.slots.len()
+        );
+        for finding in self.file_findings(row, file) {
+            text += &match finding.slot {
+                None => format!(
+                    "  header: {}, own sequence {:#x} and id {:#x}\n",
+                    finding.class.name(),
+                    header.own_sequence,
+                    header.own_id
+                ),
+                Some(slot) => self.slot_line(file, slot, &finding),
+            };
+            text += &more(&finding);
+        }
+        text
+    }
+
+    fn slot_line(&self, file: &File, slot: u32, finding: &Finding) -> String {
+        let class = finding.class.name();
+        match file.slots[slot as usize] {
+            None => format!("  slot {slot}: {class}\n"),
+            Some(stripe) => format!(
+                "  slot {slot}: {class}, object {} on OST {}, generation {}\n{}",
+                stripe.object,
+                stripe.ost,
+                stripe.generation,
+                self.object_line(stripe.object)
+            ),
+        }
+    }
+
+    /// What the object of a slot says of itself, if it is there.
+    fn object_line(&self, fid: OstFid) -> String {
+        let Some(object) = self.site.object_of(fid) else {
+            return "      the object is absent\n".to_string();
+        };
+        let fresh = if object.fresh { "is fresh, " } else { "" };
+        let claim = claim_words(object);
+        format!(
+            "      the object {fresh}has owner {} and {claim}\n",
+            object.owner
+        )
+    }
+
+    fn object_text(&self, fid: OstFid) -> String {
+        let mut text = match self.site.object_row(fid) {
+            Some(row) => self.present_object_text(row),
+            None => format!("Object {fid}: absent\n"),
+        };
+        for place in self.site.named_by(fid) {
+            let Some(name) = self.site.name(*place) else {
+                continue;
+            };
+            let class = self.verdicts.at(Position::Slot(*place));
+            text += &format!("  named by {name}: {}\n", class.name());
+        }
+        let keeper = why::keeper(self.site, fid);
+        let named = keeper.and_then(|(keeper, rule)| Some((self.site.name(keeper)?, rule)));
+        text + &match named {
+            Some((keeper, rule)) => format!("  the keeper is {keeper}: {}\n", rule.words()),
+            None => "  no slot names it\n".to_string(),
+        }
+    }
+
+    fn present_object_text(&self, row: usize) -> String {
+        let Some(object) = self.site.objects[row] else {
+            return String::new();
+        };
+        let data = if object.fresh {
+            "fresh: made empty by a repair and not written since"
+        } else {
+            "not fresh: it may hold data"
+        };
+        let finding = self.finding(Position::Object(row));
+        format!(
+            "Object {}, object row {row}\n  on OST {}, owner {}\n  {data}\n  {}\n  {}: {}\n{}",
+            object.fid,
+            object.ost,
+            object.owner,
+            claim_words(&object),
+            finding.class.name(),
+            finding.class.meaning(),
+            more(&finding)
+        )
+    }
+
+    fn machine(&self, fid: Fid) -> String {
+        let file = self.site.file_row(MdtFid(fid));
+        let object = self.site.object_row(OstFid(fid));
+        Json::Object(vec![
+            ("fid", Json::text(fid)),
+            ("file", file.map_or(Json::Null, |row| self.file_json(row))),
+            (
+                "object",
+                object.map_or(Json::Null, |row| self.object_json(row)),
+            ),
+            (
+                "named_by",
+                Json::List(
+                    self.site
+                        .named_by(OstFid(fid))
+                        .iter()
+                        .map(|place| finding_json(&self.finding(Position::Slot(*place))))
+                        .collect(),
+                ),
+            ),
+            (
+                "claimed_by",
+                Json::List(
+                    self.claimants(MdtFid(fid))
+                        .iter()
+                        .map(|(row, _)| finding_json(&self.finding(Position::Object(*row))))
+                        .collect(),
+                ),
+            ),
+        ])
+        .line()
+    }
+
+    fn file_json(&self, row: usize) -> Json {
+        let Some(file) = self.site.file(row) else {
+            return Json::Null;
+        };
+        let header = &file.header;
+        let findings = self.file_findings(row, file);
+        Json::Object(vec![
+            ("row", Json::Number(row as u64)),
+            ("uid", Json::Number(file.owner.uid.into())),
+            ("gid", Json::Number(file.owner.gid.into())),
+            ("version", Json::Number(header.version)),
+            ("pattern", Json::Number(header.pattern)),
+            (
+                "own_sequence",
+                Json::text(format!("{:#x}", header.own_sequence)),
+            ),
+            ("own_id", Json::text(format!("{:#x}", header.own_id))),
+            ("stripe_size", Json::Number(header.stripe_size)),
+            ("generation", Json::Number(header.generation)),
+            ("slots", Json::Number(file.slots.len() as u64)),
+            (
+                "positions",
+                Json::List(findings.iter().map(finding_json).collect()),
+            ),
+        ])
+    }
+
+    fn object_json(&self, row: usize) -> Json {
+        let Some(object) = self.site.objects[row] else {
+            return Json::Null;
+        };
+        Json::Object(vec![
+            ("row", Json::Number(row as u64)),
+            ("ost", Json::Number(object.ost.into())),
+            ("uid", Json::Number(object.owner.uid.into())),
+            ("gid", Json::Number(object.owner.gid.into())),
+            ("fresh", Json::Bool(object.fresh)),
+            (
+                "claimed_file",
+                Json::maybe(object.claim.map(|claim| claim.file)),
+            ),
+            (
+                "claimed_slot",
+                Json::maybe_number(object.claim.map(|claim| claim.index)),
+            ),
+            (
+                "position",
+                finding_json(&self.finding(Position::Object(row))),
+            ),
+        ])
+    }
+}
+
+/// What an object claims.
+fn claim_words(object: &Object) -> String {
+    match object.claim {
+        Some(claim) => format!("claims {claim}"),
+        None => "claims nothing".to_string(),
+    }
+}
+
+/// Why a position has its class and what its repair would do, where there is something to say.
+fn more(finding: &Finding) -> String {
+    let mut text = String::new();
+    let mut add = |line: String| text += &format!("      {line}\n");
+    match (finding.class, &finding.keeper) {
+        (Class::Multiple, Some((keeper, rule))) => {
+            let words = rule.words().replace("this slot", "that slot");
+            add(format!("the keeper is {keeper}: {words}"));
+        }
+        (Class::Kept, _) | (_, None) => (),
+        (_, Some((_, rule))) => add(format!("this slot is the keeper: {}", rule.words())),
+    }
+    if let Some(denial) = &finding.denial {
+        add(format!("no repair: {denial}"));
+    }
+    if let Some(repair) = &finding.repair {
+        add(format!("repair, {}: {}", repair.needs.words(), repair.does));
+    }
+    text
+}

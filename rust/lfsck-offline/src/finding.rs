@@ -1,0 +1,167 @@
+//! What is found at a position, and what its repair would do.
+
+use crate::class::Class;
+use crate::fid::{MdtFid, OstFid};
+use crate::position::Position;
+use crate::rows::{Object, Stripe};
+use crate::site::{Named, Place, Site};
+use crate::why::{self, Rule};
+
+/// A position with its class.
+pub struct Finding {
+    /// Where it is.
+    pub position: Position,
+    /// Its class.
+    pub class: Class,
+    /// The file; for an object, the one that it claims.
+    pub file: Option<MdtFid>,
+    /// The slot; for an object, the one that it claims.
+    pub slot: Option<u32>,
+    /// The object.
+    pub object: Option<OstFid>,
+    /// What its repair would do; none where nothing would be done.
+    pub repair: Option<Repair>,
+    /// The keeper of the object and the rule that makes it so.
+    pub keeper: Option<(Named, Rule)>,
+    /// Why the claimed place of an object in CONFLICT cannot be had.
+    pub denial: Option<String>,
+}
+
+/// A repair, and under which policy it is made.
+pub struct Repair {
+    /// The policy.
+    pub needs: Needs,
+    /// What it does.
+    pub does: String,
+}
+
+/// What a repair needs of the policy.
+#[derive(Clone, Copy, Debug, PartialEq, Eq)]
+pub enum Needs {
+    /// It is made under every policy.
+    Nothing,
+    /// It is made with create.
+    Create,
+    /// It is made with adopt.
+    Adopt,
+}
+
+impl Needs {
+    /// For machines.
+    pub fn name(self) -> &'static str {
+        match self {
+            Needs::Nothing => "always",
+            Needs::Create => "create",
+            Needs::Adopt => "adopt",
+        }
+    }
+
+    /// For people.
+    pub fn words(self) -> &'static str {
+        match self {
+            Needs::Nothing => "always",
+            Needs::Create => "with --create",
+            Needs::Adopt => "with --adopt",
+        }
+    }
+}
+
+impl Finding {
+    /// The finding at a position, whose class the library gave.
+    pub fn new(site: &Site, position: Position, class: Class) -> Finding {
+        let mut finding = Finding {
+            position,
+            class,
+            file: None,
+            slot: None,
+            object: None,
+            repair: None,
+            keeper: None,
+            denial: None,
+        };
+        match position {
+            Position::Header(row) => finding.add_header(site, row),
+            Position::Slot(place) => finding.add_slot(site, place),
+            Position::Object(row) => finding.add_object(site, row),
+            Position::End => (),
+        }
+        finding
+    }
+
+    fn add_header(&mut self, site: &Site, row: usize) {
+        let Some(file) = site.file(row) else { return };
+        self.file = Some(file.fid);
+        if self.class == Class::SelfId {
+            self.repair = repair(
+                Needs::Nothing,
+                "write the file's id and sequence into its layout",
+            );
+        }
+    }
+
+    fn add_slot(&mut self, site: &Site, place: Place) {
+        self.file = site.file(place.row).map(|file| file.fid);
+        self.slot = Some(place.slot as u32);
+        let Some(stripe) = site.stripe(place) else {
+            return;
+        };
+        self.object = Some(stripe.object);
+        self.keeper = why::keeper(site, stripe.object)
+            .and_then(|(keeper, rule)| Some((site.name(keeper)?, rule)));
+        self.repair = slot_repair(site, place, stripe, self.class);
+    }
+
+    fn add_object(&mut self, site: &Site, row: usize) {
+        let Some(object) = site.objects[row] else {
+            return;
+        };
+        self.object = Some(object.fid);
+        self.file = object.claim.map(|claim| claim.file);
+        self.slot = object.claim.map(|claim| claim.index);
+        self.keeper = why::keeper(site, object.fid)
+            .and_then(|(keeper, rule)| Some((site.name(keeper)?, rule)));
+        match self.class {
+            Class::Empty => self.repair = repair(Needs::Adopt, "destroy the object"),
+            Class::Orphan | Class::Conflict => self.add_place(site, object),
+            _ => (),
+        }
+    }
+
+    /// How the claimed place can be had, or why it cannot.
+    fn add_place(&mut self, site: &Site, object: Object) {
+        let Some(claim) = object.claim else { return };
+        match why::way_to(site, claim) {
+            Ok(way) => self.repair = repair(Needs::Adopt, way.words(claim)),
+            Err(denial) => self.denial = Some(denial.words(claim)),
+        }
+    }
+}
+
+fn repair(needs: Needs, does: impl Into<String>) -> Option<Repair> {
+    let does = does.into();
+    Some(Repair { needs, does })
+}
+
+fn slot_repair(site: &Site, place: Place, stripe: Stripe, class: Class) -> Option<Repair> {
+    let file = site.file(place.row)?;
+    let owner = file.owner;
+    match class {
+        Class::Multiple => repair(
+            Needs::Create,
+            format!(
+                "make an empty object on OST {} under a FID of the reserve, and name it here",
+                stripe.ost
+            ),
+        ),
+        Class::Dangling => repair(
+            Needs::Create,
+            format!("make the object, empty, on OST {}", stripe.ost),
+        ),
+        Class::Blank | Class::Unmatched(_) => repair(
+            Needs::Nothing,
+            format!("write this slot as the object's claim, and the owner {owner}"),
+        ),
+        Class::Owner => repair(Needs::Nothing, format!("write the owner {owner}")),
+        _ => None,
+    }
+}

@@ -1,0 +1,129 @@
+//! How the commands are used.
+
+use std::ffi::OsStr;
+
+/// What help is asked for.
+#[derive(Clone, Copy, Debug, PartialEq, Eq)]
+pub enum Topic {
+    /// The tool as a whole.
+    All,
+    /// `sample`.
+    Sample,
+    /// `check`.
+    Check,
+    /// `classes`.
+    Classes,
+    /// `run`.
+    Run,
+    /// `show`.
+    Show,
+}
+
+impl Topic {
+    /// The topic of the first word of a command line.
+    pub fn of_word(word: &OsStr) -> Option<Topic> {
+        Some(match word.to_str()? {
+            "help" | "--help" | "-h" => Topic::All,
+            "sample" => Topic::Sample,
+            "check" => Topic::Check,
+            "classes" => Topic::Classes,
+            "run" => Topic::Run,
+            "show" => Topic::Show,
+            _ => return None,
+        })
+    }
+
+    /// The help.
+    pub fn text(self) -> &'static str {
+        match self {
+            Topic::All => ALL,
+            Topic::Sample => SAMPLE,
+            Topic::Check => CHECK,
+            Topic::Classes => CLASSES,
+            Topic::Run => RUN,
+            Topic::Show => SHOW,
+        }
+    }
+}
+
+const ALL: &str = "\
+Usage: lfsck-offline COMMAND DIR [OPTIONS]
+
+Checks and repairs the striping layouts of a site from table files. DIR is the
+case: the directory with parents.tbl, objects.tbl and reserve.tbl.
+
+  sample DIR     make a small case with every kind of fault
+  check DIR      say whether the tables are sound, and list every row at fault
+  classes DIR    list what is wrong with which file, and what a repair would do
+  run DIR        repair, going on from where the last run stopped
+  show DIR FID   tell everything about one file or object
+
+Options of every command:
+  --json         print JSON for machines
+  --help         help for the command
+
+Exit status: 0 done, 1 steps left, 2 input refused, 3 something ran out,
+64 wrong usage, 74 trouble with files.
+";
+
+const SAMPLE: &str = "\
+Usage: lfsck-offline sample DIR [--json]
+
+Makes a small case with every class in it: parents.tbl, objects.tbl and
+reserve.tbl in DIR, which is made where it is missing. Files that are already
+there are not overwritten.
+";
+
+const CHECK: &str = "\
+Usage: lfsck-offline check DIR [--json]
+
+Says whether the tables are sound. Where they are not, prints the lowest number
+that applies and what it means, and every row at fault with field and reason.
+
+  11  table not whole rows, too long, or a mark not 0 or 1
+  13  layout against the rules
+  14  bad FID, object index or claim, or fresh without claim
+  15  a FID twice among used parents, or twice among used objects
+
+Exit status: 0 sound, 2 not sound.
+";
+
+const CLASSES: &str = "\
+Usage: lfsck-offline classes DIR [--only CLASS] [--json]
+
+Lists every finding: file, slot, object, class, and what its repair would do and
+under which policy. Ends with the number of positions of each class.
+
+  --only CLASS   list the positions of this class alone, of any class:
+                 CLEAN SELF HOLE MULTIPLE DANGLING BLANK UNMATCHED OWNER
+                 SPARE EMPTY ORPHAN CONFLICT KEPT UNUSED
+";
+
+const RUN: &str = "\
+Usage: lfsck-offline run DIR [--create] [--adopt] [--steps N] [--from-start] [--json]
+
+Repairs step by step and saves tables and position together. Goes on from the
+saved position if policy, reserve and tables are those that it was saved with,
+else begins at the start and says why. SELF, BLANK, UNMATCHED and OWNER are
+repaired under every policy.
+
+  --create       make objects for slots that have none of their own
+                 (MULTIPLE, DANGLING)
+  --adopt        put objects that no slot names in the places they claim, and
+                 destroy empty ones (ORPHAN, EMPTY)
+  --steps N      make at most N steps
+  --from-start   leave the saved position aside
+
+Exit status: 0 the end is reached, 1 steps are left, 2 input refused, 3 the
+reserve or the unused rows of a table ran out.
+";
+
+const SHOW: &str = "\
+Usage: lfsck-offline show DIR FID [--json]
+
+Tells everything about one file or object: layout, slots, claims, class, and why
+(which rule makes a slot the keeper). FID is written [0x200000401:0x1:0x0], with
+or without brackets, in hexadecimal or decimal numbers.
+
+Exit status: 2 where nothing in the case has the FID.
+";

@@ -1,0 +1,63 @@
+//! The command `lfsck-offline`: checks, classes and repairs the tables of a site.
+//!
+//! Everything that decides or changes is the verified library's. This tool reads and writes
+//! files and prints.
+
+mod answers;
+mod args;
+mod bar;
+mod case;
+mod changes;
+mod class;
+mod columns;
+mod commands;
+mod digest;
+mod disk;
+mod faults;
+mod fid;
+mod finding;
+mod help;
+mod journal;
+mod json;
+mod outcome;
+mod position;
+mod rows;
+mod saved;
+mod site;
+mod slices;
+mod tables;
+mod verdict;
+mod why;
+
+use std::io::{self, Write};
+use std::process::ExitCode;
+
+use outcome::{Failure, Outcome, Status};
+
+fn main() -> ExitCode {
+    let outcome =
+        args::Call::parse(std::env::args_os().skip(1)).and_then(|call| commands::execute(&call));
+    let status = match outcome.and_then(print) {
+        Ok(status) => status,
+        Err(failure) => {
+            let message = failure.message.replace(char::is_control, " ");
+            let _ = writeln!(io::stderr(), "lfsck-offline: {message}");
+            failure.status
+        }
+    };
+    ExitCode::from(status as u8)
+}
+
+/// Prints what a command has to say. A reader that has heard enough is no trouble.
+fn print(outcome: Outcome) -> Result<Status, Failure> {
+    let mut out = io::stdout().lock();
+    let printed = out
+        .write_all(outcome.text.as_bytes())
+        .and_then(|()| out.flush());
+    match printed {
+        Err(error) if error.kind() != io::ErrorKind::BrokenPipe => {
+            Err(Failure::files(format!("standard output: {error}")))
+        }
+        _ => Ok(outcome.status),
+    }
+}

@@ -1,0 +1,74 @@
+//! How a command ends: what it prints and its exit status.
+
+use std::fmt::Display;
+
+/// Exit statuses.
+#[derive(Clone, Copy, Debug, PartialEq, Eq)]
+pub enum Status {
+    /// Done.
+    Done = 0,
+    /// The steps were used up before the end.
+    StepsLeft = 1,
+    /// The input was refused.
+    Refused = 2,
+    /// The reserve or a table's unused rows ran out.
+    RanOut = 3,
+    /// The command line is not one of ours.
+    Usage = 64,
+    /// A file could not be read or written, or the case is in use.
+    Files = 74,
+}
+
+/// What a command prints on standard output, and its status.
+#[derive(Debug)]
+pub struct Outcome {
+    /// The text, whole lines.
+    pub text: String,
+    /// The exit status.
+    pub status: Status,
+}
+
+impl Outcome {
+    /// A command that did what it was asked.
+    pub fn done(text: String) -> Outcome {
+        Outcome {
+            text,
+            status: Status::Done,
+        }
+    }
+}
+
+/// Why a command ended early: one line for standard error.
+#[derive(Debug)]
+pub struct Failure {
+    /// The line.
+    pub message: String,
+    /// The exit status.
+    pub status: Status,
+}
+
+impl Failure {
+    /// A command line that cannot be followed.
+    pub fn usage(message: impl Display) -> Failure {
+        Failure {
+            message: format!("{message} (see lfsck-offline --help)"),
+            status: Status::Usage,
+        }
+    }
+
+    /// Input that is refused.
+    pub fn refused(message: impl Display) -> Failure {
+        Failure {
+            message: message.to_string(),
+            status: Status::Refused,
+        }
+    }
+
+    /// Trouble with a file.
+    pub fn files(message: impl Display) -> Failure {
+        Failure {
+            message: message.to_string(),
+            status: Status::Files,
+        }
+    }
+}

@@ -1,0 +1,96 @@
+//! Positions of a run: document 01's stage, row and part.
+
+use crate::site::{Place, Site};
+
+/// A step of a run, or its end.
+#[derive(Clone, Copy, Debug, PartialEq, Eq)]
+pub enum Position {
+    /// The header of a parent row; of an unused row, the row.
+    Header(usize),
+    /// A slot of a used parent row.
+    Slot(Place),
+    /// An object row.
+    Object(usize),
+    /// Nothing is left to do.
+    End,
+}
+
+impl Position {
+    /// The position that the library's three numbers stand for.
+    pub fn of_numbers([stage, row, part]: [u64; 3]) -> Option<Position> {
+        let row = usize::try_from(row).ok()?;
+        match (stage, part) {
+            (1, 0) => Some(Position::Header(row)),
+            (1, part) => Some(Position::Slot(Place {
+                row,
+                slot: usize::try_from(part).ok()? - 1,
+            })),
+            (2, 0) => Some(Position::Object(row)),
+            (3, 0) if row == 0 => Some(Position::End),
+            _ => None,
+        }
+    }
+
+    /// Stage, row and part.
+    pub fn to_numbers(self) -> [u64; 3] {
+        match self {
+            Position::Header(row) => [1, row as u64, 0],
+            Position::Slot(place) => [1, place.row as u64, place.slot as u64 + 1],
+            Position::Object(row) => [2, row as u64, 0],
+            Position::End => [3, 0, 0],
+        }
+    }
+
+    /// Every position before the end, in the order of a run.
+    pub fn all(site: &Site) -> impl Iterator<Item = Position> + '_ {
+        let parents = (0..site.files.len()).flat_map(|row| {
+            let slots = (0..width(site, row)).map(move |slot| Position::Slot(Place { row, slot }));
+            std::iter::once(Position::Header(row)).chain(slots)
+        });
+        parents.chain((0..site.objects.len()).map(Position::Object))
+    }
+
+    /// The steps from here to the end, by document 01's count. What is no position of the tables
+    /// has few or none.
+    pub fn steps_left(self, site: &Site) -> u64 {
+        let objects = site.objects.len();
+        let from_row = |row: usize| -> usize {
+            let rows = row..site.files.len();
+            rows.map(|row| 1 + width(site, row)).sum::<usize>() + objects
+        };
+        let left = match self {
+            Position::Header(row) => from_row(row),
+            Position::Slot(place) => from_row(place.row).saturating_sub(place.slot + 1),
+            Position::Object(row) => objects.saturating_sub(row),
+            Position::End => 0,
+        };
+        left as u64
+    }
+
+    /// The position in words.
+    pub fn words(self, site: &Site) -> String {
+        match self {
+            Position::Header(row) => match site.file(row) {
+                Some(file) => format!("the header of {}", file.fid),
+                None => format!("the unused parent row {row}"),
+            },
+            Position::Slot(place) => match site.name(place) {
+                Some(slot) => slot.to_string(),
+                None => format!("slot {} of parent row {}", place.slot, place.row),
+            },
+            Position::Object(row) => match site.objects.get(row).and_then(Option::as_ref) {
+                Some(object) => match object.claim {
+                    Some(claim) => format!("object {}, which claims {claim}", object.fid),
+                    None => format!("object {}", object.fid),
+                },
+                None => format!("the unused object row {row}"),
+            },
+            Position::End => "the end".to_string(),
+        }
+    }
+}
+
+/// The slots of a parent row; an unused one has none.
+fn width(site: &Site, row: usize) -> usize {
+    site.file(row).map_or(0, |file| file.slots.len())
+}

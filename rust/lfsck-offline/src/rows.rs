@@ -1,0 +1,205 @@
+//! What the rows of sound tables say.
+
+use std::fmt;
+
+use crate::fid::{Fid, MdtFid, OstFid, number16, number32};
+
+/// Where the self FID of a row stands, after the used mark.
+pub const SELF_AT: usize = 1;
+/// Where the owner of a file stands.
+pub const FILE_OWNER_AT: usize = 17;
+/// Where the length of a layout stands.
+pub const LENGTH_AT: usize = 25;
+/// Where the layout stands.
+pub const LAYOUT_AT: usize = 27;
+/// Where the OST index of an object stands.
+pub const OST_AT: usize = 17;
+/// Where the owner of an object stands.
+pub const OBJECT_OWNER_AT: usize = 21;
+/// Where the claim of an object stands.
+pub const CLAIM_AT: usize = 29;
+/// Where the fresh mark of an object stands.
+pub const FRESH_AT: usize = 45;
+
+/// The pattern in which slots may be holes.
+pub const HOLE_PATTERN: u64 = 0x4000_0001;
+
+/// A uid and a gid, written `500:600`.
+#[derive(Clone, Copy, Debug, PartialEq, Eq)]
+pub struct Owner {
+    /// The user.
+    pub uid: u32,
+    /// The group.
+    pub gid: u32,
+}
+
+/// The slot that an object says it belongs to.
+#[derive(Clone, Copy, Debug, PartialEq, Eq)]
+pub struct Claim {
+    /// The file.
+    pub file: MdtFid,
+    /// The stripe index.
+    pub index: u32,
+}
+
+/// A slot that names an object.
+#[derive(Clone, Copy, Debug, PartialEq, Eq)]
+pub struct Stripe {
+    /// The object.
+    pub object: OstFid,
+    /// The slot's generation.
+    pub generation: u64,
+    /// The OST index.
+    pub ost: u64,
+}
+
+/// The header of a layout.
+#[derive(Clone, Copy, Debug, PartialEq, Eq)]
+pub struct Header {
+    /// 1 or 3.
+    pub version: u64,
+    /// The pattern.
+    pub pattern: u64,
+    /// The id of the file that the layout says it belongs to.
+    pub own_id: u64,
+    /// The sequence of that file.
+    pub own_sequence: u64,
+    /// The stripe size in bytes.
+    pub stripe_size: u64,
+    /// The generation.
+    pub generation: u64,
+}
+
+/// A used parent row.
+#[derive(Clone, Debug, PartialEq, Eq)]
+pub struct File {
+    /// Its own FID.
+    pub fid: MdtFid,
+    /// Its owner.
+    pub owner: Owner,
+    /// Its layout's header.
+    pub header: Header,
+    /// Its slots; a hole is `None`.
+    pub slots: Vec<Option<Stripe>>,
+}
+
+/// A used object row.
+#[derive(Clone, Copy, Debug, PartialEq, Eq)]
+pub struct Object {
+    /// Its own FID.
+    pub fid: OstFid,
+    /// The OST index.
+    pub ost: u32,
+    /// Its owner.
+    pub owner: Owner,
+    /// Its claim, if it has one.
+    pub claim: Option<Claim>,
+    /// Made empty by a repair and not written since.
+    pub fresh: bool,
+}
+
+impl Owner {
+    fn read(row: &[u8], at: usize) -> Owner {
+        Owner {
+            uid: number32(row, at),
+            gid: number32(row, at + 4),
+        }
+    }
+}
+
+impl Header {
+    /// Whether slots may be holes.
+    pub fn holes_allowed(&self) -> bool {
+        self.pattern == HOLE_PATTERN
+    }
+}
+
+impl Claim {
+    /// The claim in a FID whose version is the stripe index; zeros are none.
+    pub fn of_fid(fid: Fid) -> Option<Claim> {
+        (fid != Fid::new(0, 0)).then_some(Claim {
+            file: MdtFid(Fid::new(fid.sequence, fid.id)),
+            index: fid.version,
+        })
+    }
+}
+
+/// The used mark.
+fn is_used(row: &[u8]) -> bool {
+    row[0] == 1
+}
+
+impl File {
+    /// The file in a row, none where the row is unused. The library reads the layout.
+    pub fn read(row: &[u8]) -> Option<File> {
+        if !is_used(row) {
+            return None;
+        }
+        let length = usize::from(number16(row, LENGTH_AT));
+        let layout = row.get(LAYOUT_AT..LAYOUT_AT + length)?;
+        let mut fields = [0; 8];
+        if lfsck_sys::layout_read(layout, &mut fields) != 0 {
+            return None;
+        }
+        let [
+            version,
+            pattern,
+            own_id,
+            own_sequence,
+            stripe_size,
+            count,
+            generation,
+            _,
+        ] = fields;
+        Some(File {
+            fid: MdtFid(Fid::read(row, SELF_AT)),
+            owner: Owner::read(row, FILE_OWNER_AT),
+            header: Header {
+                version,
+                pattern,
+                own_id,
+                own_sequence,
+                stripe_size,
+                generation,
+            },
+            slots: (0..count).map(|index| read_slot(layout, index)).collect(),
+        })
+    }
+}
+
+/// A slot of a layout that the library reads.
+fn read_slot(layout: &[u8], index: u64) -> Option<Stripe> {
+    let mut numbers = [0; 5];
+    lfsck_sys::layout_slot(layout, index, &mut numbers);
+    let [named, sequence, id, generation, ost] = numbers;
+    (named == 1).then_some(Stripe {
+        object: OstFid(Fid::new(sequence, id as u32)),
+        generation,
+        ost,
+    })
+}
+
+impl Object {
+    /// The object in a row, none where the row is unused.
+    pub fn read(row: &[u8]) -> Option<Object> {
+        is_used(row).then(|| Object {
+            fid: OstFid(Fid::read(row, SELF_AT)),
+            ost: number32(row, OST_AT),
+            owner: Owner::read(row, OBJECT_OWNER_AT),
+            claim: Claim::of_fid(Fid::read(row, CLAIM_AT)),
+            fresh: row[FRESH_AT] == 1,
+        })
+    }
+}
+
+impl fmt::Display for Owner {
+    fn fmt(&self, out: &mut fmt::Formatter<'_>) -> fmt::Result {
+        write!(out, "{}:{}", self.uid, self.gid)
+    }
+}
+
+impl fmt::Display for Claim {
+    fn fmt(&self, out: &mut fmt::Formatter<'_>) -> fmt::Result {
+        write!(out, "slot {} of {}", self.index, self.file)
+    }
+}

@@ -1,0 +1,157 @@
+//! The saved position of a run, and what it was saved with.
+//!
+//! It counts only for the policy, the reserve and the tables that it was saved with: under any
+//! other a run that went on from it could pass by what has changed since.
+
+use crate::digest::Digest;
+use crate::tables::Tables;
+
+/// The file of the saved position.
+pub const POSITION: &str = "lfsck-offline.position";
+/// The file is shorter than this.
+pub const MOST_BYTES: usize = 4096;
+
+const TITLE: &str = "lfsck-offline position, format 1";
+
+/// A position and its conditions.
+#[derive(Clone, Debug, PartialEq, Eq)]
+pub struct Saved {
+    /// Stage, row and part.
+    pub position: [u64; 3],
+    /// The policy of the run.
+    pub policy: u64,
+    /// Of the parent table as the run left it.
+    pub parents: Digest,
+    /// Of the object table as the run left it.
+    pub objects: Digest,
+    /// Of the reserve.
+    pub reserve: Digest,
+}
+
+impl Saved {
+    /// A position in these tables.
+    pub fn new(position: [u64; 3], policy: u64, tables: &Tables) -> Saved {
+        Saved {
+            position,
+            policy,
+            parents: Digest::of(&tables.parents),
+            objects: Digest::of(&tables.objects),
+            reserve: Digest::of(&tables.reserve),
+        }
+    }
+
+    /// Why a run with this policy on these tables must not go on from here.
+    pub fn differs(&self, policy: u64, tables: &Tables) -> Option<String> {
+        if self.policy != policy {
+            let (was, is) = (policy_words(self.policy), policy_words(policy));
+            return Some(format!("it was saved with {was}, and this run has {is}"));
+        }
+        let tables = [
+            (self.parents, &tables.parents, "parents.tbl"),
+            (self.objects, &tables.objects, "objects.tbl"),
+            (self.reserve, &tables.reserve, "reserve.tbl"),
+        ];
+        let mut changed = tables
+            .iter()
+            .filter(|(digest, bytes, _)| *digest != Digest::of(bytes));
+        let (_, _, file) = changed.next()?;
+        Some(format!("{file} has changed since it was saved"))
+    }
+
+    /// The text of the file.
+    pub fn to_text(&self) -> String {
+        let [stage, row, part] = self.position;
+        let text = format!(
+            "{TITLE}\nposition {stage} {row} {part}\npolicy {}\nparents {}\nobjects {}\nreserve {}\n",
+            self.policy, self.parents, self.objects, self.reserve
+        );
+        let digest = Digest::of(text.as_bytes());
+        format!("{text}digest {digest}\n")
+    }
+
+    /// The saved position that a file holds, byte for byte as it was written.
+    pub fn parse(bytes: &[u8]) -> Option<Saved> {
+        let text = str::from_utf8(bytes).ok()?;
+        let mut lines = text.lines();
+        if lines.next()? != TITLE {
+            return None;
+        }
+        let mut field = |name: &str| lines.next()?.strip_prefix(name)?.strip_prefix(' ');
+        let position: Option<Vec<u64>> = field("position")?
+            .split(' ')
+            .map(|number| number.parse().ok())
+            .collect();
+        let saved = Saved {
+            position: position?.try_into().ok()?,
+            policy: field("policy")?.parse().ok()?,
+            parents: Digest::parse(field("parents")?)?,
+            objects: Digest::parse(field("objects")?)?,
+            reserve: Digest::parse(field("reserve")?)?,
+        };
+        (saved.to_text() == text).then_some(saved)
+    }
+}
+
+/// A policy in words.
+pub fn policy_words(policy: u64) -> &'static str {
+    match policy {
+        0 => "neither create nor adopt",
+        1 => "create",
+        2 => "adopt",
+        _ => "create and adopt",
+    }
+}
+
+#[cfg(test)]
+mod tests {
+    use super::*;
+
+    fn tables() -> Tables {
+        Tables {
+            parents: vec![1],
+            objects: vec![2],
+            reserve: vec![3],
+        }
+    }
+
+    #[test]
+    fn a_position_is_read_as_it_was_saved() {
+        let saved = Saved::new([1, 2, 3], 3, &tables());
+        let text = saved.to_text();
+        assert!(text.len() < MOST_BYTES);
+        assert_eq!(Saved::parse(text.as_bytes()), Some(saved));
+    }
+
+    #[test]
+    fn any_other_byte_makes_it_unreadable() {
+        let text = Saved::new([1, 2, 3], 3, &tables()).to_text().into_bytes();
+        for at in 0..text.len() {
+            let mut other = text.clone();
+            other[at] ^= 1;
+            assert_eq!(Saved::parse(&other), None, "byte {at}");
+            assert_eq!(Saved::parse(&text[..at]), None, "{at} bytes");
+        }
+        let more = [&text[..], b"\n"].concat();
+        assert_eq!(Saved::parse(&more), None);
+    }
+
+    #[test]
+    fn it_counts_for_its_own_conditions_alone() {
+        let saved = Saved::new([1, 2, 3], 1, &tables());
+        assert_eq!(saved.differs(1, &tables()), None);
+        assert!(saved.differs(3, &tables()).unwrap().contains("create"));
+        let mut parents = tables();
+        parents.parents[0] = 0;
+        let mut objects = tables();
+        objects.objects.push(0);
+        let mut reserve = tables();
+        reserve.reserve.clear();
+        for (other, file) in [
+            (parents, "parents.tbl"),
+            (objects, "objects.tbl"),
+            (reserve, "reserve.tbl"),
+        ] {
+            assert!(saved.differs(1, &other).unwrap().contains(file));
+        }
+    }
+}

@@ -1,0 +1,122 @@
+//! What sound tables say, with the rows of every FID and the slots that name it at hand.
+
+use std::collections::HashMap;
+use std::fmt;
+
+use crate::fid::{MdtFid, OstFid};
+use crate::rows::{Claim, File, Object, Stripe};
+use crate::tables::{Table, Tables};
+
+/// A slot of a parent row.
+#[derive(Clone, Copy, Debug, PartialEq, Eq)]
+pub struct Place {
+    /// The parent row.
+    pub row: usize,
+    /// The slot of its layout.
+    pub slot: usize,
+}
+
+/// A slot, as people call it: by its file.
+#[derive(Clone, Copy, Debug, PartialEq, Eq)]
+pub struct Named {
+    /// The file.
+    pub file: MdtFid,
+    /// The slot of its layout.
+    pub slot: usize,
+}
+
+/// The files and objects of a case; unused rows are `None`.
+pub struct Site {
+    /// The parent rows.
+    pub files: Vec<Option<File>>,
+    /// The object rows.
+    pub objects: Vec<Option<Object>>,
+    file_rows: HashMap<MdtFid, usize>,
+    object_rows: HashMap<OstFid, usize>,
+    named_by: HashMap<OstFid, Vec<Place>>,
+}
+
+impl Site {
+    /// What these tables say.
+    pub fn new(tables: &Tables) -> Site {
+        let mut site = Site {
+            files: tables.rows(Table::Parents).map(File::read).collect(),
+            objects: tables.rows(Table::Objects).map(Object::read).collect(),
+            file_rows: HashMap::new(),
+            object_rows: HashMap::new(),
+            named_by: HashMap::new(),
+        };
+        site.find_files();
+        for (row, object) in site.objects.iter().enumerate() {
+            if let Some(object) = object {
+                site.object_rows.insert(object.fid, row);
+            }
+        }
+        site
+    }
+
+    fn find_files(&mut self) {
+        for (row, file) in self.files.iter().enumerate() {
+            let Some(file) = file else { continue };
+            self.file_rows.insert(file.fid, row);
+            for (slot, stripe) in file.slots.iter().enumerate() {
+                if let Some(stripe) = stripe {
+                    let places = self.named_by.entry(stripe.object).or_default();
+                    places.push(Place { row, slot });
+                }
+            }
+        }
+    }
+
+    /// The file in a row.
+    pub fn file(&self, row: usize) -> Option<&File> {
+        self.files.get(row)?.as_ref()
+    }
+
+    /// The row of a file.
+    pub fn file_row(&self, fid: MdtFid) -> Option<usize> {
+        self.file_rows.get(&fid).copied()
+    }
+
+    /// The row of an object.
+    pub fn object_row(&self, fid: OstFid) -> Option<usize> {
+        self.object_rows.get(&fid).copied()
+    }
+
+    /// The object of a FID.
+    pub fn object_of(&self, fid: OstFid) -> Option<&Object> {
+        self.objects[self.object_row(fid)?].as_ref()
+    }
+
+    /// What stands in a slot; nothing in a hole, and nothing where there is no such slot.
+    pub fn stripe(&self, place: Place) -> Option<Stripe> {
+        *self.file(place.row)?.slots.get(place.slot)?
+    }
+
+    /// The slots that name an object, in scan order.
+    pub fn named_by(&self, fid: OstFid) -> &[Place] {
+        self.named_by.get(&fid).map_or(&[], Vec::as_slice)
+    }
+
+    /// The place of a claim whose file is there, whether or not it has the slot.
+    pub fn claimed_place(&self, claim: Claim) -> Option<Place> {
+        Some(Place {
+            row: self.file_row(claim.file)?,
+            slot: claim.index as usize,
+        })
+    }
+
+    /// The place as people call it.
+    pub fn name(&self, place: Place) -> Option<Named> {
+        Some(Named {
+            file: self.file(place.row)?.fid,
+            slot: place.slot,
+        })
+    }
+}
+
+impl fmt::Display for Named {
+    fn fmt(&self, out: &mut fmt::Formatter<'_>) -> fmt::Result {
+        write!(out, "slot {} of {}", self.slot, self.file)
+    }
+}

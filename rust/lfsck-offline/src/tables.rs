@@ -1,0 +1,87 @@
+//! The three tables of a case, as bytes.
+
+use crate::fid::FID_BYTES;
+
+/// The bytes of a parent row.
+pub const PARENT_BYTES: usize = 3915;
+/// The bytes of an object row.
+pub const OBJECT_BYTES: usize = 46;
+
+/// Which table.
+#[derive(Clone, Copy, Debug, PartialEq, Eq)]
+pub enum Table {
+    /// The files with their layouts.
+    Parents,
+    /// The objects.
+    Objects,
+    /// The FIDs for new objects.
+    Reserve,
+}
+
+impl Table {
+    /// All three.
+    pub const ALL: [Table; 3] = [Table::Parents, Table::Objects, Table::Reserve];
+
+    /// The file of the table.
+    pub fn file(self) -> &'static str {
+        match self {
+            Table::Parents => "parents.tbl",
+            Table::Objects => "objects.tbl",
+            Table::Reserve => "reserve.tbl",
+        }
+    }
+
+    /// The bytes of a row.
+    pub fn row_bytes(self) -> usize {
+        match self {
+            Table::Parents => PARENT_BYTES,
+            Table::Objects => OBJECT_BYTES,
+            Table::Reserve => FID_BYTES,
+        }
+    }
+
+    /// The most rows.
+    pub fn most_rows(self) -> usize {
+        match self {
+            Table::Parents => 1024,
+            Table::Objects | Table::Reserve => 65_536,
+        }
+    }
+
+    /// The most bytes.
+    pub fn most_bytes(self) -> usize {
+        self.row_bytes() * self.most_rows()
+    }
+}
+
+/// The contents of the tables. Of a file that is too long there is one byte too many.
+#[derive(Clone, Debug, Default, PartialEq, Eq)]
+pub struct Tables {
+    /// The parent rows.
+    pub parents: Vec<u8>,
+    /// The object rows.
+    pub objects: Vec<u8>,
+    /// The reserve.
+    pub reserve: Vec<u8>,
+}
+
+impl Tables {
+    /// The bytes of a table.
+    pub fn of(&self, table: Table) -> &[u8] {
+        match table {
+            Table::Parents => &self.parents,
+            Table::Objects => &self.objects,
+            Table::Reserve => &self.reserve,
+        }
+    }
+
+    /// The whole rows of a table.
+    pub fn rows(&self, table: Table) -> impl Iterator<Item = &[u8]> {
+        self.of(table).chunks_exact(table.row_bytes())
+    }
+
+    /// The library's number for the tables: 0, 11, 13, 14 or 15. The end is always a position.
+    pub fn check(&self) -> u32 {
+        lfsck_sys::check(&self.parents, &self.objects, &self.reserve, 0, [3, 0, 0])
+    }
+}

@@ -1,0 +1,242 @@
+//! Random histories of a case: runs, crashes, and people who change files in between. A model
+//! says where each run begins and what it leaves.
+
+use difftest::tables::{OBJECTS, Shape, random_tables, to_bytes};
+use difftest::{Coverage, Random};
+
+use crate::json;
+use crate::oracle;
+use crate::tool::{Case, Files, POSITION};
+
+const SHAPE: Shape = Shape {
+    parents: 5,
+    objects: 9,
+    slots: 4,
+    files: 5,
+    fids: 7,
+};
+
+const TABLES: [&str; 3] = ["parents.tbl", "objects.tbl", "reserve.tbl"];
+
+/// A position counts with the policy and the tables that it was saved with.
+#[derive(Clone)]
+struct Saved {
+    position: [u64; 3],
+    policy: u64,
+    tables: Files,
+}
+
+/// The tables as they must be, and the position that must have been saved.
+#[derive(Clone)]
+struct Model {
+    tables: Files,
+    saved: Option<Saved>,
+}
+
+/// What is asked of a run.
+struct Asked {
+    policy: u64,
+    steps: Option<u64>,
+    from_start: bool,
+}
+
+impl Asked {
+    fn random(random: &mut Random) -> Asked {
+        Asked {
+            policy: random.pick(&[0, 1, 2, 3, 3, 3]),
+            steps: (!random.one_in(4)).then(|| random.below(12) as u64),
+            from_start: random.one_in(6),
+        }
+    }
+
+    fn words(&self) -> Vec<String> {
+        let mut words = vec!["run".to_string()];
+        words.extend((self.policy & 1 == 1).then(|| "--create".to_string()));
+        words.extend((self.policy & 2 == 2).then(|| "--adopt".to_string()));
+        words.extend(self.steps.map(|steps| format!("--steps={steps}")));
+        words.extend(self.from_start.then(|| "--from-start".to_string()));
+        words.push("--json".to_string());
+        words
+    }
+}
+
+impl Model {
+    /// What a run does: whether it goes on, its outcome, and the model after it.
+    fn after(&self, asked: &Asked) -> (bool, oracle::Run, Model) {
+        let counts = |saved: &&Saved| saved.policy == asked.policy && saved.tables == self.tables;
+        let saved = self.saved.as_ref().filter(|_| !asked.from_start);
+        let resumed = saved.filter(counts);
+        let most = asked.steps.unwrap_or(u64::MAX);
+        let run = match resumed {
+            Some(saved) => oracle::run_from(&self.tables, saved.position, asked.policy, most),
+            None => oracle::run(&self.tables, asked.policy, most),
+        };
+        let mut after = self.clone();
+        after
+            .tables
+            .insert(TABLES[0].to_string(), run.parents.clone());
+        after
+            .tables
+            .insert(TABLES[1].to_string(), run.objects.clone());
+        if run.report[0] > 0 {
+            after.saved = Some(Saved {
+                position: run.position,
+                policy: asked.policy,
+                tables: after.tables.clone(),
+            });
+        }
+        (resumed.is_some(), run, after)
+    }
+
+    /// The tables of the case are those of the model.
+    fn is_in(&self, case: &Case) -> bool {
+        TABLES
+            .iter()
+            .all(|name| case.read(name) == self.tables[*name])
+    }
+}
+
+/// A case and its model.
+struct History {
+    case: Case,
+    model: Model,
+    snapshots: Vec<Files>,
+}
+
+impl History {
+    fn new(name: &str, random: &mut Random) -> History {
+        let (parents, objects) = to_bytes(&random_tables(SHAPE, random), random);
+        let reserve: Vec<u8> = OBJECTS.iter().flat_map(|fid| fid.to_bytes()).collect();
+        let case = Case::with(name, &parents, &objects, &reserve);
+        let tables = case.files();
+        History {
+            model: Model {
+                tables: tables.clone(),
+                saved: None,
+            },
+            snapshots: vec![tables],
+            case,
+        }
+    }
+
+    fn run(&mut self, random: &mut Random) -> &'static str {
+        let asked = Asked::random(random);
+        let (resumed, run, after) = self.model.after(&asked);
+        let words = asked.words();
+        let words: Vec<&str> = words.iter().map(String::as_str).collect();
+        let status = match run.answer {
+            answer @ (0 | 1) => answer as i32,
+            _ => 3,
+        };
+        let told = json::parse(&self.case.run(&words).expect(status).out);
+        assert_eq!(*told.get("resumed"), json::Value::Bool(resumed));
+        assert_eq!(told.number("answer"), run.answer.into());
+        assert_eq!(told.number("steps_done"), run.report[0]);
+        let position = ["stage", "row", "part"].map(|name| told.number(name));
+        assert_eq!(position, run.position);
+        let had_saved = self.model.saved.is_some();
+        self.model = after;
+        self.snapshots.push(self.model.tables.clone());
+        match (resumed, asked.from_start, had_saved) {
+            (true, ..) => "a run that goes on",
+            (_, true, _) => "a run from the start, as asked",
+            (_, _, true) => "a run that must not go on",
+            _ => "a run without saved position",
+        }
+    }
+
+    /// A crash at any operation leaves the state before the run or the one after it.
+    fn crash(&mut self, random: &mut Random) -> &'static str {
+        let asked = Asked::random(random);
+        let (_, _, after) = self.model.after(&asked);
+        let words = asked.words();
+        let words: Vec<&str> = words.iter().map(String::as_str).collect();
+        let fault = format!("abort:{}", 1 + random.below(26));
+        let position = || self.case.files().remove(POSITION);
+        let before = position();
+        let died = self.case.run_with_fault(&words, fault).status.is_none();
+        self.case.run(&["check"]).expect(0);
+        let saved = position() != before;
+        if saved {
+            self.model = after;
+        }
+        match (died, saved) {
+            (true, true) => "a crash after the save",
+            (true, false) => "a crash before the save",
+            (false, _) => "no crash",
+        }
+    }
+
+    /// Somebody changes an owner or the reserve, or puts older tables back.
+    fn meddle(&mut self, random: &mut Random) -> &'static str {
+        let kind = random.below(3);
+        let objects = self.model.tables.get_mut(TABLES[1]).expect("objects");
+        let used = objects.chunks_mut(46).find(|row| row[0] == 1);
+        if let (0, Some(row)) = (kind, used) {
+            row[21] ^= 1;
+            self.put(TABLES[1]);
+            "another owner"
+        } else if kind == 1 {
+            let reserve = self.model.tables.get_mut(TABLES[2]).expect("reserve");
+            reserve.rotate_left(16);
+            self.put(TABLES[2]);
+            "another reserve"
+        } else {
+            let older = random.below(self.snapshots.len());
+            self.model.tables = self.snapshots[older].clone();
+            TABLES.iter().for_each(|name| self.put(name));
+            "older tables"
+        }
+    }
+
+    fn put(&self, name: &str) {
+        self.case.write(name, &self.model.tables[name]);
+    }
+
+    /// Tables that are refused change nothing, and neither does the position.
+    fn refuse(&self) -> &'static str {
+        self.case.edit(TABLES[0], |bytes| bytes.push(0));
+        let before = self.case.files();
+        self.case
+            .run(&["run", "--create"])
+            .expect_line(2, "refused with 11");
+        assert_eq!(self.case.files(), before);
+        self.put(TABLES[0]);
+        "a refusal"
+    }
+}
+
+#[test]
+fn a_case_is_always_as_its_history_says() {
+    let mut random = Random::for_test("histories");
+    let mut met = Coverage::of(
+        "histories",
+        [
+            "a run that goes on",
+            "a run from the start, as asked",
+            "a run that must not go on",
+            "a run without saved position",
+            "a crash after the save",
+            "a crash before the save",
+            "no crash",
+            "another owner",
+            "another reserve",
+            "older tables",
+            "a refusal",
+        ],
+    );
+    for round in 0..40 {
+        let mut history = History::new(&format!("history-{round}"), &mut random);
+        for _ in 0..16 {
+            let what = match random.below(8) {
+                0 => history.meddle(&mut random),
+                1 => history.refuse(),
+                2 | 3 => history.crash(&mut random),
+                _ => history.run(&mut random),
+            };
+            met.met(what);
+            assert!(history.model.is_in(&history.case), "after {what}");
+        }
+    }
+    met.require(5);
+}

@@ -1,0 +1,252 @@
+//! Cases at the limits of document 01.
+
+use std::process::{Child, Command, Stdio};
+use std::time::{Duration, Instant};
+
+use crate::bytes::{object, object_row, parent_row};
+use crate::json::{Value, parse};
+use crate::tool::{Case, TOOL, Told};
+
+const PARENTS: usize = 1024;
+const SLOTS: usize = 160;
+const OBJECTS: usize = 65_536;
+/// Files with all their slots named; the others have holes.
+const NAMED: usize = 400;
+
+fn id(row: usize, slot: usize) -> u32 {
+    (1 + SLOTS * row + slot) as u32
+}
+
+/// Files of 160 slots, the first of them with all slots named; every object is where it
+/// belongs.
+fn clean(files: usize, named: usize) -> (Vec<u8>, Vec<u8>) {
+    let (mut parents, mut objects) = (Vec::new(), Vec::new());
+    for row in 0..files {
+        let name = |slot| if row < named { id(row, slot) } else { 0 };
+        let slots: Vec<u32> = (0..SLOTS).map(name).collect();
+        parents.extend(parent_row(1 + row as u32, &slots));
+        for slot in 0..if row < named { SLOTS } else { 0 } {
+            objects.extend(object_row(id(row, slot), (1 + row as u32, slot as u32)));
+        }
+    }
+    (parents, objects)
+}
+
+/// Full tables with a few faults in the first files.
+fn full() -> (Vec<u8>, Vec<u8>) {
+    let (mut parents, mut objects) = clean(PARENTS, NAMED);
+    // A slot that names another file's object, and one whose object is absent.
+    name(&mut parents, 2, 7, id(1, 7));
+    name(&mut parents, 3, 5, 900_000);
+    // The own id in the layout of file 5.
+    parents[4 * 3915 + 27 + 8] ^= 0x40;
+    // The claim of one object and the owner of another.
+    objects[6 * SLOTS * 46 + 41] = 9;
+    objects[(7 * SLOTS + 1) * 46 + 21] ^= 1;
+    objects.resize(OBJECTS * 46, 0);
+    (parents, objects)
+}
+
+/// Lets a slot name another object.
+fn name(parents: &mut [u8], row: usize, slot: usize, id: u32) {
+    let at = 3915 * row + 27 + 32 + 24 * slot;
+    parents[at..at + 16].copy_from_slice(&object(id).to_bytes());
+}
+
+fn reserve() -> Vec<u8> {
+    let fids = (0..65_536).map(|number| object(1_000_000 + number));
+    fids.flat_map(|fid| fid.to_bytes()).collect()
+}
+
+#[test]
+fn full_tables_are_checked_classed_and_repaired() {
+    let started = Instant::now();
+    let time = |what: &str| println!("{what}: {:.1} s", started.elapsed().as_secs_f64());
+    let (parents, objects) = full();
+    let case = Case::with("full", &parents, &objects, &reserve());
+
+    let sound = case.json(&["check"], 0);
+    assert_eq!(sound.number("parent_rows"), 1024);
+    assert_eq!(sound.number("object_rows"), 65_536);
+    assert_eq!(sound.number("reserve_fids"), 65_536);
+    time("check");
+
+    let classes = case.json(&["classes"], 0);
+    let summary = classes.get("summary");
+    let faults = ["SELF", "MULTIPLE", "DANGLING", "UNMATCHED", "OWNER"];
+    for class in faults {
+        assert_eq!(summary.number(class), 1, "{class}");
+    }
+    assert_eq!(summary.number("HOLE"), ((PARENTS - NAMED) * SLOTS) as u64);
+    // The two objects whose slots name others claim places that are taken.
+    assert_eq!(summary.number("CONFLICT"), 2);
+    assert_eq!(summary.number("UNUSED"), (OBJECTS - NAMED * SLOTS) as u64);
+    time("classes");
+
+    // The faults are in the first eight files.
+    let steps = (8 * (1 + SLOTS)).to_string();
+    let run = ["run", "--create", "--steps", &steps, "--json"];
+    let told = start_alone(&case, &run).wait_with_output().unwrap();
+    let told = Told::from(told).expect(1);
+    assert_eq!(told.err, "", "no bar in a pipe");
+    let report = parse(&told.out);
+    for class in faults {
+        assert_eq!(report.get("repairs").number(class), 1, "{class}");
+    }
+    let left = (PARENTS - 8) * (1 + SLOTS) + OBJECTS;
+    assert_eq!(report.number("steps_left"), left as u64);
+    time("run");
+}
+
+/// Starts a command that keeps the case long enough to see that nobody else gets it meanwhile.
+fn start_alone(case: &Case, words: &[&str]) -> Child {
+    for attempt in 1..=6 {
+        let mut command = case.command(words);
+        let command = command.stdout(Stdio::piped()).stderr(Stdio::piped());
+        let mut child = command.spawn().expect("the tool");
+        std::thread::sleep(Duration::from_millis(50 * attempt));
+        let second = case.run(&["show", "1:1"]);
+        if second.status == Some(74) {
+            second.expect_line(74, "another lfsck-offline has this case open");
+            return child;
+        }
+        // The second was the first to open the case.
+        child.wait().expect("the tool");
+    }
+    panic!("a command never has the case for itself");
+}
+
+/// What a command prints on a terminal, by the program `script`; none where there is no such
+/// program.
+fn on_terminal(case: &Case, words: &str) -> Option<String> {
+    let mut script = Command::new("script");
+    let command = format!("'{TOOL}' run . {words}");
+    script.args(["-qec", &command, "/dev/null"]);
+    script.current_dir(case.path()).stdin(Stdio::null());
+    let told: Told = script.output().ok()?.into();
+    Some(told.expect(0).out)
+}
+
+/// Work of some seconds shows a bar on a terminal, and clears it. Short work shows none.
+#[test]
+fn long_work_has_a_bar_on_a_terminal() {
+    let (parents, objects) = clean(500, 200);
+    let case = Case::with("bar", &parents, &objects, b"");
+    let started = Instant::now();
+    let Some(told) = on_terminal(&case, "--create --adopt") else {
+        println!("no program `script`: the bar is not tested");
+        return;
+    };
+    let long = started.elapsed() > Duration::from_secs(2);
+    println!("on a terminal: {:.1} s", started.elapsed().as_secs_f64());
+    let bar = told.contains("[####") && told.contains(" of 112500 steps");
+    assert!(bar || !long, "{told:?}");
+    let last = told
+        .rsplit('\r')
+        .find(|part| part.starts_with("The run begins"));
+    assert!(
+        told.starts_with("The run begins") || last.is_some(),
+        "{told:?}"
+    );
+    assert!(told.contains("Steps: 112500 done, 0 left."), "{told:?}");
+
+    let case = Case::sample("no-bar");
+    let told = on_terminal(&case, "--create --adopt").expect("a terminal");
+    assert!(told.starts_with("The run begins at the start"), "{told:?}");
+    assert!(!told.contains('#'), "{told:?}");
+}
+
+#[test]
+fn no_rows_are_a_case() {
+    let case = Case::with("no-rows", b"", b"", b"");
+    assert_eq!(case.json(&["check"], 0).number("parent_rows"), 0);
+    let told = case.run(&["classes"]).expect(0);
+    assert!(told.out.starts_with("Nothing to report"), "{told:?}");
+    let report = case.json(&["run", "--create", "--adopt"], 0);
+    assert_eq!(report.number("stage"), 3);
+    assert_eq!(report.number("steps_done"), 0);
+    case.run(&["show", "0x200000401:1"])
+        .expect_line(2, "nothing in");
+}
+
+/// E10: a file of 160 slots is made, and none of 161.
+#[test]
+fn a_made_file_has_160_slots_at_most() {
+    for (index, answer) in [(159, "ORPHAN"), (160, "CONFLICT"), (u32::MAX, "CONFLICT")] {
+        let objects = object_row(0x30, (9, index));
+        let case = Case::with("index", &[0; 3915], &objects, &[]);
+        let before = case.files();
+        let classes = case.json(&["classes"], 0);
+        assert_eq!(classes.list("findings")[0].text("class"), answer, "{index}");
+        let report = case.json(&["run", "--adopt"], 0);
+        let made = u64::from(answer == "ORPHAN");
+        assert_eq!(report.get("repairs").number("ORPHAN"), made);
+        let shown = case.json(&["show", "0x200000401:9"], 0);
+        if made == 1 {
+            assert_eq!(shown.get("file").number("slots"), 160);
+        } else {
+            assert_eq!(shown.get("file"), &Value::Null);
+            assert_eq!(case.read("parents.tbl"), before["parents.tbl"]);
+            assert_eq!(case.read("objects.tbl"), before["objects.tbl"]);
+        }
+    }
+}
+
+/// The least and the greatest of each field is good, and one beyond is named.
+#[test]
+fn the_bounds_of_fields_are_held_to() {
+    let fid = |sequence: u64, id: u32, version: u32| {
+        [
+            &sequence.to_le_bytes()[..],
+            &id.to_le_bytes(),
+            &version.to_le_bytes(),
+        ]
+        .concat()
+    };
+    for (fid, good) in [
+        (fid(0x2_0000_0400, 1, 0), true),
+        (fid(u64::MAX - 1, u32::MAX, 0), true),
+        (fid(0x2_0000_03ff, 1, 0), false),
+        (fid(u64::MAX, 1, 0), false),
+        (fid(0x2_0000_0400, 0, 0), false),
+        (fid(0x2_0000_0400, 1, 1), false),
+    ] {
+        let case = Case::with("reserve-bounds", b"", b"", &fid);
+        let told = case.json(&["check"], if good { 0 } else { 2 });
+        assert_eq!(told.number("answer"), if good { 0 } else { 14 });
+        assert_eq!(told.list("faults").is_empty(), good);
+    }
+    for (ost, answer) in [(65_535_u32, 0), (65_536, 14)] {
+        let mut object = object_row(1, (1, 0));
+        object[17..21].copy_from_slice(&ost.to_le_bytes());
+        let case = Case::with("ost-bounds", b"", &object, b"");
+        let status = if answer == 0 { 0 } else { 2 };
+        assert_eq!(case.json(&["check"], status).number("answer"), answer);
+    }
+    for (slots, answer) in [(160, 0), (161, 13)] {
+        let mut parent = parent_row(1, &[0; 160]);
+        parent[27 + 28..27 + 30].copy_from_slice(&(slots as u16).to_le_bytes());
+        let case = Case::with("slot-bounds", &parent, b"", b"");
+        let status = if answer == 0 { 0 } else { 2 };
+        assert_eq!(case.json(&["check"], status).number("answer"), answer);
+    }
+}
+
+#[test]
+fn one_row_more_is_too_many() {
+    for (name, parents, objects, reserve) in [
+        ("1025", 1025, 0, 0),
+        ("65537", 0, 65_537, 0),
+        ("65537-reserve", 0, 0, 65_537),
+    ] {
+        let case = Case::with(
+            name,
+            &vec![0; parents * 3915],
+            &vec![0; objects * 46],
+            &object(1).to_bytes().repeat(reserve),
+        );
+        let json = case.json(&["check"], 2);
+        assert_eq!(json.number("answer"), 11);
+        case.run(&["run"]).expect_line(2, "refused with 11");
+    }
+}

@@ -1,0 +1,14 @@
+//! The tool, tested by running it.
+
+mod bytes;
+mod commands;
+mod histories;
+mod json;
+mod limits;
+mod oracle;
+mod refusals;
+mod resume;
+mod saves;
+mod tool;
+mod tour;
+mod two;

@@ -1,0 +1,184 @@
+//! Running the tool on a case.
+
+use std::collections::BTreeMap;
+use std::io::Write;
+use std::path::{Path, PathBuf};
+use std::process::{Command, Output, Stdio};
+
+use crate::json::{self, Value};
+
+/// The program.
+pub const TOOL: &str = env!("CARGO_BIN_EXE_lfsck-offline");
+
+/// The saved position.
+pub const POSITION: &str = "lfsck-offline.position";
+/// The journal of a save.
+pub const JOURNAL: &str = "lfsck-offline.journal";
+
+/// A user without rights.
+pub const NOBODY: u32 = 65_534;
+
+/// A directory of a test's own, removed when the test is done with it.
+pub struct Case {
+    directory: PathBuf,
+}
+
+/// What a command printed, and its exit status.
+#[derive(Debug)]
+pub struct Told {
+    /// The exit status; none where it was killed.
+    pub status: Option<i32>,
+    /// Standard output.
+    pub out: String,
+    /// Standard error.
+    pub err: String,
+}
+
+/// The files of a case, by name.
+pub type Files = BTreeMap<String, Vec<u8>>;
+
+impl Case {
+    /// An empty directory; the name is the test's.
+    pub fn empty(name: &str) -> Case {
+        let directory = Path::new(env!("CARGO_TARGET_TMPDIR")).join(name);
+        let _ = std::fs::remove_dir_all(&directory);
+        std::fs::create_dir_all(&directory).expect("a directory for the test");
+        Case { directory }
+    }
+
+    /// The sample.
+    pub fn sample(name: &str) -> Case {
+        let case = Case::empty(name);
+        case.run(&["sample"]).expect(0);
+        case
+    }
+
+    /// A case with these tables.
+    pub fn with(name: &str, parents: &[u8], objects: &[u8], reserve: &[u8]) -> Case {
+        let case = Case::empty(name);
+        case.write("parents.tbl", parents);
+        case.write("objects.tbl", objects);
+        case.write("reserve.tbl", reserve);
+        case
+    }
+
+    /// The directory.
+    pub fn path(&self) -> &Path {
+        &self.directory
+    }
+
+    /// The bytes of a file.
+    pub fn read(&self, name: &str) -> Vec<u8> {
+        std::fs::read(self.directory.join(name)).expect(name)
+    }
+
+    /// Writes a file.
+    pub fn write(&self, name: &str, bytes: &[u8]) {
+        std::fs::write(self.directory.join(name), bytes).expect(name);
+    }
+
+    /// Changes a file.
+    pub fn edit(&self, name: &str, edit: impl FnOnce(&mut Vec<u8>)) {
+        let mut bytes = self.read(name);
+        edit(&mut bytes);
+        self.write(name, &bytes);
+    }
+
+    /// All files.
+    pub fn files(&self) -> Files {
+        let entries = std::fs::read_dir(&self.directory).expect("the directory");
+        let names = entries.map(|entry| entry.expect("an entry").file_name());
+        let names = names.map(|name| name.into_string().expect("a name"));
+        names
+            .filter(|name| self.directory.join(name).is_file())
+            .map(|name| {
+                let bytes = self.read(&name);
+                (name, bytes)
+            })
+            .collect()
+    }
+
+    /// Makes the directory hold these files and no others.
+    pub fn restore(&self, files: &Files) {
+        for name in self.files().keys() {
+            std::fs::remove_file(self.directory.join(name)).expect(name);
+        }
+        for (name, bytes) in files {
+            self.write(name, bytes);
+        }
+    }
+
+    /// Runs a command: its name, then its words after the directory.
+    pub fn run(&self, words: &[&str]) -> Told {
+        self.command(words).output().expect("the tool").into()
+    }
+
+    /// Runs a command with a fault, as `abort:3`.
+    pub fn run_with_fault(&self, words: &[&str], fault: String) -> Told {
+        let mut command = self.command(words);
+        command.env("LFSCK_OFFLINE_FAULT", fault);
+        command.output().expect("the tool").into()
+    }
+
+    /// Runs a command with `--json`, and reads what it prints.
+    pub fn json(&self, words: &[&str], status: i32) -> Value {
+        let words: Vec<&str> = words.iter().copied().chain(["--json"]).collect();
+        json::parse(&self.run(&words).expect(status).out)
+    }
+
+    /// A command that can be started.
+    pub fn command(&self, words: &[&str]) -> Command {
+        let mut command = Command::new(TOOL);
+        command.arg(words[0]).arg(&self.directory).args(&words[1..]);
+        command
+    }
+}
+
+impl Drop for Case {
+    fn drop(&mut self) {
+        if !std::thread::panicking() {
+            let _ = std::fs::remove_dir_all(&self.directory);
+        }
+    }
+}
+
+impl Told {
+    /// The status is this one.
+    pub fn expect(self, status: i32) -> Told {
+        assert_eq!(self.status, Some(status), "{self:?}");
+        self
+    }
+
+    /// It was refused with this status by one line that says this.
+    pub fn expect_line(self, status: i32, words: &str) -> Told {
+        let told = self.expect(status);
+        assert_eq!(told.out, "", "{told:?}");
+        assert_eq!(told.err.lines().count(), 1, "{told:?}");
+        assert!(told.err.starts_with("lfsck-offline: "), "{told:?}");
+        assert!(told.err.contains(words), "{words}: {told:?}");
+        told
+    }
+}
+
+impl From<Output> for Told {
+    fn from(output: Output) -> Told {
+        let text = |bytes| String::from_utf8(bytes).expect("a text");
+        Told {
+            status: output.status.code(),
+            out: text(output.stdout),
+            err: text(output.stderr),
+        }
+    }
+}
+
+/// The SHA-256 digest in hexadecimal digits, by another program.
+pub fn sha256(bytes: &[u8]) -> String {
+    let mut child = Command::new("sha256sum")
+        .stdin(Stdio::piped())
+        .stdout(Stdio::piped())
+        .spawn()
+        .expect("sha256sum");
+    child.stdin.take().unwrap().write_all(bytes).unwrap();
+    let out = child.wait_with_output().unwrap().stdout;
+    String::from_utf8(out[..64].to_vec()).expect("digits")
+}

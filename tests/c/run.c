@@ -1,0 +1,193 @@
+/* Runs made from C. */
+#include "report.h"
+#include "sample.h"
+
+static uint32_t run(struct input *in, uint64_t most, size_t position_count, uint64_t *report,
+                    size_t report_count)
+{
+    return lfsck_run(in->parents, in->parents_bytes, in->objects, in->objects_bytes,
+                     in->reserve, in->reserve_bytes, in->policy, most,
+                     in->position, position_count, report, report_count);
+}
+
+static int stands_at(const struct input *in, uint64_t stage, uint64_t row, uint64_t part)
+{
+    return in->position[0] == stage && in->position[1] == row && in->position[2] == part;
+}
+
+/* P with A absent, and two unused object rows. */
+static struct input dangling(void)
+{
+    struct input in = sound();
+
+    in.objects[LFSCK_OBJECT_BYTES] = 0;
+    return in;
+}
+
+/* The row of A as a repair makes it, with P's claim, owner and OST. */
+static int is_made(const uint8_t *row)
+{
+    struct input in = sound();
+    uint8_t *expected = in.objects + LFSCK_OBJECT_BYTES;
+
+    expected[OBJECT_FRESH] = 1;
+    return memcmp(row, expected, LFSCK_OBJECT_BYTES) == 0;
+}
+
+/* E7: without create nothing changes; with it the object is made. */
+static void test_dangling(void)
+{
+    struct input in = dangling();
+    struct input before;
+    uint64_t report[10] = {99, 99, 99, 99, 99, 99, 99, 99, 99, 99};
+
+    memcpy(&before, &in, sizeof before);
+    check("E7, policy 0", run(&in, UINT64_MAX, 3, report, 10) == LFSCK_OK);
+    check("E7, no change", memcmp(in.parents, before.parents, sizeof in.parents) == 0 &&
+                               memcmp(in.objects, before.objects, sizeof in.objects) == 0);
+    check("the end", stands_at(&in, LFSCK_STAGE_END, 0, 0));
+    check("five steps, no repair", report[LFSCK_REPORT_STEPS] == 5 &&
+                                       report[LFSCK_REPORT_DANGLING] == 0);
+    check("the number after the report stays", report[9] == 99);
+
+    in = dangling();
+    in.policy = LFSCK_CREATE;
+    check("E7, policy 1, one step", run(&in, 1, 3, report, 9) == LFSCK_STEPS_USED);
+    check("the header was clean", stands_at(&in, 1, 0, 1) && report[LFSCK_REPORT_STEPS] == 1);
+    check("E7, policy 1, one more", run(&in, 1, 3, report, 9) == LFSCK_STEPS_USED);
+    check("A is made", is_made(in.objects));
+    check("it is counted", report[LFSCK_REPORT_STEPS] == 1 && report[LFSCK_REPORT_DANGLING] == 1);
+    check("the layout stays", memcmp(in.parents, before.parents, sizeof in.parents) == 0);
+    check("the other row stays", memcmp(in.objects + LFSCK_OBJECT_BYTES,
+                                        before.objects + LFSCK_OBJECT_BYTES,
+                                        LFSCK_OBJECT_BYTES) == 0);
+}
+
+static void test_stop(void)
+{
+    struct input in = dangling();
+    uint64_t report[9];
+
+    in.policy = LFSCK_CREATE;
+    in.objects_bytes = 0;
+    check("no object row", run(&in, 9, 3, report, 9) == LFSCK_NO_OBJECT_ROW);
+    check("it rests on the slot", stands_at(&in, 1, 0, 1));
+    check("one step was done", report[LFSCK_REPORT_STEPS] == 1);
+    check("with no steps the slot is not looked at", run(&in, 0, 3, report, 9) == LFSCK_STEPS_USED);
+}
+
+/* Q, a second file that names A; A claims P. */
+static struct input shared(void)
+{
+    struct input in = sound();
+    uint8_t *q = in.parents + LFSCK_PARENT_BYTES;
+
+    memcpy(q, in.parents, LFSCK_PARENT_BYTES);
+    q[PARENT_SELF + 8] = 2;
+    q[PARENT_LAYOUT + 8] = 2;
+    in.policy = LFSCK_CREATE;
+    return in;
+}
+
+static void test_redirect(void)
+{
+    struct input in = shared();
+    uint8_t slot[24] = {0};
+    uint64_t report[9];
+    const uint8_t *q = in.parents + LFSCK_PARENT_BYTES;
+
+    memcpy(slot, n, 16);
+    slot[20] = 3;
+    check("a slot is redirected", run(&in, 99, 3, report, 9) == LFSCK_OK);
+    check("it names N", memcmp(q + PARENT_LAYOUT + 32, slot, 24) == 0);
+    check("N is made in the unused row", in.objects[0] == 1 &&
+                                             memcmp(in.objects + OBJECT_SELF, n, 16) == 0);
+    check("it is counted as MULTIPLE", report[LFSCK_REPORT_STEPS] == 6 &&
+                                           report[LFSCK_REPORT_MULTIPLE] == 1);
+
+    in = shared();
+    in.reserve_bytes = 0;
+    check("no reserve", run(&in, 99, 3, report, 9) == LFSCK_NO_RESERVE);
+    check("it rests on Q's slot", stands_at(&in, 1, 1, 1) && report[LFSCK_REPORT_STEPS] == 3);
+}
+
+/* P is absent, and A, which may hold data, claims a slot of it. */
+static struct input orphan(uint8_t index)
+{
+    struct input in = sound();
+
+    memset(in.parents, 0, LFSCK_PARENT_BYTES);
+    in.objects[LFSCK_OBJECT_BYTES + OBJECT_CLAIM + 12] = index;
+    in.policy = LFSCK_ADOPT;
+    return in;
+}
+
+/* E10: a parent of 160 slots is made, with A in the last. */
+static void test_made_parent(void)
+{
+    struct input in = orphan(159);
+    struct input before;
+    uint64_t report[9];
+    uint8_t made[LFSCK_PARENT_BYTES] = {1};
+    uint8_t *layout = made + PARENT_LAYOUT;
+
+    memcpy(made + PARENT_SELF, p, 16);
+    made[PARENT_LENGTH] = (32 + 24 * 160) % 256;
+    made[PARENT_LENGTH + 1] = (32 + 24 * 160) / 256;
+    memcpy(layout, e2, 32);
+    layout[7] = 0x40;
+    layout[28] = 160;
+    memcpy(layout + 32 + 24 * 159, e2 + 32, 24);
+    check("E10, index 159", run(&in, 99, 3, report, 9) == LFSCK_OK);
+    check("a parent of 160 slots", memcmp(in.parents, made, sizeof made) == 0);
+    check("it is counted as ORPHAN", report[LFSCK_REPORT_STEPS] == 4 &&
+                                         report[LFSCK_REPORT_ORPHAN] == 1);
+
+    in = orphan(160);
+    memcpy(&before, &in, sizeof before);
+    check("E10, index 160", run(&in, 99, 3, report, 9) == LFSCK_OK);
+    check("CONFLICT, no change", memcmp(in.parents, before.parents, sizeof in.parents) == 0 &&
+                                     memcmp(in.objects, before.objects, sizeof in.objects) == 0);
+
+    in = orphan(159);
+    in.parents_bytes = 0;
+    in.position[0] = LFSCK_STAGE_OBJECTS;
+    check("no parent row", run(&in, 99, 3, report, 9) == LFSCK_NO_PARENT_ROW);
+    check("it rests on the object", stands_at(&in, 2, 1, 0));
+}
+
+static void test_refusals(void)
+{
+    struct input in = dangling();
+    struct input before;
+    uint64_t report[9] = {99, 99, 99, 99, 99, 99, 99, 99, 99};
+    int untouched = 1;
+
+    in.policy = LFSCK_CREATE;
+    memcpy(&before, &in, sizeof before);
+    check("a position of two numbers", run(&in, 9, 2, report, 9) == LFSCK_NO_POSITION);
+    check("16 before 17", run(&in, 9, 2, report, 8) == LFSCK_NO_POSITION);
+    check("a report of eight numbers", run(&in, 9, 3, report, 8) == LFSCK_NO_ROOM);
+    in.policy = 4;
+    check("policy 4", run(&in, 9, 3, report, 9) == LFSCK_BAD_POLICY);
+    in.policy = LFSCK_CREATE;
+    in.position[0] = 4;
+    check("stage 4", run(&in, 9, 3, report, 9) == LFSCK_NO_POSITION);
+    in.position[0] = LFSCK_STAGE_PARENTS;
+    in.parents_bytes--;
+    check("no whole rows", run(&in, 9, 3, report, 9) == LFSCK_BAD_TABLE);
+    in.parents_bytes++;
+    for (int i = 0; i < 9; i++)
+        untouched = untouched && report[i] == 99;
+    check("nothing is written then", untouched && memcmp(&in, &before, sizeof in) == 0);
+}
+
+int main(void)
+{
+    test_dangling();
+    test_stop();
+    test_redirect();
+    test_made_parent();
+    test_refusals();
+    return report_all();
+}
