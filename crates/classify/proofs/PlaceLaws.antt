@@ -50,13 +50,13 @@ module _ (p o : List ℕ) (f : MdtFid) (g : OstFid) (r i : ℕ) (found : Lookup)
 -- ## A slot
 
 module _ (T : Tables) (f : MdtFid) (r i : ℕ) (s : Slot) (g : OstFid) (n k : ℕ) (e : s ≡ Names g n k) where
-  pub slot-taken : takeable T f g r i (objectOf T g) ≡ true → Take r ≡ slotWay T f r i s
+  pub slot-taken : (b : Bool) → b ≡ takeable T f g r i (objectOf T g) → b ≡ true → Take r ≡ slotWay T f r i s
   unfolding slotWay
-  slot-taken h = rw (e, h)
+  slot-taken b q h = rw (e, ← q, h)
 
-  pub slot-held : takeable T f g r i (objectOf T g) ≡ false → NoWay ≡ slotWay T f r i s
+  pub slot-held : (b : Bool) → b ≡ takeable T f g r i (objectOf T g) → b ≡ false → NoWay ≡ slotWay T f r i s
   unfolding slotWay
-  slot-held h = rw (e, h)
+  slot-held b q h = rw (e, ← q, h)
 
 -- ## A row
 

@@ -84,24 +84,31 @@ unfolding encodeHeader
 length-header h n = simp (length-append, length-bytes)
 
 -- the fields, stored one by one
-pub header-stores : (l : List ℕ) (h : Header) (n : ℕ) →
-    sets (sets (sets (sets (sets (sets (sets l 0 (bytes 4 (h .magic))) 4 (bytes 4 (h .pattern))) 8 (bytes 8 (h .oid))) 16 (bytes 8 (h .seq)))
-    24 (bytes 4 (h .stripe))) 28 (bytes 2 n)) 30 (bytes 2 (h .generation)) ≡ sets l 0 (encodeHeader h n)
+pub header-stores : (l a b c d e f x : List ℕ) (h : Header) (n : ℕ) → a ≡ sets l 0 (bytes 4 (h .magic)) →
+    b ≡ sets a 4 (bytes 4 (h .pattern)) → c ≡ sets b 8 (bytes 8 (h .oid)) → d ≡ sets c 16 (bytes 8 (h .seq)) →
+    e ≡ sets d 24 (bytes 4 (h .stripe)) → f ≡ sets e 28 (bytes 2 n) → x ≡ sets f 30 (bytes 2 (h .generation)) → x ≡ sets l 0 (encodeHeader h n)
 unfolding encodeHeader
-header-stores l h n =
+header-stores l a b c d e f x h n ea eb ec ed ee ef ex =
     let m : List ℕ = bytes 4 (h .magic) in
     let p : List ℕ = m ++ bytes 4 (h .pattern) in
     let o : List ℕ = p ++ bytes 8 (h .oid) in
     let s : List ℕ = o ++ bytes 8 (h .seq) in
     let t : List ℕ = s ++ bytes 4 (h .stripe) in
-    let c : List ℕ = t ++ bytes 2 n in
+    let u : List ℕ = t ++ bytes 2 n in
     rw (
+      ex,
+      ef,
+      ee,
+      ed,
+      ec,
+      eb,
+      ea,
       sets-at m (bytes 4 (h .pattern)) l 0 4 (length-bytes 4 (h .magic)),
       sets-at p (bytes 8 (h .oid)) l 0 8 (simp (length-append, length-bytes)),
       sets-at o (bytes 8 (h .seq)) l 0 16 (simp (length-append, length-bytes)),
       sets-at s (bytes 4 (h .stripe)) l 0 24 (simp (length-append, length-bytes)),
       sets-at t (bytes 2 n) l 0 28 (simp (length-append, length-bytes)),
-      sets-at c (bytes 2 (h .generation)) l 0 30 (simp (length-append, length-bytes)),
+      sets-at u (bytes 2 (h .generation)) l 0 30 (simp (length-append, length-bytes)),
     )
 
 -- the fields fit their widths

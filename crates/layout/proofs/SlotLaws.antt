@@ -73,17 +73,22 @@ length-slot Hole = refl
 length-slot (Names f g i) = simp (length-append, length-bytes, length-encode)
 
 -- the stores of put_slot, over 24 bytes
-pub put-hole : (l : List ℕ) → length l ≡ 24 → sets (sets (sets l 0 (bytes 8 0)) 8 (bytes 8 0)) 16 (bytes 8 0) ≡ encodeSlot Hole
+pub put-hole : (l a b x : List ℕ) (s : Slot) → length l ≡ 24 → s ≡ Hole → a ≡ sets l 0 (bytes 8 0) → b ≡ sets a 8 (bytes 8 0) →
+    x ≡ sets b 16 (bytes 8 0) → x ≡ encodeSlot s
 unfolding encodeSlot bytes
-put-hole l e = sets-whole (encodeSlot Hole) l e
+put-hole l a b x s e h p q r = rw (r, q, p, h) (sets-whole (encodeSlot Hole) l e)
 
-pub put-names : (l : List ℕ) (f : Fid) (g i : ℕ) → length l ≡ 24 →
-    sets (sets (sets l 0 (encodeFid f)) 16 (bytes 4 g)) 20 (bytes 4 i) ≡ encodeSlot (Names (record { 0 = f }) g i)
+pub put-names : (l a b x : List ℕ) (s : Slot) (f : OstFid) (g i : ℕ) → length l ≡ 24 → s ≡ Names f g i → a ≡ sets l 0 (encodeFid (f .0)) →
+    b ≡ sets a 16 (bytes 4 g) → x ≡ sets b 20 (bytes 4 i) → x ≡ encodeSlot s
 unfolding encodeSlot
-put-names l f g i e =
+put-names l a b x s f g i e h p q r =
     rw (
-      sets-at (encodeFid f) (bytes 4 g) l 0 16 (length-encode f),
-      sets-at (encodeFid f ++ bytes 4 g) (bytes 4 i) l 0 20 (simp (length-append, length-bytes, length-encode)),
+      r,
+      q,
+      p,
+      h,
+      sets-at (encodeFid (f .0)) (bytes 4 g) l 0 16 (length-encode (f .0)),
+      sets-at (encodeFid (f .0) ++ bytes 4 g) (bytes 4 i) l 0 20 (simp (length-append, length-bytes, length-encode)),
     )
     (sets-whole _ l (simp (length-append, length-bytes, length-encode) e))
 

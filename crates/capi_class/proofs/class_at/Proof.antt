@@ -1,4 +1,4 @@
-use native.Mathlib.Omega.{arith}
+use mathlib.Core.Path.{sym, _∙_}
 use Rattle.tables.specs.Positions.{place}
 use Rattle.capi_class.proofs.ClassLaws.{class-none, class-short, class-done}
 use borrow.Author.Needs.{needs}
@@ -24,21 +24,21 @@ class-numbers-requires c κs = search needs
 
 returns : tie.Need-returns
 unfolding place
-returns c = let v = c .before .before .before .told2 .given .0 in class-short _ _ (v .0) (cc) _ (c .before .class-numbers .ensures) (omega arith)
+returns c = let v = c .before .before .before .told2 .given .0 in class-short _ _ (v .0) (sym (c .before .before .before .before .before .class-at .ensures) ∙ c .before .before .before .told2 .given .1) _ (c .before .class-numbers .ensures) (c .if1 .taken)
 
 put-class-requires : tie.Need-put-class-requires
 put-class-requires c κs = search needs
 
 returns-2 : tie.Need-returns-2
 unfolding place
-returns-2 c = class-none _ _ _ _ _ (cc)
+returns-2 c = class-none _ _ _ _ _ (sym (c .before .before .before .class-at .ensures) ∙ c .before .told .given .1)
 
 same-length : tie.Need-same-length
 same-length c = search needs
 
 returns-3 : tie.Need-returns-3
 unfolding place
-returns-3 c = let v = c .before .before .before .before .before .before .before .told2 .given .0 in class-done _ _ (v .0) (cc) _ (c .before .before .before .before .before .class-numbers .ensures) _ (omega arith) (c .before .before .put-class .ensures)
+returns-3 c = let v = c .before .before .before .before .before .before .before .told2 .given .0 in class-done _ _ (v .0) (sym (c .before .before .before .before .before .before .before .before .before .class-at .ensures) ∙ c .before .before .before .before .before .before .before .told2 .given .1) _ (c .before .before .before .before .before .class-numbers .ensures) _ (c .before .before .before .before .if1 .left) (c .before .before .put-class .ensures)
 
 pub class-at-spec : {M : Type 1} → statement M
 class-at-spec =

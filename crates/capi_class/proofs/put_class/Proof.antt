@@ -14,7 +14,7 @@ same-length c = search needs
 
 returns : tie.Need-returns
 unfolding listed
-returns c = cc
+returns c = c .before .before .put-four .ensures
 
 pub put-class-spec : {M : Type 1} → statement M
 put-class-spec = tie.close (tie.spec put-four-requires same-length returns)

@@ -1,3 +1,4 @@
+use mathlib.Core.Path.{sym, ap, _∙_}
 use Rattle.rules.specs.Classes.{slotNumbers}
 use Rattle.capi_class.specs.Classes.{listed}
 use borrow.Author.Needs.{needs}
@@ -54,23 +55,23 @@ bare-requires-6 c κs = search needs
 
 returns : tie.Need-returns
 unfolding slotNumbers
-returns c = cc
+returns c = c .bare .ensures ∙ ap slotNumbers (sym (c .before .enum-told .given .1))
 
 returns-2 : tie.Need-returns-2
 unfolding slotNumbers
-returns-2 c = cc
+returns-2 c = c .bare2 .ensures ∙ ap slotNumbers (sym (c .before .enum-told2 .given .1))
 
 returns-3 : tie.Need-returns-3
 unfolding slotNumbers
-returns-3 c = cc
+returns-3 c = c .bare3 .ensures ∙ ap slotNumbers (sym (c .before .enum-told3 .given .1))
 
 returns-4 : tie.Need-returns-4
 unfolding slotNumbers
-returns-4 c = cc
+returns-4 c = c .bare4 .ensures ∙ ap slotNumbers (sym (c .before .enum-told4 .given .1))
 
 returns-5 : tie.Need-returns-5
 unfolding slotNumbers
-returns-5 c = cc
+returns-5 c = c .bare5 .ensures ∙ ap slotNumbers (sym (c .before .enum-told5 .given .1))
 
 returns-6 : tie.Need-returns-6
 unfolding slotNumbers listed
@@ -78,7 +79,7 @@ returns-6 c = cc
 
 returns-7 : tie.Need-returns-7
 unfolding slotNumbers
-returns-7 c = cc
+returns-7 c = c .bare6 .ensures ∙ ap slotNumbers (sym (c .before .enum-told6 .given .1))
 
 pub slot-numbers-spec : {M : Type 1} → statement M
 slot-numbers-spec =

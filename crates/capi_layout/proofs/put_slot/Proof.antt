@@ -38,13 +38,13 @@ same-length : tie.Need-same-length
 same-length c = search needs
 
 returns : tie.Need-returns
-returns c = hole-put _ _ _ _ (cc) (c .before .before .before .before .before .before .put-four .ensures) (c .before .before .put .ensures)
+returns c = hole-put _ _ _ _ (c .before .before .before .before .before .before .before .before .enum-told .given .1) (c .before .before .before .before .before .before .put-four .ensures) (c .before .before .put .ensures)
 
 same-length-2 : tie.Need-same-length-2
 same-length-2 c = search needs
 
 returns-2 : tie.Need-returns-2
-returns-2 c = let v = c .before .before .before .before .before .before .before .before .before .before .before .s .given .0 in names-put _ _ _ _ (v .0) (v .1 .0) (v .1 .1 .0) (cc) (c .before .before .before .before .before .before .put-four2 .ensures) (c .before .before .put2 .ensures)
+returns-2 c = let v = c .before .before .before .before .before .before .before .before .before .before .before .s .given .0 in names-put _ _ _ _ (v .0) (v .1 .0) (v .1 .1 .0) (c .before .before .before .before .before .before .before .before .before .before .before .s .given .1) (c .before .before .before .before .before .before .put-four2 .ensures) (c .before .before .put2 .ensures)
 
 pub put-slot-spec : {M : Type 1} → statement M
 put-slot-spec =

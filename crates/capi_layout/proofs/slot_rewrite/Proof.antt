@@ -39,13 +39,13 @@ rewrite-requires : tie.Need-rewrite-requires
 rewrite-requires c κs = search needs
 
 returns-2 : tie.Need-returns-2
-returns-2 c = rewrite-none _ _ _ _ (omega arith) (c .before .before .given-from .ensures) (cc)
+returns-2 c = rewrite-none _ _ _ _ (omega arith) (c .before .before .given-from .ensures) (c .enum-told .given .1)
 
 same-length : tie.Need-same-length
 same-length c = search needs
 
 returns-3 : tie.Need-returns-3
-returns-3 c = let v = c .before .before .before .before .before .given .given .0 in rewrite-slot _ _ _ _ (v .0) _ _ (omega arith) (c .before .before .before .before .before .before .before .given-from .ensures) (cc) (c .before .before .rewrite .ensures .0) (c .before .before .rewrite .ensures .1)
+returns-3 c = let v = c .before .before .before .before .before .given .given .0 in rewrite-slot _ _ _ _ (v .0) _ _ (omega arith) (c .before .before .before .before .before .before .before .given-from .ensures) (c .before .before .before .before .before .given .given .1) (c .before .before .rewrite .ensures .0) (c .before .before .rewrite .ensures .1)
 
 pub slot-rewrite-spec : {M : Type 1} → statement M
 slot-rewrite-spec =

@@ -1,4 +1,3 @@
-use native.Mathlib.Omega.{arith}
 use mathlib.Core.Path.{sym, _∙_}
 use borrow.Author.Tests.{not-true, not-false}
 use Rattle.capi_write.proofs.WriteNumbers.{write-refused, write-unplaced, write-full, write-wrong, write-done}
@@ -18,7 +17,7 @@ returns : tie.Need-returns
 returns c = write-refused _ _ _ _ _ _ (sym (c .before .may-write .ensures) ∙ not-true _ (c .if1 .taken))
 
 returns-2 : tie.Need-returns-2
-returns-2 c = write-unplaced _ _ _ _ _ _ (sym (c .before .before .may-write .ensures) ∙ not-false _ (c .before .if1 .left)) (omega arith)
+returns-2 c = write-unplaced _ _ _ _ _ _ (sym (c .before .before .may-write .ensures) ∙ not-false _ (c .before .if1 .left)) (c .if2 .taken)
 
 write-requires : tie.Need-write-requires
 write-requires c κs = search needs
@@ -39,13 +38,13 @@ same-length : tie.Need-same-length
 same-length c = search needs
 
 returns-3 : tie.Need-returns-3
-returns-3 c = write-wrong _ _ _ _ _ _ _ (cc) (c .before .before .before .before .write .ensures .1)
+returns-3 c = write-wrong _ _ _ _ _ _ _ (sym (c .before .before .before .before .write .ensures .0) ∙ c .enum-told .given .1) (c .before .before .before .before .write .ensures .1)
 
 same-length-2 : tie.Need-same-length-2
 same-length-2 c = search needs
 
 returns-4 : tie.Need-returns-4
-returns-4 c = write-full _ _ _ _ _ _ _ (cc) (c .before .before .before .before .write .ensures .1)
+returns-4 c = write-full _ _ _ _ _ _ _ (sym (c .before .before .before .before .write .ensures .0) ∙ c .enum-told2 .given .1) (c .before .before .before .before .write .ensures .1)
 
 same-length-3 : tie.Need-same-length-3
 same-length-3 c = search needs
@@ -54,7 +53,7 @@ same-length-4 : tie.Need-same-length-4
 same-length-4 c = search needs
 
 returns-5 : tie.Need-returns-5
-returns-5 c = write-done _ _ _ _ _ _ (c .before .before .before .before .before .written .given .0 .0) _ _ (cc) (omega arith) (c .before .before .before .before .before .before .before .before .before .write .ensures .1) (c .before .before .put .ensures)
+returns-5 c = write-done _ _ _ _ _ _ (c .before .before .before .before .before .written .given .0 .0) _ _ (sym (c .before .before .before .before .before .before .before .before .before .write .ensures .0) ∙ c .before .before .before .before .before .written .given .1) (c .before .before .before .before .before .before .before .before .before .before .before .if2 .left) (c .before .before .before .before .before .before .before .before .before .write .ensures .1) (c .before .before .put .ensures)
 
 pub write-given-spec : {M : Type 1} → statement M
 write-given-spec =

@@ -1,3 +1,4 @@
+use mathlib.Core.Path.{sym, _∙_}
 use Rattle.layout.proofs.GivenLaws.{given-put-none, given-put}
 use borrow.Author.Needs.{needs}
 use Rattle.layout.proofs.put_given.Statement.{statement}
@@ -26,13 +27,13 @@ same-length : tie.Need-same-length
 same-length c = search needs
 
 returns : tie.Need-returns
-returns c = given-put-none _ _ _ (c .before .before .put-slot .ensures) (cc)
+returns c = given-put-none _ _ _ (c .before .before .put-slot .ensures) (sym (c .before .before .before .before .before .before .given-at .ensures) ∙ c .before .before .before .before .enum-told .given .1)
 
 same-length-2 : tie.Need-same-length-2
 same-length-2 c = search needs
 
 returns-2 : tie.Need-returns-2
-returns-2 c = given-put _ _ _ _ (c .before .before .put-slot2 .ensures) (cc)
+returns-2 c = given-put _ _ _ _ (c .before .before .put-slot2 .ensures) (sym (c .before .before .before .before .before .before .before .given-at .ensures) ∙ c .before .before .before .before .before .g .given .1)
 
 pub put-given-spec : {M : Type 1} → statement M
 put-given-spec =

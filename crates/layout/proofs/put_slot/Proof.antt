@@ -1,4 +1,3 @@
-use denote.Ref.{now}
 use Rattle.layout.proofs.SlotLaws.{put-hole, put-names}
 use borrow.Author.Needs.{needs}
 use Rattle.layout.proofs.put_slot.Statement.{statement}
@@ -37,17 +36,24 @@ same-length : tie.Need-same-length
 same-length c = search needs
 
 returns : tie.Need-returns
-returns c = let d = c .before .before .before .before .before .before .before .before .before .before .before .before .before .before .before in cc (put-hole (now (d .args .part)) (d .pre))
+returns c =
+    let x = c .before .before in
+    let b = x .before .before .before .before in
+    let a = b .before .before .before .before in
+    let k = a .before .before in
+    put-hole _ _ _ _ _ (k .before .before .before .pre) (k .enum-told .given .1) (a .put-le64 .ensures) (b .put-le642 .ensures) (x .put-le643 .ensures)
 
 same-length-2 : tie.Need-same-length-2
 same-length-2 c = search needs
 
 returns-2 : tie.Need-returns-2
 returns-2 c =
-    let k = c .before .before .before .before .before .before .before .before .before .before .before .before .before .before in
+    let x = c .before .before in
+    let b = x .before .before .before .before in
+    let a = b .before .before .before .before in
+    let k = a .before .before .before .before in
     let v = k .s .given .0 in
-    let d = k .before .before .before in
-    cc (put-names (now (d .args .part)) (v .0 .0) (v .1 .0) (v .1 .1 .0) (d .pre))
+    put-names _ _ _ _ _ (v .0) (v .1 .0) (v .1 .1 .0) (k .before .before .before .pre) (k .s .given .1) (a .write-fid .ensures) (b .put-le32 .ensures) (x .put-le322 .ensures)
 
 pub put-slot-spec : {M : Type 1} → statement M
 put-slot-spec =

@@ -18,7 +18,7 @@ enum-known-found c = search needs
 returns : tie.Need-returns
 returns c =
     let a = c .before .before .before .before .before .before .before .before .args in
-    take-stale (now (a .parents)) (now (a .objects)) (a .f) (a .g) (a .r) (a .i) _ (c .before .before .before .before .before .lookup .ensures) (c .before .before .before .found .given .0 .0) (cc) (not-true _ (c .if1 .taken))
+    take-stale (now (a .parents)) (now (a .objects)) (a .f) (a .g) (a .r) (a .i) _ (c .before .before .before .before .before .lookup .ensures) (c .before .before .before .found .given .0 .0) (c .before .before .before .found .given .1) (not-true _ (c .if1 .taken))
 
 claim-is-requires : tie.Need-claim-is-requires
 claim-is-requires c κs = search needs
@@ -26,7 +26,7 @@ claim-is-requires c κs = search needs
 returns-2 : tie.Need-returns-2
 returns-2 c =
     let a = c .before .before .before .before .before .before .before .before .before .before .args in
-    take-other (now (a .parents)) (now (a .objects)) (a .f) (a .g) (a .r) (a .i) _ (c .before .before .before .before .before .before .before .lookup .ensures) (c .before .before .before .before .before .found .given .0 .0) (cc) (not-false _ (c .before .before .if1 .left)) (sym (c .before .claim-is .ensures) ∙ not-true _ (c .if2 .taken))
+    take-other (now (a .parents)) (now (a .objects)) (a .f) (a .g) (a .r) (a .i) _ (c .before .before .before .before .before .before .before .lookup .ensures) (c .before .before .before .before .before .found .given .0 .0) (c .before .before .before .before .before .found .given .1) (not-false _ (c .before .before .if1 .left)) (sym (c .before .claim-is .ensures) ∙ not-true _ (c .if2 .taken))
 
 named-else-requires : tie.Need-named-else-requires
 named-else-requires c κs = search needs
@@ -34,12 +34,12 @@ named-else-requires c κs = search needs
 returns-3 : tie.Need-returns-3
 returns-3 c =
     let a = c .before .before .before .before .before .args in
-    take-missing (now (a .parents)) (now (a .objects)) (a .f) (a .g) (a .r) (a .i) _ (c .before .before .lookup .ensures) (cc)
+    take-missing (now (a .parents)) (now (a .objects)) (a .f) (a .g) (a .r) (a .i) _ (c .before .before .lookup .ensures) (c .enum-told .given .1)
 
 returns-4 : tie.Need-returns-4
 returns-4 c =
     let a = c .before .before .before .before .before .before .before .before .before .before .before .args in
-    take-alone (now (a .parents)) (now (a .objects)) (a .f) (a .g) (a .r) (a .i) _ (c .before .before .before .before .before .before .before .before .lookup .ensures) (c .before .before .before .before .before .before .found .given .0 .0) (cc) (not-false _ (c .before .before .before .if1 .left)) (sym (c .before .before .claim-is .ensures) ∙ not-false _ (c .before .if2 .left)) _ (c .named-else .ensures)
+    take-alone (now (a .parents)) (now (a .objects)) (a .f) (a .g) (a .r) (a .i) _ (c .before .before .before .before .before .before .before .before .lookup .ensures) (c .before .before .before .before .before .before .found .given .0 .0) (c .before .before .before .before .before .before .found .given .1) (not-false _ (c .before .before .before .if1 .left)) (sym (c .before .before .claim-is .ensures) ∙ not-false _ (c .before .if2 .left)) _ (c .named-else .ensures)
 
 pub takeable-spec : {M : Type 1} → statement M
 takeable-spec =

@@ -1,3 +1,4 @@
+use mathlib.Core.Path.{sym, _∙_}
 use mathlib.Core.List.{[]}
 use native.Mathlib.Omega.{arith}
 use denote.Ref.{now}
@@ -20,13 +21,13 @@ enum-known-row : tie.Need-enum-known-row
 enum-known-row c = search needs
 
 row-way-requires : tie.Need-row-way-requires
-row-way-requires c κs = let a = c .before .before .before .before .before .before .before .args in (c .before .before .before .before .before .before .before .pre, parent-inside (now (a .parents)) [] (a .f) (c .before .row .given .0 .0) (cc))
+row-way-requires c κs = let a = c .before .before .before .before .before .before .before .args in (c .before .before .before .before .before .before .before .pre, parent-inside (now (a .parents)) [] (a .f) (c .before .row .given .0 .0) (sym (c .before .before .before .parent-row .ensures) ∙ c .before .row .given .1))
 
 returns-2 : tie.Need-returns-2
-returns-2 c = let a = c .before .before .before .before .before .before .args in way-absent (now (a .parents)) (now (a .objects)) (a .f) (a .i) (omega arith) (cc)
+returns-2 c = let a = c .before .before .before .before .before .before .args in way-absent (now (a .parents)) (now (a .objects)) (a .f) (a .i) (c .before .before .before .if1 .left) (sym (c .before .before .parent-row .ensures) ∙ c .enum-told .given .1)
 
 returns-3 : tie.Need-returns-3
-returns-3 c = let a = c .before .before .before .before .before .before .before .before .args in way-row (now (a .parents)) (now (a .objects)) (a .f) (a .i) (omega arith) (c .before .before .row .given .0 .0) _ (cc) (c .row-way .ensures)
+returns-3 c = let a = c .before .before .before .before .before .before .before .before .args in way-row (now (a .parents)) (now (a .objects)) (a .f) (a .i) (c .before .before .before .before .before .if1 .left) (c .before .before .row .given .0 .0) _ (sym (c .before .before .before .before .parent-row .ensures) ∙ c .before .before .row .given .1) (c .row-way .ensures)
 
 pub way-spec : {M : Type 1} → statement M
 way-spec =

@@ -1,3 +1,4 @@
+use mathlib.Core.Path.{sym, ap, _∙_}
 use Rattle.rules.specs.Runs.{countOf}
 use borrow.Author.Needs.{needs}
 use Rattle.engine.proofs.counts.one.Statement.{statement}
@@ -73,42 +74,42 @@ counts-requires-8 c κs = search needs
 -- src/counts.rt:37:1
 returns : tie.Need-returns
 unfolding countOf
-returns c = cc
+returns c = c .counts .ensures ∙ ap countOf (sym (c .before .enum-told .given .1))
 
 -- src/counts.rt:37:1
 returns-2 : tie.Need-returns-2
 unfolding countOf
-returns-2 c = cc
+returns-2 c = c .counts2 .ensures ∙ ap countOf (sym (c .before .enum-told2 .given .1))
 
 -- src/counts.rt:37:1
 returns-3 : tie.Need-returns-3
 unfolding countOf
-returns-3 c = cc
+returns-3 c = c .counts3 .ensures ∙ ap countOf (sym (c .before .enum-told3 .given .1))
 
 -- src/counts.rt:37:1
 returns-4 : tie.Need-returns-4
 unfolding countOf
-returns-4 c = cc
+returns-4 c = c .counts4 .ensures ∙ ap countOf (sym (c .before .enum-told4 .given .1))
 
 -- src/counts.rt:37:1
 returns-5 : tie.Need-returns-5
 unfolding countOf
-returns-5 c = cc
+returns-5 c = c .counts5 .ensures ∙ ap countOf (sym (c .before .enum-told5 .given .1))
 
 -- src/counts.rt:37:1
 returns-6 : tie.Need-returns-6
 unfolding countOf
-returns-6 c = cc
+returns-6 c = c .counts6 .ensures ∙ ap countOf (sym (c .before .enum-told6 .given .1))
 
 -- src/counts.rt:37:1
 returns-7 : tie.Need-returns-7
 unfolding countOf
-returns-7 c = cc
+returns-7 c = c .counts7 .ensures ∙ ap countOf (sym (c .before .enum-told7 .given .1))
 
 -- src/counts.rt:37:1
 returns-8 : tie.Need-returns-8
 unfolding countOf
-returns-8 c = cc
+returns-8 c = c .counts8 .ensures ∙ ap countOf (sym (c .before .enum-told8 .given .1))
 
 pub one-spec : {M : Type 1} → statement M
 one-spec =

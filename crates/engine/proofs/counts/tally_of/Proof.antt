@@ -1,3 +1,6 @@
+use mathlib.Core.Path.{sym, ap, _∙_}
+use Rattle.rules.specs.declared.Counts.{Counts}
+use Rattle.engine.specs.declared.counts.Tally.the-variants.{Goes}
 use Rattle.engine.specs.Tallies.{tally}
 use borrow.Author.Needs.{needs}
 use Rattle.engine.proofs.counts.tally_of.Statement.{statement}
@@ -30,17 +33,17 @@ enum-known-o-2 c = search needs
 -- src/counts.rt:52:1
 returns : tie.Need-returns
 unfolding tally
-returns c = cc
+returns c = ap (λ (k : Counts). Goes k) (c .none .ensures) ∙ ap tally (sym (c .before .enum-told .given .1))
 
 -- src/counts.rt:52:1
 returns-2 : tie.Need-returns-2
 unfolding tally
-returns-2 c = cc
+returns-2 c = ap (λ (k : Counts). Goes k) (c .one .ensures) ∙ ap tally (sym (c .before .before .o .given .1))
 
 -- src/counts.rt:52:1
 returns-3 : tie.Need-returns-3
 unfolding tally
-returns-3 c = cc
+returns-3 c = ap tally (sym (c .before .o2 .given .1))
 
 pub tally-of-spec : {M : Type 1} → statement M
 tally-of-spec =

@@ -108,7 +108,7 @@ returns-2 c =
     let a = v .args in
     let e = w .step .ensures in
     let n = sym (w .before .before .before .if1 .left) ∙ w .before .before .before .before .is-end .ensures in
-    clauses (l .inv .5 ∙ here-stuck (l .parents) (l .objects) (now (a .reserve)) (a .policy) (a .most) (l .counts) (l .position) (l .done) (l .inv .4) (w .step .result) _ _ (w .before .before .before .before .before .loop-test .taken) n (e .0) (e .1 .0) (e .1 .1) (c .before .tally .given .0 .0) (cc))
+    clauses (l .inv .5 ∙ here-stuck (l .parents) (l .objects) (now (a .reserve)) (a .policy) (a .most) (l .counts) (l .position) (l .done) (l .inv .4) (w .step .result) _ _ (w .before .before .before .before .before .loop-test .taken) n (e .0) (e .1 .0) (e .1 .1) (c .before .tally .given .0 .0) (sym (c .before .tally .given .1) ∙ c .before .before .before .tally-of .ensures))
 
 -- src/steps.rt:40:25
 enum-known-tally-2 : tie.Need-enum-known-tally-2 Inv-loop μ-loop
@@ -116,7 +116,7 @@ enum-known-tally-2 c = search needs
 
 -- the step was made, and this is what it counts
 goes : (c : tie.After-known-told2 Inv-loop μ-loop) → Goes (c .before .tally2 .given .0 .0) ≡ tally (c .before .before .before .before .before .before .before .before .step .result)
-goes c = cc
+goes c = sym (c .before .tally2 .given .1) ∙ c .before .before .before .tally-of .ensures
 
 -- src/steps.rt:41:17
 added-requires : tie.Need-added-requires Inv-loop μ-loop

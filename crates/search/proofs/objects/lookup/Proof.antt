@@ -1,5 +1,5 @@
 use mathlib.Core.List.{[]}
-use mathlib.Core.Path.{ap, _∙_}
+use mathlib.Core.Path.{sym, ap, _∙_}
 use native.Mathlib.Omega.{arith}
 use denote.Ref.{now}
 use Rattle.rules.specs.declared.Lookup.the-variants.{Present}
@@ -21,20 +21,20 @@ enum-known-found c = search needs
 row-at-requires : tie.Need-row-at-requires
 row-at-requires c κs =
     let a = c .before .before .before .before .before .args in
-    let h = object-inside [] (now (a .objects)) (a .f) (c .before .found .given .0 .0) (cc) in
+    let h = object-inside [] (now (a .objects)) (a .f) (c .before .found .given .0 .0) (sym (c .before .before .before .object-row .ensures) ∙ c .before .found .given .1) in
     omega arith
 
 decode-object-requires : tie.Need-decode-object-requires
 decode-object-requires c κs = search needs
 
 returns : tie.Need-returns
-returns c = let a = c .before .before .before .before .args in lookup-missing (now (a .objects)) (a .f) (cc)
+returns c = let a = c .before .before .before .before .args in lookup-missing (now (a .objects)) (a .f) (sym (c .before .before .object-row .ensures) ∙ c .enum-told .given .1)
 
 returns-2 : tie.Need-returns-2
 returns-2 c =
     let a = c .before .before .before .before .before .before .before .args in
     ap (λ (x : Object). Present x) (c .decode-object .ensures)
-    ∙ lookup-present (now (a .objects)) (a .f) (c .before .before .before .found .given .0 .0) _ (cc) (c .before .row-at .ensures .0)
+    ∙ lookup-present (now (a .objects)) (a .f) (c .before .before .before .found .given .0 .0) _ (sym (c .before .before .before .before .before .object-row .ensures) ∙ c .before .before .before .found .given .1) (c .before .row-at .ensures .0)
 
 pub lookup-spec : {M : Type 1} → statement M
 lookup-spec =
