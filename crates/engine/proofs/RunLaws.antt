@@ -21,6 +21,7 @@ use Rattle.rules.specs.declared.Repair.the-variants.{OfSelf, OfMultiple, OfDang
 use Rattle.rules.specs.declared.Outcome.{Outcome}
 use Rattle.rules.specs.declared.Outcome.the-variants.{Rested, Repaired, Stopped}
 use Rattle.rules.specs.declared.Counts.{Counts}
+use Rattle.rules.specs.declared.Report.{Report}
 use Rattle.repair.specs.StepBytes.{stepOf, parentsAfter, objectsAfter}
 use Rattle.engine.specs.RunBytes.{Ran, refused, rendered, runBytes}
 use Rattle.engine.specs.Ready.{stepsBytes}
@@ -32,6 +33,10 @@ use Rattle.engine.proofs.Standing.{Good, good-step, still-is, Stands, w
 -- the clauses of a run's contract
 pub clauses : {x y : Ran} → x ≡ y → (y .report ≡ x .report) × ((y .parents ≡ x .parents) × (y .objects ≡ x .objects))
 clauses e = ((λ i. sym e i .report), ((λ i. sym e i .parents), (λ i. sym e i .objects)))
+
+-- the same of a report that is told
+pub told : {x y : Ran} (r : Report) → r ≡ y .report → x ≡ y → (r ≡ x .report) × ((y .parents ≡ x .parents) × (y .objects ≡ x .objects))
+told r q e = let c = clauses e in (q ∙ c .0, c .1)
 
 -- ## Counts
 

@@ -9,7 +9,7 @@ use Rattle.engine.specs.Ready.{stepsBytes}
 use Rattle.engine.specs.Tallies.{tally, Within}
 use Rattle.engine.specs.declared.counts.Tally.the-variants.{Goes}
 use Rattle.engine.proofs.Standing.{Stands, stands-sound, ready-stands}
-use Rattle.engine.proofs.RunLaws.{clauses, none-within, room, within-next, fromHere, here-start, here-end, here-used, here-stuck, here-next, stands-still, stands-next}
+use Rattle.engine.proofs.RunLaws.{told, none-within, room, within-next, fromHere, here-start, here-end, here-used, here-stuck, here-next, stands-still, stands-next}
 use Rattle.engine.proofs.steps.steps.Statement.{statement}
 use Rattle.engine.proofs.steps.steps.Tie as tie
 use Rattle.engine.proofs.steps.steps.Reads as reads
@@ -66,10 +66,10 @@ same-length-2 c = search needs
 -- src/steps.rt:22:13
 returns : tie.Need-returns Inv-loop μ-loop
 returns c =
-    let d = c .before .before .before in
+    let d = c .before .before .before .before in
     let l = d .loop in
     let a = d .before .before .before .before .before .args in
-    clauses (l .inv .5 ∙ here-end (l .parents) (l .objects) (now (a .reserve)) (a .policy) (a .most) (l .counts) (l .position) (l .done) (l .inv .4) (sym (c .if1 .taken) ∙ c .before .is-end .ensures))
+    told _ (c .report .ensures) (l .inv .5 ∙ here-end (l .parents) (l .objects) (now (a .reserve)) (a .policy) (a .most) (l .counts) (l .position) (l .done) (l .inv .4) (sym (c .before .if1 .taken) ∙ c .before .before .is-end .ensures))
 
 -- src/steps.rt:29:13
 step-requires : tie.Need-step-requires Inv-loop μ-loop
@@ -102,13 +102,14 @@ same-length-4 c = search needs
 -- src/steps.rt:33:17
 returns-2 : tie.Need-returns-2 Inv-loop μ-loop
 returns-2 c =
-    let w = c .before .before .before .before .before .before .before .before in
+    let b = c .before in
+    let w = b .before .before .before .before .before .before .before .before in
     let l = w .before .before .before .before .before .before .loop in
     let v = w .before .before .before .before .before .before .before .before .before .before .before in
     let a = v .args in
     let e = w .step .ensures in
     let n = sym (w .before .before .before .if1 .left) ∙ w .before .before .before .before .is-end .ensures in
-    clauses (l .inv .5 ∙ here-stuck (l .parents) (l .objects) (now (a .reserve)) (a .policy) (a .most) (l .counts) (l .position) (l .done) (l .inv .4) (w .step .result) _ _ (w .before .before .before .before .before .loop-test .taken) n (e .0) (e .1 .0) (e .1 .1) (c .before .tally .given .0 .0) (sym (c .before .tally .given .1) ∙ c .before .before .before .tally-of .ensures))
+    told _ (c .report2 .ensures) (l .inv .5 ∙ here-stuck (l .parents) (l .objects) (now (a .reserve)) (a .policy) (a .most) (l .counts) (l .position) (l .done) (l .inv .4) (w .step .result) _ _ (w .before .before .before .before .before .loop-test .taken) n (e .0) (e .1 .0) (e .1 .1) (b .before .tally .given .0 .0) (sym (b .before .tally .given .1) ∙ c .before .before .before .tally-of .ensures))
 
 -- src/steps.rt:40:25
 enum-known-tally-2 : tie.Need-enum-known-tally-2 Inv-loop μ-loop
@@ -185,10 +186,10 @@ same-length-6 c = search needs
 -- src/steps.rt:11:1
 returns-3 : tie.Need-returns-3 Inv-loop μ-loop
 returns-3 c =
-    let d = c .before .before in
+    let d = c .before .before .before in
     let l = d .loop in
     let a = d .before .before .before .before .before .args in
-    clauses (l .inv .5 ∙ here-used (l .parents) (l .objects) (now (a .reserve)) (a .policy) (a .most) (l .counts) (l .position) (l .done) (l .inv .4) (omega arith) _ (c .last-answer .ensures))
+    told _ (c .report3 .ensures) (l .inv .5 ∙ here-used (l .parents) (l .objects) (now (a .reserve)) (a .policy) (a .most) (l .counts) (l .position) (l .done) (l .inv .4) (omega arith) _ (c .before .last-answer .ensures))
 
 pub steps-spec : {M : Type 1} → statement M
 steps-spec =
