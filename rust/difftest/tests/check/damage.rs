@@ -6,8 +6,21 @@ use reference::fid::FIRST_SEQUENCE;
 use reference::layout::SLOT_BYTES;
 use reference::tables::{LAYOUT_AT, OBJECT_BYTES, PARENT_BYTES, RESERVE_BYTES};
 
-#[derive(Clone, Copy, Debug, PartialEq, Eq, PartialOrd, Ord)]
-pub enum Damage {
+/// The enum, and the list of all its cases.
+macro_rules! damages {
+    ($($name:ident,)*) => {
+        #[derive(Clone, Copy, Debug, PartialEq, Eq, PartialOrd, Ord)]
+        pub enum Damage {
+            $($name,)*
+        }
+
+        impl Damage {
+            pub const ALL: &[Damage] = &[$(Damage::$name,)*];
+        }
+    };
+}
+
+damages! {
     // Of a used parent row.
     ParentMark,
     ParentSequence,
@@ -69,64 +82,6 @@ pub enum Damage {
 }
 
 impl Damage {
-    pub const ALL: [Damage; 52] = {
-        use Damage::*;
-        [
-            ParentMark,
-            ParentSequence,
-            ParentId,
-            ParentVersion,
-            ParentTwice,
-            ParentUid,
-            ParentGid,
-            LayoutLength,
-            Magic,
-            Pattern,
-            OwnId,
-            OwnSequence,
-            StripeSize,
-            StripeCount,
-            LayoutGeneration,
-            Pool,
-            SlotSequence,
-            SlotId,
-            SlotVersion,
-            SlotGeneration,
-            SlotOst,
-            Hole,
-            RoomPastLayout,
-            ObjectMark,
-            ObjectSequence,
-            ObjectId,
-            ObjectVersion,
-            ObjectTwice,
-            ObjectOst,
-            ObjectUid,
-            ObjectGid,
-            ClaimSequence,
-            ClaimId,
-            ClaimIndex,
-            ClaimIndexAlone,
-            FreshMark,
-            FreshUnclaimed,
-            UnusedParentMark,
-            UnusedParentFields,
-            UnusedObjectMark,
-            UnusedObjectFields,
-            ReserveSequence,
-            ReserveId,
-            ReserveVersion,
-            ReserveTwice,
-            ParentsLength,
-            ObjectsLength,
-            ReserveLength,
-            Policy,
-            Stage,
-            Row,
-            Part,
-        ]
-    };
-
     /// What the paper answers to the damage alone; nothing where the field may have any value.
     pub fn number(self) -> Option<u32> {
         use Damage::*;

@@ -60,7 +60,7 @@ impl Seen {
             steps: Coverage::of("steps answers", [0, 11, 13, 14, 15, 17]),
             with: Coverage::of("numbers alone, and with a higher one", pairs),
             before_room: Coverage::of("before 17", [11, 13, 14, 15]),
-            damages: Coverage::of("damages alone", Damage::ALL),
+            damages: Coverage::of("damages alone", Damage::ALL.iter().copied()),
             positions: Coverage::of("good positions", places),
             policies: Coverage::of("good policies", 0..=3),
         }
@@ -88,7 +88,7 @@ fn small_tables_are_checked_alike() {
         match random.below(8) {
             0 => expect(&case, None, "sound tables"),
             1..=4 => {
-                let damage = random.pick(&Damage::ALL);
+                let damage = random.pick(Damage::ALL);
                 if damage.make(&mut case, &mut random) {
                     expect(&case, damage.number(), damage);
                     seen.damages.met(damage);
@@ -96,7 +96,7 @@ fn small_tables_are_checked_alike() {
             }
             _ => {
                 for _ in 0..2 + random.below(3) {
-                    random.pick(&Damage::ALL).make(&mut case, &mut random);
+                    random.pick(Damage::ALL).make(&mut case, &mut random);
                 }
             }
         }
