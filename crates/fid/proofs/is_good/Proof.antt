@@ -8,15 +8,12 @@ use Rattle.fid.proofs.is_good.Reads as reads
 use Rattle.fid.proofs.is_good.Lts as lts
 use Rattle.fid.proofs.is_good_number.Reads as is-good-number-reads
 
--- src/lib.rt:60:9
 is-good-number-requires : tie.Need-is-good-number-requires
 is-good-number-requires c κs = search needs
 
--- src/lib.rt:61:9
 returns : tie.Need-returns
 returns c = good-bad _ (sym (c .before .is-good-number .ensures) ∙ not-true _ (c .if1 .taken))
 
--- src/lib.rt:57:1
 returns-2 : tie.Need-returns-2
 returns-2 c = good-version _ (sym (c .before .before .is-good-number .ensures) ∙ not-false _ (c .before .if1 .left))
 

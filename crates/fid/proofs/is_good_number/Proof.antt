@@ -5,15 +5,12 @@ use Rattle.fid.proofs.is_good_number.Tie as tie
 use Rattle.fid.proofs.is_good_number.Reads as reads
 use Rattle.fid.proofs.is_good_number.Lts as lts
 
--- src/lib.rt:48:9
 returns : tie.Need-returns
 returns c = number-low _ (omega arith)
 
--- src/lib.rt:51:9
 returns-2 : tie.Need-returns-2
 returns-2 c = number-high _ (omega arith) (omega arith)
 
--- src/lib.rt:44:1
 returns-3 : tie.Need-returns-3
 returns-3 c = number-id _ (omega arith) (omega arith)
 

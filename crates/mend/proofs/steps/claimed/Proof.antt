@@ -7,19 +7,15 @@ use Rattle.mend.proofs.steps.claimed.Tie as tie
 use Rattle.mend.proofs.steps.claimed.Reads as reads
 use Rattle.mend.proofs.steps.claimed.Lts as lts
 
--- src/steps.rt:119:9
 row-at-requires : tie.Need-row-at-requires
 row-at-requires c κs = search needs
 
--- src/steps.rt:120:9
 owner-of-requires : tie.Need-owner-of-requires
 owner-of-requires c κs = search needs
 
--- src/steps.rt:121:9
 self-of-requires : tie.Need-self-of-requires
 self-of-requires c κs = search needs
 
--- src/steps.rt:115:1
 returns : tie.Need-returns
 unfolding rowBytes
 returns c = let d = c .before .before .before .before .before in let a = d .args in claimed-is (now (a .parents)) (a .r) (d .pre) _ (c .before .before .before .row-at .ensures .0) _ (c .before .before .owner-of .ensures) _ (c .before .self-of .ensures) (a .j) (a .x)

@@ -5,7 +5,6 @@ use Rattle.mend.proofs.steps.creates.Tie as tie
 use Rattle.mend.proofs.steps.creates.Reads as reads
 use Rattle.mend.proofs.steps.creates.Lts as lts
 
--- src/steps.rt:188:1
 returns : tie.Need-returns
 unfolding creates
 returns c = refl

@@ -11,49 +11,38 @@ use Rattle.mend.proofs.steps.header_step.Lts as lts
 use Rattle.classify.proofs.headers.header_class.Reads as header-class-reads
 use Rattle.stores.proofs.files.put_own.Reads as put-own-reads
 
--- src/steps.rt:38:9
 header-class-requires : tie.Need-header-class-requires
 header-class-requires c κs = let d = c .before .before .before in (sound-facts _ _ (d .pre .0) .layouts, d .pre .1)
 
--- src/steps.rt:40:32
 enum-told : tie.Need-enum-told
 enum-told c = search needs
 
--- src/steps.rt:41:31
 enum-told-2 : tie.Need-enum-told-2
 enum-told-2 c = search needs
 
--- src/steps.rt:43:28
 enum-told-3 : tie.Need-enum-told-3
 enum-told-3 c = search needs
 
--- src/steps.rt:43:13
 put-own-requires : tie.Need-put-own-requires
 put-own-requires c κs = let d = c .before .before .before .before .before .before .before in let a = d .args in header-used (now (a .parents)) (now (a .objects)) (a .r) (d .pre .0) (d .pre .1) _ (c .before .before .before .header-class .ensures) (c .before .enum-told3 .given .1)
 
--- src/steps.rt:33:1
 same-length : tie.Need-same-length
 same-length c = search needs
 
--- src/steps.rt:33:1
 returns : tie.Need-returns
 unfolding Bytes
 returns c = let d = c .before .before .before .before .before .before in let a = d .args in header-unused (now (a .parents)) (now (a .objects)) (a .r) (d .pre .0) (d .pre .1) _ (c .before .before .header-class .ensures) (λ i. c .before .before .before .before .before .slice-known .given i .fits) (c .enum-told .given .1)
 
--- src/steps.rt:33:1
 same-length-2 : tie.Need-same-length-2
 same-length-2 c = search needs
 
--- src/steps.rt:33:1
 returns-2 : tie.Need-returns-2
 unfolding Bytes
 returns-2 c = let d = c .before .before .before .before .before .before in let a = d .args in header-clean (now (a .parents)) (now (a .objects)) (a .r) (d .pre .0) (d .pre .1) _ (c .before .before .header-class .ensures) (λ i. c .before .before .before .before .before .slice-known .given i .fits) (c .enum-told2 .given .1)
 
--- src/steps.rt:33:1
 same-length-3 : tie.Need-same-length-3
 same-length-3 c = search needs
 
--- src/steps.rt:33:1
 returns-3 : tie.Need-returns-3
 unfolding Bytes
 returns-3 c = let d = c .before .before .before .before .before .before .before .before .before .before in let a = d .args in header-self (now (a .parents)) (now (a .objects)) (a .r) (d .pre .0) (d .pre .1) _ (c .before .before .before .before .before .before .header-class .ensures) (λ i. c .before .before .before .before .before .before .before .before .before .slice-known .given i .fits) (c .before .before .before .before .enum-told3 .given .1) _ (c .before .before .put-own .ensures)

@@ -10,19 +10,15 @@ use Rattle.tables.proofs.rows.owner_of.Reads as owner-of-reads
 use Rattle.tables.proofs.rows.row_at.Reads as row-at-reads
 use Rattle.tables.proofs.rows.self_of.Reads as self-of-reads
 
--- src/steps.rt:54:9
 row-at-requires : tie.Need-row-at-requires
 row-at-requires c κs = search needs
 
--- src/steps.rt:55:9
 owner-of-requires : tie.Need-owner-of-requires
 owner-of-requires c κs = search needs
 
--- src/steps.rt:56:9
 self-of-requires : tie.Need-self-of-requires
 self-of-requires c κs = search needs
 
--- src/steps.rt:50:1
 returns : tie.Need-returns
 unfolding rowBytes
 returns c = let d = c .before .before .before .before in let a = d .args in new-is (now (a .parents)) (a .r) (d .pre) _ (c .before .before .row-at .ensures .0) _ (c .before .owner-of .ensures) _ (c .self-of .ensures) (a .f) (a .j) (a .ost)

@@ -7,15 +7,12 @@ use Rattle.mend.proofs.steps.owned.Tie as tie
 use Rattle.mend.proofs.steps.owned.Reads as reads
 use Rattle.mend.proofs.steps.owned.Lts as lts
 
--- src/steps.rt:137:32
 row-at-requires : tie.Need-row-at-requires
 row-at-requires c κs = search needs
 
--- src/steps.rt:137:9
 owner-of-requires : tie.Need-owner-of-requires
 owner-of-requires c κs = search needs
 
--- src/steps.rt:133:1
 returns : tie.Need-returns
 unfolding rowBytes
 returns c = let d = c .before .before .before .before in let a = d .args in owned-is (now (a .parents)) (a .r) (d .pre) _ (c .before .before .row-at .ensures .0) _ (c .before .owner-of .ensures) (a .x)

@@ -15,48 +15,37 @@ use Rattle.stores.proofs.objects.put_object.Reads as put-object-reads
 use Rattle.mend.proofs.steps.new_object.Reads as new-object-reads
 use Rattle.search.proofs.objects.free_object.Reads as free-object-reads
 
--- src/steps.rt:73:9
 free-object-requires : tie.Need-free-object-requires
 free-object-requires c κs = search needs
 
--- src/steps.rt:75:23
 enum-told : tie.Need-enum-told
 enum-told c = search needs
 
--- src/steps.rt:76:20
 enum-known-free : tie.Need-enum-known-free
 enum-known-free c = search needs
 
--- src/steps.rt:77:17
 new-object-requires : tie.Need-new-object-requires
 new-object-requires c κs = search needs
 
--- src/steps.rt:78:13
 put-object-requires : tie.Need-put-object-requires
 put-object-requires c κs = let d = c .before .before .before .before .before .before .before .before .before .before in let a = d .args in let h = free-object-inside [] (now (a .objects)) (c .before .before .before .before .free .given .0 .0) (sym (c .before .before .before .before .before .before .free-object .ensures) ∙ c .before .before .before .before .free .given .1) in omega arith
 
--- src/steps.rt:79:13
 put-slot-requires : tie.Need-put-slot-requires
 put-slot-requires c κs = search needs
 
--- src/steps.rt:67:1
 same-length : tie.Need-same-length
 same-length c = search needs
 
--- src/steps.rt:67:1
 returns : tie.Need-returns
 unfolding Bytes
 returns c = let d = c .before .before .before .before .before .before in let a = d .args in redirect-none (now (a .parents)) (now (a .objects)) (a .r) (a .j) (a .ost) (a .f) (d .pre .tables) (d .pre .row) (d .pre .slot) (λ i. c .before .before .before .before .before .slice-known .given i .fits) (λ i. c .before .before .before .before .slice-known2 .given i .fits) (sym (c .before .before .free-object .ensures) ∙ c .enum-told .given .1)
 
--- src/steps.rt:67:1
 same-length-2 : tie.Need-same-length-2
 same-length-2 c = search needs
 
--- src/steps.rt:67:1
 same-length-3 : tie.Need-same-length-3
 same-length-3 c = search needs
 
--- src/steps.rt:67:1
 returns-2 : tie.Need-returns-2
 unfolding Bytes
 returns-2 c = let d = c .before .before .before .before .before .before .before .before .before .before .before .before .before .before .before .before .before in let a = d .args in redirect-done (now (a .parents)) (now (a .objects)) (a .r) (a .j) (a .ost) (a .f) (d .pre .tables) (d .pre .row) (d .pre .slot) (λ i. c .before .before .before .before .before .before .before .before .before .before .before .before .before .before .before .before .slice-known .given i .fits) (λ i. c .before .before .before .before .before .before .before .before .before .before .before .before .before .before .before .slice-known2 .given i .fits) (c .before .before .before .before .before .before .before .before .before .before .before .free .given .0 .0) (sym (c .before .before .before .before .before .before .before .before .before .before .before .before .before .free-object .ensures) ∙ c .before .before .before .before .before .before .before .before .before .before .before .free .given .1) _ (c .before .before .before .before .before .before .before .before .new-object .ensures) _ (c .before .before .before .before .before .before .put-object .ensures) _ (c .before .before .put-slot .ensures)

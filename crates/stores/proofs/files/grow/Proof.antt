@@ -9,35 +9,27 @@ use Rattle.stores.proofs.files.grow.Reads as reads
 use Rattle.stores.proofs.files.grow.Lts as lts
 use Rattle.stores.proofs.parents.grow.Reads as grow-reads
 
--- src/files.rt:41:13
 mul-a : tie.Need-mul-a
 mul-a c = search needs
 
--- src/files.rt:42:13
 add-e : tie.Need-add-e
 add-e c = search needs
 
--- src/files.rt:43:19
 sub-grow : tie.Need-sub-grow
 sub-grow c = search needs
 
--- src/files.rt:43:19
 part-grow-start : tie.Need-part-grow-start
 part-grow-start c = search needs
 
--- src/files.rt:43:19
 part-grow-end : tie.Need-part-grow-end
 part-grow-end c = search needs
 
--- src/files.rt:43:5
 grow-requires : tie.Need-grow-requires
 grow-requires c κs = let d = c .before .before in (part-used (now (d .args .parents)) (d .args .r) (d .pre .0), part-past (now (d .args .parents)) (d .args .r) (d .args .i) (d .pre .1), d .pre .2)
 
--- src/files.rt:37:1
 same-length : tie.Need-same-length
 same-length c = search needs
 
--- src/files.rt:37:1
 returns : tie.Need-returns
 unfolding Bytes
 returns c = let d = c .before .before .before .before .before in let a = d .args in grow-part (now (a .parents)) (a .r) (a .i) (a .s) _ (λ i. c .before .before .before .before .slice-known .given i .fits) (d .pre .0) (d .pre .1) (d .pre .2) (c .before .before .grow .ensures)

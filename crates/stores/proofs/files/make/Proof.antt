@@ -7,35 +7,27 @@ use Rattle.stores.proofs.files.make.Reads as reads
 use Rattle.stores.proofs.files.make.Lts as lts
 use Rattle.stores.proofs.parents.make.Reads as make-reads
 
--- src/files.rt:51:13
 mul-a : tie.Need-mul-a
 mul-a c = search needs
 
--- src/files.rt:52:13
 add-e : tie.Need-add-e
 add-e c = search needs
 
--- src/files.rt:53:19
 sub-make : tie.Need-sub-make
 sub-make c = search needs
 
--- src/files.rt:53:19
 part-make-start : tie.Need-part-make-start
 part-make-start c = search needs
 
--- src/files.rt:53:19
 part-make-end : tie.Need-part-make-end
 part-make-end c = search needs
 
--- src/files.rt:53:5
 make-requires : tie.Need-make-requires
 make-requires c κs = search needs
 
--- src/files.rt:47:1
 same-length : tie.Need-same-length
 same-length c = search needs
 
--- src/files.rt:47:1
 returns : tie.Need-returns
 returns c = let d = c .before .before .before .before .before in let a = d .args in make-part (now (a .parents)) (a .r) (a .f) (a .i) (a .w) (a .s) _ (d .pre .0) (d .pre .1) (c .before .before .make .ensures)
 

@@ -9,35 +9,27 @@ use Rattle.stores.proofs.files.put_own.Reads as reads
 use Rattle.stores.proofs.files.put_own.Lts as lts
 use Rattle.stores.proofs.parents.put_own.Reads as put-own-reads
 
--- src/files.rt:21:13
 mul-a : tie.Need-mul-a
 mul-a c = search needs
 
--- src/files.rt:22:13
 add-e : tie.Need-add-e
 add-e c = search needs
 
--- src/files.rt:23:22
 sub-put-own : tie.Need-sub-put-own
 sub-put-own c = search needs
 
--- src/files.rt:23:22
 part-put-own-start : tie.Need-part-put-own-start
 part-put-own-start c = search needs
 
--- src/files.rt:23:22
 part-put-own-end : tie.Need-part-put-own-end
 part-put-own-end c = search needs
 
--- src/files.rt:23:5
 put-own-requires : tie.Need-put-own-requires
 put-own-requires c κs = let d = c .before .before in part-used (now (d .args .parents)) (d .args .r) (d .pre)
 
--- src/files.rt:17:1
 same-length : tie.Need-same-length
 same-length c = search needs
 
--- src/files.rt:17:1
 returns : tie.Need-returns
 unfolding Bytes
 returns c = let d = c .before .before .before .before .before in let a = d .args in own-part (now (a .parents)) (a .r) _ (λ i. c .before .before .before .before .slice-known .given i .fits) (d .pre) (c .before .before .put-own .ensures)

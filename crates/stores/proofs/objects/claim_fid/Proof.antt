@@ -5,19 +5,15 @@ use Rattle.stores.proofs.objects.claim_fid.Tie as tie
 use Rattle.stores.proofs.objects.claim_fid.Reads as reads
 use Rattle.stores.proofs.objects.claim_fid.Lts as lts
 
--- src/objects.rt:20:29
 enum-told : tie.Need-enum-told
 enum-told c = search needs
 
--- src/objects.rt:25:23
 enum-known-claim : tie.Need-enum-known-claim
 enum-known-claim c = search needs
 
--- src/objects.rt:16:1
 returns : tie.Need-returns
 returns c = claim-none _ (cc)
 
--- src/objects.rt:16:1
 returns-2 : tie.Need-returns-2
 returns-2 c = let v = c .before .before .claim .given .0 in claim-some _ (v .0) (v .1 .0) (cc)
 

@@ -12,35 +12,27 @@ use Rattle.stores.proofs.objects.destroy.Reads as reads
 use Rattle.stores.proofs.objects.destroy.Lts as lts
 use Rattle.stores.proofs.objects.zero_row.Reads as zero-row-reads
 
--- src/objects.rt:88:13
 mul-a : tie.Need-mul-a
 mul-a c = search needs
 
--- src/objects.rt:89:13
 add-e : tie.Need-add-e
 add-e c = search needs
 
--- src/objects.rt:90:14
 sub-zero-row : tie.Need-sub-zero-row
 sub-zero-row c = search needs
 
--- src/objects.rt:90:14
 part-zero-row-start : tie.Need-part-zero-row-start
 part-zero-row-start c = search needs
 
--- src/objects.rt:90:14
 part-zero-row-end : tie.Need-part-zero-row-end
 part-zero-row-end c = search needs
 
--- src/objects.rt:90:5
 zero-row-requires : tie.Need-zero-row-requires
 zero-row-requires c κs = search needs
 
--- src/objects.rt:84:1
 same-length : tie.Need-same-length
 same-length c = search needs
 
--- src/objects.rt:84:1
 returns : tie.Need-returns
 returns c = let a = c .before .before .before .before .before .args in part-whole (46 * a .o) 46 (now (a .objects)) (renderObject destroyed) _ (c .before .before .zero-row .ensures) length-destroyed (omega arith)
 

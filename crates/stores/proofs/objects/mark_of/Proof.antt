@@ -4,11 +4,9 @@ use Rattle.stores.proofs.objects.mark_of.Tie as tie
 use Rattle.stores.proofs.objects.mark_of.Reads as reads
 use Rattle.stores.proofs.objects.mark_of.Lts as lts
 
--- src/objects.rt:37:1
 returns : tie.Need-returns
 returns c = mark-one _ (c .if1 .taken)
 
--- src/objects.rt:37:1
 returns-2 : tie.Need-returns-2
 returns-2 c = mark-zero _ (c .if1 .left)
 

@@ -12,35 +12,27 @@ use Rattle.stores.proofs.objects.put_object.Reads as reads
 use Rattle.stores.proofs.objects.put_object.Lts as lts
 use Rattle.stores.proofs.objects.put_row.Reads as put-row-reads
 
--- src/objects.rt:78:13
 mul-a : tie.Need-mul-a
 mul-a c = search needs
 
--- src/objects.rt:79:13
 add-e : tie.Need-add-e
 add-e c = search needs
 
--- src/objects.rt:80:13
 sub-put-row : tie.Need-sub-put-row
 sub-put-row c = search needs
 
--- src/objects.rt:80:13
 part-put-row-start : tie.Need-part-put-row-start
 part-put-row-start c = search needs
 
--- src/objects.rt:80:13
 part-put-row-end : tie.Need-part-put-row-end
 part-put-row-end c = search needs
 
--- src/objects.rt:80:5
 put-row-requires : tie.Need-put-row-requires
 put-row-requires c κs = search needs
 
--- src/objects.rt:74:1
 same-length : tie.Need-same-length
 same-length c = search needs
 
--- src/objects.rt:74:1
 returns : tie.Need-returns
 returns c = let a = c .before .before .before .before .before .args in part-whole (46 * a .o) 46 (now (a .objects)) (renderObject (object (a .x))) _ (c .before .before .put-row .ensures) (length-object (a .x)) (omega arith)
 

@@ -13,43 +13,33 @@ use Rattle.stores.proofs.pieces.put_byte.Reads as put-byte-reads
 use Rattle.stores.proofs.pieces.put_owner.Reads as put-owner-reads
 use Rattle.wire.proofs.put_le32.Reads as put-le32-reads
 
--- src/objects.rt:51:5
 put-byte-requires : tie.Need-put-byte-requires
 put-byte-requires c κs = search needs
 
--- src/objects.rt:52:5
 write-fid-requires : tie.Need-write-fid-requires
 write-fid-requires c κs = search needs
 
--- src/objects.rt:53:5
 put-le32-requires : tie.Need-put-le32-requires
 put-le32-requires c κs = search needs
 
--- src/objects.rt:54:5
 put-owner-requires : tie.Need-put-owner-requires
 put-owner-requires c κs = search needs
 
--- src/objects.rt:55:29
 claim-fid-requires : tie.Need-claim-fid-requires
 claim-fid-requires c κs = search needs
 
--- src/objects.rt:55:5
 write-fid-requires-2 : tie.Need-write-fid-requires-2
 write-fid-requires-2 c κs = search needs
 
--- src/objects.rt:56:31
 mark-of-requires : tie.Need-mark-of-requires
 mark-of-requires c κs = search needs
 
--- src/objects.rt:56:5
 put-byte-requires-2 : tie.Need-put-byte-requires-2
 put-byte-requires-2 c κs = search needs
 
--- src/objects.rt:44:1
 same-length : tie.Need-same-length
 same-length c = search needs
 
--- src/objects.rt:44:1
 returns : tie.Need-returns
 returns c = let a = c .before .before .before .before .before .before .before .before .before .before .before .before .before .before .before .before .before .before .before .before .before .before .before .before .before .before .before .before .before .args in cc (object-nested (now (a .row)) (a .x) (omega arith))
 

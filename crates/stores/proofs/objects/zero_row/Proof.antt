@@ -10,39 +10,30 @@ use Rattle.wire.proofs.put_le16.Reads as put-le16-reads
 use Rattle.wire.proofs.put_le32.Reads as put-le32-reads
 use Rattle.wire.proofs.put_le64.Reads as put-le64-reads
 
--- src/objects.rt:64:5
 put-le64-requires : tie.Need-put-le64-requires
 put-le64-requires c κs = search needs
 
--- src/objects.rt:65:5
 put-le64-requires-2 : tie.Need-put-le64-requires-2
 put-le64-requires-2 c κs = search needs
 
--- src/objects.rt:66:5
 put-le64-requires-3 : tie.Need-put-le64-requires-3
 put-le64-requires-3 c κs = search needs
 
--- src/objects.rt:67:5
 put-le64-requires-4 : tie.Need-put-le64-requires-4
 put-le64-requires-4 c κs = search needs
 
--- src/objects.rt:68:5
 put-le64-requires-5 : tie.Need-put-le64-requires-5
 put-le64-requires-5 c κs = search needs
 
--- src/objects.rt:69:5
 put-le32-requires : tie.Need-put-le32-requires
 put-le32-requires c κs = search needs
 
--- src/objects.rt:70:5
 put-le16-requires : tie.Need-put-le16-requires
 put-le16-requires c κs = search needs
 
--- src/objects.rt:60:1
 same-length : tie.Need-same-length
 same-length c = search needs
 
--- src/objects.rt:60:1
 returns : tie.Need-returns
 returns c = let a = c .before .before .before .before .before .before .before .before .before .before .before .before .before .before .before .before .before .before .before .before .before .before .before .before .before .before .before .before .before .args in cc (zero-nested (now (a .row)) (omega arith))
 

@@ -6,11 +6,9 @@ use Rattle.stores.proofs.parents.made_header.Tie as tie
 use Rattle.stores.proofs.parents.made_header.Reads as reads
 use Rattle.stores.proofs.parents.made_header.Lts as lts
 
--- src/parents.rt:83:14
 cast-t3 : tie.Need-cast-t3
 cast-t3 c = search needs
 
--- src/parents.rt:76:1
 returns : tie.Need-returns
 unfolding madeHeader
 returns c = refl

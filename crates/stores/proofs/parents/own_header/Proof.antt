@@ -6,11 +6,9 @@ use Rattle.stores.proofs.parents.own_header.Tie as tie
 use Rattle.stores.proofs.parents.own_header.Reads as reads
 use Rattle.stores.proofs.parents.own_header.Lts as lts
 
--- src/parents.rt:31:14
 cast-t4 : tie.Need-cast-t4
 cast-t4 c = search needs
 
--- src/parents.rt:24:1
 returns : tie.Need-returns
 unfolding ownHeader
 returns c = refl

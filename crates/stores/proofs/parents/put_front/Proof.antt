@@ -8,27 +8,21 @@ use Rattle.stores.proofs.pieces.put_byte.Reads as put-byte-reads
 use Rattle.stores.proofs.pieces.put_owner.Reads as put-owner-reads
 use Rattle.wire.proofs.put_le16.Reads as put-le16-reads
 
--- src/parents.rt:94:5
 put-byte-requires : tie.Need-put-byte-requires
 put-byte-requires c κs = search needs
 
--- src/parents.rt:95:5
 write-fid-requires : tie.Need-write-fid-requires
 write-fid-requires c κs = search needs
 
--- src/parents.rt:96:5
 put-owner-requires : tie.Need-put-owner-requires
 put-owner-requires c κs = search needs
 
--- src/parents.rt:97:5
 put-le16-requires : tie.Need-put-le16-requires
 put-le16-requires c κs = search needs
 
--- src/parents.rt:89:1
 same-length : tie.Need-same-length
 same-length c = search needs
 
--- src/parents.rt:89:1
 returns : tie.Need-returns
 returns c = cc
 

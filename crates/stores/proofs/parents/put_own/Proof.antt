@@ -14,35 +14,27 @@ use Rattle.stores.proofs.pieces.put_header.Reads as put-header-reads
 use Rattle.tables.proofs.rows.layout_of.Reads as layout-of-reads
 use Rattle.tables.proofs.rows.self_of.Reads as self-of-reads
 
--- src/parents.rt:43:9
 self-of-requires : tie.Need-self-of-requires
 self-of-requires c κs = omega (arith, c .before .before .pre .size)
 
--- src/parents.rt:44:9
 layout-of-requires : tie.Need-layout-of-requires
 layout-of-requires c κs = let f = used-facts _ (c .before .before .before .before .pre) in (f .size, f .room)
 
--- src/parents.rt:45:9
 read-header-requires : tie.Need-read-header-requires
 read-header-requires c κs = omega (arith, used-facts _ (c .before .before .before .before .before .pre))
 
--- src/parents.rt:46:9
 stripe-count-requires : tie.Need-stripe-count-requires
 stripe-count-requires c κs = omega (arith, used-facts _ (c .before .before .before .before .before .before .pre))
 
--- src/parents.rt:47:43
 own-header-requires : tie.Need-own-header-requires
 own-header-requires c κs = search needs
 
--- src/parents.rt:47:5
 put-header-requires : tie.Need-put-header-requires
 put-header-requires c κs = omega (arith, c .before .before .before .before .before .before .before .before .before .pre .size)
 
--- src/parents.rt:39:1
 same-length : tie.Need-same-length
 same-length c = search needs
 
--- src/parents.rt:39:1
 returns : tie.Need-returns
 unfolding Bytes
 returns c = let d = c .before .before .before .before .before .before .before .before .before .before .before .before in cc (own-nested (now (d .args .row)) (λ i. c .before .before .before .before .before .before .before .before .before .before .before .slice-known .given i .fits) (d .pre))

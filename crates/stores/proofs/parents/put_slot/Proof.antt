@@ -11,35 +11,27 @@ use Rattle.layout.proofs.slot_start.Reads as slot-start-reads
 use Rattle.stores.proofs.pieces.put_slot.Reads as put-slot-reads
 use Rattle.tables.proofs.rows.layout_of.Reads as layout-of-reads
 
--- src/parents.rt:55:36
 layout-of-requires : tie.Need-layout-of-requires
 layout-of-requires c κs = let f = used-facts _ (c .before .before .pre .0) in (f .size, f .room)
 
--- src/parents.rt:55:9
 slot-start-requires : tie.Need-slot-start-requires
 slot-start-requires c κs = omega (arith, used-facts _ (c .before .before .before .pre .0))
 
--- src/parents.rt:56:27
 add-put-slot : tie.Need-add-put-slot
 add-put-slot c = omega (arith, row-start _ _ _ (c .before .before .before .before .before .pre .0) (c .before .before .layout-of .ensures .0) (c .before .slot-start .ensures))
 
--- src/parents.rt:56:50
 mul-put-slot : tie.Need-mul-put-slot
 mul-put-slot c = omega (arith, row-start _ _ _ (c .before .before .before .before .before .pre .0) (c .before .before .layout-of .ensures .0) (c .before .slot-start .ensures))
 
--- src/parents.rt:56:27
 add-put-slot-2 : tie.Need-add-put-slot-2
 add-put-slot-2 c = omega (arith, row-start _ _ _ (c .before .before .before .before .before .pre .0) (c .before .before .layout-of .ensures .0) (c .before .slot-start .ensures))
 
--- src/parents.rt:56:5
 put-slot-requires : tie.Need-put-slot-requires
 put-slot-requires c κs = omega (arith, c .before .before .before .before .before .pre .0 .size, row-start _ _ _ (c .before .before .before .before .before .pre .0) (c .before .before .layout-of .ensures .0) (c .before .slot-start .ensures))
 
--- src/parents.rt:51:1
 same-length : tie.Need-same-length
 same-length c = search needs
 
--- src/parents.rt:51:1
 returns : tie.Need-returns
 unfolding Bytes
 returns c = let d = c .before .before .before .before .before .before .before .before in cc (slot-nested (now (d .args .row)) (λ i. c .before .before .before .before .before .before .before .slice-known .given i .fits) (d .pre .0) (d .args .j) (d .args .s) (d .pre .1))

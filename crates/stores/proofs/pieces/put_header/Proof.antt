@@ -11,31 +11,24 @@ use Rattle.stores.proofs.pieces.put_header.Reads as reads
 use Rattle.stores.proofs.pieces.put_header.Lts as lts
 use Rattle.layout.proofs.write_header.Reads as write-header-reads
 
--- src/stores.rt:36:13
 add-e : tie.Need-add-e
 add-e c = search needs
 
--- src/stores.rt:37:26
 sub-write-header : tie.Need-sub-write-header
 sub-write-header c = search needs
 
--- src/stores.rt:37:26
 part-write-header-start : tie.Need-part-write-header-start
 part-write-header-start c = search needs
 
--- src/stores.rt:37:26
 part-write-header-end : tie.Need-part-write-header-end
 part-write-header-end c = search needs
 
--- src/stores.rt:37:5
 write-header-requires : tie.Need-write-header-requires
 write-header-requires c κs = search needs
 
--- src/stores.rt:32:1
 same-length : tie.Need-same-length
 same-length c = search needs
 
--- src/stores.rt:32:1
 returns : tie.Need-returns
 returns c = let a = c .before .before .before .before .before .args in part-over (a .at) 32 (now (a .row)) (encodeHeader (a .h) (a .count)) _ (c .before .before .write-header .ensures) (length-header (a .h) (a .count)) (omega arith)
 

@@ -15,42 +15,33 @@ Inv-loop row₀ at count k₀ row k = (k ≤ count) × (length row ≡ length ro
 abbrev μ-loop : tie.MeasureT-loop
 μ-loop row₀ at count k₀ row k = count - k
 
--- src/stores.rt:54:5
 loop-holds : tie.Need-loop-holds Inv-loop μ-loop
 loop-holds c = (omega arith, refl, holes-start _ _)
 
--- src/stores.rt:55:22
 mul-a : tie.Need-mul-a Inv-loop μ-loop
 mul-a c = omega arith
 
--- src/stores.rt:55:17
 add-a : tie.Need-add-a Inv-loop μ-loop
 add-a c = omega arith
 
--- src/stores.rt:56:9
 put-slot-requires : tie.Need-put-slot-requires Inv-loop μ-loop
 put-slot-requires c κs = omega arith
 
--- src/stores.rt:54:9
 add-k : tie.Need-add-k Inv-loop μ-loop
 add-k c = omega arith
 
--- src/stores.rt:54:5
 loop-less : tie.Need-loop-less Inv-loop μ-loop
 loop-less c = omega arith
 
--- src/stores.rt:54:5
 loop-again : tie.Need-loop-again Inv-loop μ-loop
 loop-again c =
     let i = c .before .before .before .before .before .loop .inv in
     let e = holes-step _ _ _ _ _ (i .2) (c .before .before .put-slot .ensures) in
     (omega arith, holes-length _ _ _ _ e, e)
 
--- src/stores.rt:50:1
 same-length : tie.Need-same-length Inv-loop μ-loop
 same-length c = c .before .loop .inv .1
 
--- src/stores.rt:50:1
 returns : tie.Need-returns Inv-loop μ-loop
 returns c = holes-end _ _ _ (c .before .before .before .args .count) _ (c .before .loop .inv .2) (omega arith) (omega arith)
 

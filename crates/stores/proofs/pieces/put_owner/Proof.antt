@@ -7,23 +7,18 @@ use Rattle.stores.proofs.pieces.put_owner.Reads as reads
 use Rattle.stores.proofs.pieces.put_owner.Lts as lts
 use Rattle.wire.proofs.put_le32.Reads as put-le32-reads
 
--- src/stores.rt:27:5
 put-le32-requires : tie.Need-put-le32-requires
 put-le32-requires c κs = search needs
 
--- src/stores.rt:28:25
 add-put-le32 : tie.Need-add-put-le32
 add-put-le32 c = search needs
 
--- src/stores.rt:28:5
 put-le32-requires-2 : tie.Need-put-le32-requires-2
 put-le32-requires-2 c κs = search needs
 
--- src/stores.rt:23:1
 same-length : tie.Need-same-length
 same-length c = search needs
 
--- src/stores.rt:23:1
 returns : tie.Need-returns
 returns c = let a = c .before .before .before .before .before .before .before .before .before .args in cc (owner-nested (now (a .row)) (a .at) (a .w))
 

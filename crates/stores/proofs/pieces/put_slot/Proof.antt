@@ -11,31 +11,24 @@ use Rattle.stores.proofs.pieces.put_slot.Reads as reads
 use Rattle.stores.proofs.pieces.put_slot.Lts as lts
 use Rattle.layout.proofs.put_slot.Reads as put-slot-reads
 
--- src/stores.rt:45:13
 add-e : tie.Need-add-e
 add-e c = search needs
 
--- src/stores.rt:46:22
 sub-put-slot : tie.Need-sub-put-slot
 sub-put-slot c = search needs
 
--- src/stores.rt:46:22
 part-put-slot-start : tie.Need-part-put-slot-start
 part-put-slot-start c = search needs
 
--- src/stores.rt:46:22
 part-put-slot-end : tie.Need-part-put-slot-end
 part-put-slot-end c = search needs
 
--- src/stores.rt:46:5
 put-slot-requires : tie.Need-put-slot-requires
 put-slot-requires c κs = search needs
 
--- src/stores.rt:41:1
 same-length : tie.Need-same-length
 same-length c = search needs
 
--- src/stores.rt:41:1
 returns : tie.Need-returns
 returns c = let a = c .before .before .before .before .before .args in part-whole (a .at) 24 (now (a .row)) (encodeSlot (a .s)) _ (c .before .before .put-slot .ensures) (length-slot (a .s)) (omega arith)
 
