@@ -2,38 +2,36 @@
 use mathlib.Core.Path.{_≡_, refl, sym, ap, _∙_}
 use mathlib.Core.List.{List, [], _∷_}
 use mathlib.Core.Bool.{Bool, true, false, cond}
-use Prim.Native.Nat.{ℕ, _+_, _*_, _/_, _≤_, _<_}
+use Prim.Native.Nat.{ℕ, _*_, _/_, _<_}
 use native.Mathlib.Omega.{arith}
 use lib.ListN.{length, take, drop}
 use lib.Seq.{sets}
 use Rattle.wire.specs.Numbers.{Bytes}
 use Rattle.fid.specs.declared.OstFid.{OstFid}
-use Rattle.layout.specs.declared.Slot.{Slot}
 use Rattle.layout.specs.declared.Slot.the-variants.{Names}
 use Rattle.layout.specs.Layout.{stripeCount}
-use Rattle.tables.specs.Records.{ParentRow, noParent, parent, ObjectRow, object, Tables}
-use Rattle.tables.specs.Bytes.{parentSize, objectSize, isUsed, layoutBytes, decodeParent, parseParent, renderParent, renderObject, parse, renderParents, renderObjects}
+use Rattle.tables.specs.Records.{ParentRow, noParent, parent, ObjectRow, object}
+use Rattle.tables.specs.Bytes.{parentSize, objectSize, isUsed, layoutBytes, decodeParent, parseParent, renderParent, renderObject, parse}
 use Rattle.tables.specs.Positions.{rowAt}
 use Rattle.tables.specs.Check.{goodLayout, goodSelf, Sound}
 use Rattle.tables.specs.declared.Object.{Object}
-use Rattle.tables.proofs.SoundLaws.{ParentFacts, sound-facts, used-passes, layout-at, parent-size, parent-facts}
+use Rattle.tables.proofs.SoundLaws.{sound-facts, used-passes, layout-at, parent-size, parent-facts}
 use Rattle.tables.proofs.RenderLaws.{parents-back, objects-back}
 use Rattle.tables.proofs.PositionLaws.{parsed-row}
 use Rattle.rules.specs.Rows.{freeObject}
-use Rattle.rules.specs.Classes.{headerClass, ownRight}
-use Rattle.rules.specs.Repairs.{Step, rests, repairs, stops, Write, writeParent, writeObject, putParent, putObject, applyWrite, applyWrites, withOwn, withSlot, repairHeader, newObject, redirectTo, makeObject}
+use Rattle.rules.specs.Classes.{headerClass}
+use Rattle.rules.specs.Repairs.{Step, rests, repairs, stops, Write, writeParent, writeObject, putObject, applyWrite, applyWrites, withOwn, withSlot, repairHeader, newObject, redirectTo, makeObject}
 use Rattle.rules.specs.Runs.{outcome, stepTables}
 use Rattle.rules.specs.declared.HeaderClass.{HeaderClass}
 use Rattle.rules.specs.declared.HeaderClass.the-variants.{UNUSED, SELF, CLEAN}
 use Rattle.rules.specs.declared.Repair.{Repair}
 use Rattle.rules.specs.declared.Repair.the-variants.{OfSelf, OfMultiple, OfDangling}
-use Rattle.rules.specs.declared.Outcome.{Outcome}
 use Rattle.rules.specs.declared.Outcome.the-variants.{Rested, Repaired, Stopped}
 use Rattle.rules.specs.declared.Row.the-variants.{RowIs, NoRow}
 use Rattle.search.proofs.FoundRows.{free-object-inside}
 use Rattle.search.proofs.AloneLaws.{row-alone, free-object-alone}
-use Rattle.stores.specs.UsedRow.{UsedRow, rowBytes, UsedAt}
-use Rattle.mend.specs.SlotBytes.{SlotReady, parentsBy, objectsBy, headerOf, redirectOf, makeOf}
+use Rattle.stores.specs.UsedRow.{rowBytes, UsedAt}
+use Rattle.mend.specs.SlotBytes.{parentsBy, objectsBy, headerOf, redirectOf, makeOf}
 use Rattle.stores.proofs.ObjectStores.{length-object}
 use Rattle.stores.proofs.RowStores.{own-length, slot-length}
 use Rattle.stores.proofs.FileLaws.{row-bytes}

@@ -1,5 +1,5 @@
 -- A parent row written as a part of its table. Assumes nothing.
-use mathlib.Core.Path.{_≡_, refl, sym, ap, _∙_, subst}
+use mathlib.Core.Path.{_≡_, sym, ap, _∙_, subst}
 use mathlib.Core.List.{List}
 use Prim.Native.Nat.{ℕ, _+_, _-_, _*_, _≤_, _<_}
 use native.Mathlib.Omega.{arith}
@@ -11,7 +11,6 @@ use Rattle.wire.proofs.NumberLaws.{bytes-drop, bytes-take}
 use Rattle.fid.specs.declared.MdtFid.{MdtFid}
 use Rattle.layout.specs.Layout.{maxSlots, stripeCount}
 use Rattle.layout.specs.declared.Slot.{Slot}
-use Rattle.tables.specs.Records.{ParentRow}
 use Rattle.tables.specs.Bytes.{parentSize, layoutBytes, parseParent, renderParent}
 use Rattle.tables.specs.declared.Owner.{Owner}
 use Rattle.rules.specs.Repairs.{withOwn, withSlot, grown, made}

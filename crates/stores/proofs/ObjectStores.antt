@@ -1,9 +1,8 @@
 -- The stores of an object row. Assumes nothing.
-use mathlib.Core.Path.{_≡_, refl, sym, ap, _∙_}
+use mathlib.Core.Path.{_≡_, refl, sym, _∙_}
 use mathlib.Core.List.{List, [], _∷_, _++_}
-use Prim.Native.Nat.{ℕ, _+_, _*_, _-_, _≤_}
-use mathlib.Core.Bool.{Bool, true, false, cond}
-use native.Mathlib.Omega.{arith}
+use Prim.Native.Nat.{ℕ, _+_}
+use mathlib.Core.Bool.{Bool, true, false}
 use lib.ListN.{length, set, length-append, replicate}
 use lib.Seq.{sets}
 use Rattle.wire.specs.Numbers.{bytes}
@@ -15,7 +14,6 @@ use Rattle.fid.specs.declared.Fid.{Fid}
 use Rattle.fid.proofs.FidLaws.{length-encode}
 use Rattle.tables.specs.Records.{object}
 use Rattle.tables.specs.Bytes.{objectSize, encodeOwner, claimFid, mark, encodeObject, renderObject}
-use Rattle.tables.specs.declared.Owner.{Owner}
 use Rattle.tables.specs.declared.Claim.{Claim}
 use Rattle.tables.specs.declared.Claim.the-variants.{Unclaimed, Claims}
 use Rattle.tables.specs.declared.Object.{Object}

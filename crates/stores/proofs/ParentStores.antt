@@ -1,27 +1,26 @@
 -- The stores of a parent row, over what the row says. Assumes nothing.
-use mathlib.Core.Path.{_≡_, refl, sym, ap, ap₂, _∙_}
+use mathlib.Core.Path.{_≡_, refl, sym, ap, _∙_}
 use mathlib.Core.List.{List, [], _∷_, _++_, append-assoc, append-nil}
 use Prim.Native.Nat.{ℕ, zero, suc, _+_, _-_, _*_, _≤_, _<_}
-use mathlib.Core.Bool.{Bool, true, false, cond}
 use native.Mathlib.Omega.{arith}
 use native.Mathlib.Nat.{not-suc-le-zero}
-use lib.ListN.{length, take, drop, set, getD, replicate, length-append, length-drop, length-set, length-replicate, take-append-drop}
-use lib.Seq.{sets, sets-eq, length-sets, drop-drop, length-take-le, take-at, drop-at}
+use lib.ListN.{length, take, drop, set, replicate, length-append, length-set, length-replicate, take-append-drop}
+use lib.Seq.{sets, sets-eq, drop-drop, length-take-le}
 use Rattle.wire.specs.Numbers.{bytes}
 use Rattle.wire.proofs.NumberLaws.{length-bytes}
-use Rattle.wire.proofs.Splice.{sets-at, sets-mid, drop-sets, drop-sets-add, take-sets-le}
+use Rattle.wire.proofs.Splice.{sets-at, sets-mid}
 use Rattle.fid.specs.Fid.{encodeFid}
 use Rattle.fid.specs.declared.MdtFid.{MdtFid}
 use Rattle.fid.proofs.FidLaws.{length-encode}
 use Rattle.layout.specs.declared.Header.{Header}
 use Rattle.layout.specs.declared.Slot.{Slot}
-use Rattle.layout.specs.declared.Slot.the-variants.{Hole, Names}
+use Rattle.layout.specs.declared.Slot.the-variants.{Hole}
 use Rattle.layout.specs.Slot.{encodeSlot, encodeSlots}
-use Rattle.layout.specs.Layout.{Layout, headerSize, magicOne, holePattern, encodeHeader, encodeLayout, layoutSize}
+use Rattle.layout.specs.Layout.{Layout, headerSize, magicOne, encodeHeader, encodeLayout, layoutSize}
 use Rattle.layout.proofs.SlotLaws.{length-slot, length-encode-slots}
-use Rattle.layout.proofs.HeaderLaws.{length-header, size-least}
-use Rattle.tables.specs.Records.{Parent, ParentRow, noParent, parent}
-use Rattle.tables.specs.Bytes.{parentSize, encodeOwner, encodeParent, renderParent}
+use Rattle.layout.proofs.HeaderLaws.{length-header}
+use Rattle.tables.specs.Records.{Parent, ParentRow, parent}
+use Rattle.tables.specs.Bytes.{encodeOwner, encodeParent, renderParent}
 use Rattle.tables.specs.Positions.{slotsOf}
 use Rattle.tables.specs.declared.Owner.{Owner}
 use Rattle.rules.specs.Rows.{tailOf}

@@ -1,8 +1,8 @@
 -- The stores of a used parent row that passed the check, over its bytes. Assumes nothing.
 use mathlib.Core.Path.{_≡_, refl, sym, ap, _∙_}
-use mathlib.Core.List.{List, [], _∷_, _++_}
-use Prim.Native.Nat.{ℕ, suc, _+_, _-_, _*_, _≤_, _<_}
-use mathlib.Core.Bool.{Bool, true, false, cond}
+use mathlib.Core.List.{List}
+use Prim.Native.Nat.{ℕ, _+_, _-_, _*_, _≤_, _<_}
+use mathlib.Core.Bool.{true}
 use native.Mathlib.Omega.{arith}
 use borrow.Author.Tests.{eqb-true}
 use lib.ListN.{length, take, drop, set, getD, replicate, length-drop, length-set}
@@ -16,12 +16,12 @@ use Rattle.layout.specs.declared.Slot.the-variants.{Hole}
 use Rattle.layout.specs.Slot.{encodeSlot, encodeSlots}
 use Rattle.layout.specs.Layout.{maxSlots, decodeHeader, encodeHeader, stripeCount, slotStart, decodeLayout}
 use Rattle.layout.proofs.SlotLaws.{length-slots}
-use Rattle.layout.proofs.LayoutLaws.{LayoutFacts, start-most}
+use Rattle.layout.proofs.LayoutLaws.{start-most}
 use Rattle.tables.specs.Records.{Parent, ParentRow, parent}
 use Rattle.tables.specs.Bytes.{parentSize, layoutRoom, isUsed, encodeOwner, layoutLength, layoutBytes, decodeParent, parseParent, renderParent}
-use Rattle.tables.specs.Check.{whenUsed, goodLayout, goodSelf}
+use Rattle.tables.specs.Check.{whenUsed, goodSelf}
 use Rattle.tables.specs.declared.Owner.{Owner}
-use Rattle.tables.proofs.SoundLaws.{LayoutOf, ParentFacts, layout-of-row}
+use Rattle.tables.proofs.SoundLaws.{ParentFacts, layout-of-row}
 use Rattle.tables.proofs.RenderLaws.{parent-row-back}
 use Rattle.rules.specs.Repairs.{withSlot, ownHeader, withOwn, made, grown}
 use Rattle.search.proofs.ParsedRows.{parent-used}

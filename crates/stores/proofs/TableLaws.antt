@@ -1,6 +1,6 @@
 -- Rows written in a table are runs of stores in its bytes. Assumes nothing.
 use mathlib.Core.Path.{_≡_, refl, sym, ap, _∙_}
-use mathlib.Core.List.{List, [], _∷_, _++_, map}
+use mathlib.Core.List.{List, [], _∷_, map}
 use Prim.Native.Nat.{ℕ, zero, suc, _+_, _-_, _*_, _/_, _≤_, _<_}
 use native.Mathlib.Nat.{mul-zero, mul-suc, add-zero, mul-le-mul-left}
 use native.Mathlib.Omega.{arith}
@@ -14,9 +14,9 @@ use Rattle.wire.proofs.Splice.{sets-whole}
 use Rattle.tables.specs.Records.{ParentRow, ObjectRow, Tables}
 use Rattle.tables.specs.Bytes.{parentSize, objectSize, parseParent, parseObject, renderParent, renderObject, parentRows, objectRows, parse, join, renderParents, renderObjects}
 use Rattle.tables.specs.Check.{Sound}
-use Rattle.tables.proofs.SoundLaws.{SoundFacts, sound-facts, parent-size, parent-mark, parent-facts, object-size, object-mark, object-facts}
-use Rattle.tables.proofs.RenderLaws.{parent-row-back, object-row-back, parents-back, objects-back}
-use Rattle.rules.specs.Repairs.{Write, writeParent, writeObject, putParent, putObject, applyWrite, applyWrites}
+use Rattle.tables.proofs.SoundLaws.{sound-facts, parent-size, parent-mark, parent-facts, object-size, object-mark, object-facts}
+use Rattle.tables.proofs.RenderLaws.{parent-row-back, object-row-back}
+use Rattle.rules.specs.Repairs.{putParent, putObject}
 
 -- ## Lists
 

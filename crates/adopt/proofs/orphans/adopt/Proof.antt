@@ -1,5 +1,5 @@
 use denote.Ref.{now}
-use mathlib.Core.Path.{_≡_, ap, _∙_, sym}
+use mathlib.Core.Path.{_≡_, ap, _∙_}
 use Rattle.wire.specs.Numbers.{Bytes}
 use Rattle.tables.specs.Bytes.{decodeObject}
 use Rattle.tables.specs.declared.Claim.the-variants.{Claims}

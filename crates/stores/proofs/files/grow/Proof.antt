@@ -1,5 +1,4 @@
 use denote.Ref.{now}
-use native.Mathlib.Omega.{arith}
 use Rattle.wire.specs.Numbers.{Bytes}
 use Rattle.stores.proofs.FileLaws.{part-used, part-past, grow-part}
 use borrow.Author.Needs.{needs}

@@ -1,5 +1,4 @@
 use denote.Ref.{now}
-use Prim.Native.Nat.{ℕ, _+_, _*_}
 use native.Mathlib.Omega.{arith}
 use Rattle.layout.specs.Layout.{encodeHeader}
 use Rattle.layout.proofs.HeaderLaws.{length-header}

@@ -1,6 +1,6 @@
 use native.Mathlib.Omega.{arith}
 use mathlib.Core.Path.{_≡_, refl}
-use Prim.Native.Nat.{ℕ, _+_, _-_, _*_, _≤_}
+use Prim.Native.Nat.{_-_, _≤_}
 use lib.ListN.{length}
 use Rattle.stores.proofs.StoreLaws.{holesDone, holes-start, holes-step, holes-length, holes-end}
 use Rattle.stores.proofs.pieces.put_holes.Statement.{statement}

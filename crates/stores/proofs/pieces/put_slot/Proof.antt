@@ -1,5 +1,4 @@
 use denote.Ref.{now}
-use Prim.Native.Nat.{ℕ, _+_, _*_}
 use native.Mathlib.Omega.{arith}
 use Rattle.layout.specs.Slot.{encodeSlot}
 use Rattle.layout.proofs.SlotLaws.{length-slot}
