@@ -32,7 +32,7 @@ ghost use Rattle.mend.specs.SlotBytes.{parentsBy, objectsBy};
 ghost use Rattle.adopt.specs.OrphanBytes.{ownedBytes, namedRow, droppedBytes, RowInside, adoptOf, adoptRow, madeOutcome, madeBytes, objectOfRow};
 
 // Whether the policy adopts.
-pub fn may_adopt(policy: u64) -> bool
+fn may_adopt(policy: u64) -> bool
     ensures { λ b. ⌜ b ≡ adopts policy ⌝ }
 {
     policy / 2 % 2 == 1

@@ -44,7 +44,7 @@ pub fn header_step(parents: &mut [u8], objects: &[u8], r: usize) -> Outcome
 }
 
 // A new object: it claims slot j of row r, has that parent's owner and is fresh.
-pub fn new_object(parents: &[u8], r: usize, j: u32, f: OstFid, ost: u32) -> Object
+fn new_object(parents: &[u8], r: usize, j: u32, f: OstFid, ost: u32) -> Object
     requires { ⌜ UsedAt (now parents) r ⌝ }
     ensures { λ x. ⌜ x ≡ newObject (parse (now (parents .entry)) []) f r j ost ⌝ }
 {
@@ -61,7 +61,7 @@ pub fn new_object(parents: &[u8], r: usize, j: u32, f: OstFid, ost: u32) -> Obje
 }
 
 // MULTIPLE, with a FID of the reserve: a new object in the first unused row, then the slot, which takes its FID.
-pub fn redirect_to(
+fn redirect_to(
     parents: &mut [u8],
     objects: &mut [u8],
     r: usize,
@@ -87,14 +87,7 @@ pub fn redirect_to(
 }
 
 // DANGLING: a new object in the first unused row, under the slot's FID and index.
-pub fn make_object(
-    parents: &[u8],
-    objects: &mut [u8],
-    r: usize,
-    j: u32,
-    ost: u32,
-    f: OstFid,
-) -> Outcome
+fn make_object(parents: &[u8], objects: &mut [u8], r: usize, j: u32, ost: u32, f: OstFid) -> Outcome
     requires { ⌜ SlotReady (now parents) (now objects) r j ⌝ }
     ensures outcome { λ s. ⌜ s ≡ outcome (makeOf (now (parents .entry)) (now (objects .entry)) r j ost f) ⌝ }
     ensures parents { λ _. ⌜ now (parents .entry) ≡ parentsBy (makeOf (now (parents .entry)) (now (objects .entry)) r j ost f) (now (parents .entry)) (now (objects .entry)) ⌝ }
@@ -112,7 +105,7 @@ pub fn make_object(
 }
 
 // MULTIPLE: the first usable FID of the reserve, then a row for the object.
-pub fn redirect(
+fn redirect(
     parents: &mut [u8],
     objects: &mut [u8],
     reserve: &[u8],
@@ -133,7 +126,7 @@ pub fn redirect(
 }
 
 // An object with the claim of slot j of row r and that parent's owner.
-pub fn claimed(parents: &[u8], r: usize, j: u32, x: Object) -> Object
+fn claimed(parents: &[u8], r: usize, j: u32, x: Object) -> Object
     requires { ⌜ UsedAt (now parents) r ⌝ }
     ensures { λ y. ⌜ y ≡ claimedBy (now (parents .entry)) r j x ⌝ }
 {
@@ -151,7 +144,7 @@ pub fn claimed(parents: &[u8], r: usize, j: u32, x: Object) -> Object
 }
 
 // An object with the owner of row r.
-pub fn owned(parents: &[u8], r: usize, x: Object) -> Object
+fn owned(parents: &[u8], r: usize, x: Object) -> Object
     requires { ⌜ UsedAt (now parents) r ⌝ }
     ensures { λ y. ⌜ y ≡ ownedBy (now (parents .entry)) r x ⌝ }
 {
@@ -168,7 +161,7 @@ pub fn owned(parents: &[u8], r: usize, x: Object) -> Object
 }
 
 // BLANK and UNMATCHED: claim and owner are written in the object's row.
-pub fn write_claim(
+fn write_claim(
     parents: &[u8],
     objects: &mut [u8],
     class: Repair,
@@ -194,7 +187,7 @@ pub fn write_claim(
 }
 
 // OWNER: the owner is written in the object's row.
-pub fn write_owner(parents: &[u8], objects: &mut [u8], r: usize, j: u32, f: OstFid) -> Outcome
+fn write_owner(parents: &[u8], objects: &mut [u8], r: usize, j: u32, f: OstFid) -> Outcome
     requires { ⌜ SlotReady (now parents) (now objects) r j ⌝ }
     ensures outcome { λ s. ⌜ s ≡ outcome (ownerStepOf (now (parents .entry)) (now (objects .entry)) r f) ⌝ }
     ensures parents { λ _. ⌜ now (parents .entry) ≡ parentsBy (ownerStepOf (now (parents .entry)) (now (objects .entry)) r f) (now (parents .entry)) (now (objects .entry)) ⌝ }
@@ -213,14 +206,14 @@ pub fn write_owner(parents: &[u8], objects: &mut [u8], r: usize, j: u32, f: OstF
 }
 
 // Whether a policy creates: bit 0.
-pub fn creates(policy: u64) -> bool
+fn creates(policy: u64) -> bool
     ensures { λ b. ⌜ b ≡ creates policy ⌝ }
 {
     policy % 2 == 1
 }
 
 // The repair of slot j of row r, which names object f on an OST, by its class.
-pub fn repair_slot(
+fn repair_slot(
     parents: &mut [u8],
     objects: &mut [u8],
     reserve: &[u8],
