@@ -16,26 +16,6 @@ ghost use Rattle.tables.specs.Check.{goodLayouts};
 ghost use Rattle.rules.specs.Search.{isSomewhere};
 ghost use Rattle.rules.specs.Rows.{namesAt, scan, named, namesElse, namedElse};
 
-// The first slot in scan order that names an object. The search stops at the first parent and slot that name it.
-pub fn first_naming(parents: &[u8], f: OstFid) -> Found
-    requires { ⌜ goodLayouts (now parents) ≡ true ⌝ }
-    ensures { λ a. ⌜ a ≡ scan (parse (now (parents .entry)) []) (namesAt (parse (now (parents .entry)) []) f) ⌝ }
-{
-    let n = parents.len() / PARENT_SIZE;
-    let mut found = Found::Nowhere;
-    'rows: for r in 0..n {
-        let area = slots::slot_area(rows::row_at(parents, PARENT_SIZE, r));
-        let count = area.len() / SLOT_SIZE;
-        for j in 0..count {
-            if layout::names(layout::slot_at(area, j), f) {
-                found = Found::At(r, j);
-                break 'rows;
-            }
-        }
-    }
-    found
-}
-
 // Whether a search found something.
 pub fn is_somewhere(found: Found) -> bool
     ensures { λ b. ⌜ b ≡ isSomewhere found ⌝ }
@@ -44,14 +24,6 @@ pub fn is_somewhere(found: Found) -> bool
         Found::At(_, _) => true,
         Found::Nowhere => false,
     }
-}
-
-// Whether a slot names an object.
-pub fn named(parents: &[u8], f: OstFid) -> bool
-    requires { ⌜ goodLayouts (now parents) ≡ true ⌝ }
-    ensures { λ b. ⌜ b ≡ named (parse (now (parents .entry)) []) f ⌝ }
-{
-    is_somewhere(first_naming(parents, f))
 }
 
 // Whether slot i of row k, which is s, names an object and is not slot j of row r.
@@ -67,7 +39,7 @@ fn names_else(s: Slot, f: OstFid, k: usize, i: usize, r: usize, j: usize) -> boo
     i != j
 }
 
-// The first slot in scan order that names an object, other than slot j of row r.
+// The first slot in scan order that names an object, other than slot j of row r. The search stops at the first parent and slot that name it.
 fn first_else(parents: &[u8], f: OstFid, r: usize, j: usize) -> Found
     requires { ⌜ goodLayouts (now parents) ≡ true ⌝ }
     ensures { λ a. ⌜ a ≡ scan (parse (now (parents .entry)) []) (namesElse (parse (now (parents .entry)) []) f r j) ⌝ }
@@ -85,6 +57,23 @@ fn first_else(parents: &[u8], f: OstFid, r: usize, j: usize) -> Found
         }
     }
     found
+}
+
+// The first slot in scan order that names an object: none is left out where the row isn't there.
+pub fn first_naming(parents: &[u8], f: OstFid) -> Found
+    requires { ⌜ goodLayouts (now parents) ≡ true ⌝ }
+    ensures { λ a. ⌜ a ≡ scan (parse (now (parents .entry)) []) (namesAt (parse (now (parents .entry)) []) f) ⌝ }
+{
+    let n = parents.len() / PARENT_SIZE;
+    first_else(parents, f, n, 0)
+}
+
+// Whether a slot names an object.
+pub fn named(parents: &[u8], f: OstFid) -> bool
+    requires { ⌜ goodLayouts (now parents) ≡ true ⌝ }
+    ensures { λ b. ⌜ b ≡ named (parse (now (parents .entry)) []) f ⌝ }
+{
+    is_somewhere(first_naming(parents, f))
 }
 
 // Whether a slot other than slot j of row r names an object.
