@@ -2,10 +2,10 @@
 use mathlib.Core.Path.{_≡_, refl, sym, ap, subst, _∙_}
 use mathlib.Core.List.{List, [], _∷_, _++_, append-nil}
 use mathlib.Core.Bool.{Bool, true, false, cond, not}
-use Prim.Native.Nat.{ℕ, _+_, _*_, _/_, _%_, _≤_, _<_}
+use Prim.Native.Nat.{ℕ, _+_, _*_, _/_, _≤_, _<_}
 use native.Mathlib.Omega.{arith}
 use borrow.Author.Tests.{eq-eqb, ltb-true, ltb-false, not-true}
-use lib.Dec.{eqb, ltb}
+use lib.Dec.{ltb}
 use lib.ListN.{length, take, drop}
 use lib.Seq.{sets, length-sets}
 use Rattle.wire.specs.Numbers.{Bytes}
@@ -56,10 +56,6 @@ use Rattle.stores.proofs.TableLaws.{parents-put, objects-put, objects-put-2, ob
 use Rattle.mend.proofs.StepLaws.{outcome-rests, outcome-stops, outcome-repairs, parents-rests, parents-stops, objects-stops, objects-rests, parents-same, objects-one, row-is, used-at, row-inside}
 
 -- ## Small parts
-
-pub adopts-is : (n : ℕ) → eqb (n / 2 % 2) 1 ≡ adopts n
-unfolding adopts
-adopts-is n = refl
 
 pub owned-same : (l : List ℕ) (k : ℕ) (x : Object) (w : Owner) → sameOwner (x .owner) w ≡ true → l ≡ ownedBytes l k x w
 unfolding ownedBytes
@@ -277,9 +273,6 @@ unfolding sameOwner
 same-self w = rw (eq-eqb (w .uid) (w .uid) refl, eq-eqb (w .gid) (w .gid) refl)
 
 module _ (p o : List ℕ) (h : Sound p o) (b : Bytes p) (c : Bytes o) (k : ℕ) (n : k < length o / objectSize) (x : Object) (f : MdtFid) (i : ℕ) (w : Way) (e : w ≡ way (parse p o) f i) where
-  S : Step
-  S = adoptOf p o k x f i
-
   abbrev pub Adopted : Outcome → List ℕ → List ℕ → Type 0
   Adopted u y z = (u ≡ outcome (adoptOf p o k x f i)) × ((y ≡ parentsBy (adoptOf p o k x f i) p o) × (z ≡ objectsBy (adoptOf p o k x f i) p o))
 

@@ -25,10 +25,6 @@ pub run-fits : (policy : ℕ) (reserve : List OstFid) (n : ℕ) (T : Tables) (p 
     FitTables (run policy reserve n T p .tables)
 run-fits policy reserve n T p sound = run-makes policy reserve n T p sound .fits
 
--- every write of a step fits its row
-pub writes-fit : (policy : ℕ) (reserve : List OstFid) (T : Tables) (p : Position) → FitReserve reserve → FitTables T → FitStep (stepAt policy reserve T p)
-writes-fit policy reserve T p good fit = step-fits policy T fit reserve good p
-
 -- no FID comes to stand twice
 pub run-distinct : (policy : ℕ) (reserve : List OstFid) (n : ℕ) (T : Tables) (p : Position) → Distinct T →
     Distinct (run policy reserve n T p .tables)

@@ -15,9 +15,9 @@ ghost use Prim.Native.Nat.{_/_, _<_};
 ghost use lib.ListN.{length};
 ghost use Rattle.tables.specs.Bytes.{parentSize, parentRows, parse};
 ghost use Rattle.tables.specs.Positions.{width};
-ghost use Rattle.tables.specs.Check.{goodLayouts, noneTwice, Sound};
+ghost use Rattle.tables.specs.Check.{goodLayouts, noneTwice};
 ghost use Rattle.rules.specs.Search.{slotFrom, orElse};
-ghost use Rattle.rules.specs.Rows.{namesAt, scan, objectOf};
+ghost use Rattle.rules.specs.Rows.{namesAt, scan};
 ghost use Rattle.rules.specs.Keeper.{claimIn, keeperBy, keeper};
 
 // What an object claims: nothing where it is absent.
@@ -64,13 +64,4 @@ pub fn keeper_by(parents: &[u8], f: OstFid, claim: Claim) -> Found
             }
         }
     }
-}
-
-// The keeper of an object FID, present in the object table or not.
-pub fn keeper(parents: &[u8], objects: &[u8], f: OstFid) -> Found
-    requires { ⌜ Sound (now parents) (now objects) ⌝ }
-    ensures { λ a. ⌜ a ≡ keeper (parse (now (parents .entry)) (now (objects .entry))) f ⌝ }
-{
-    let found = objects::lookup(objects, f);
-    keeper_by(parents, f, claim_in(found))
 }

@@ -2,20 +2,19 @@
 use mathlib.Core.Path.{_≡_, refl, sym}
 use mathlib.Core.List.{List, []}
 use mathlib.Core.Bool.{Bool, true, false, not, _&&_}
-use Prim.Native.Nat.{ℕ, _-_, _*_, _/_, _≤_, _<_}
+use Prim.Native.Nat.{ℕ, _*_, _/_, _≤_, _<_}
 use native.Mathlib.Omega.{arith}
 use borrow.Author.Tests.{eqb-true, leb-true, eq-eqb}
 use lib.Dec.{leb, eqb}
 use lib.ListN.{length, getD, take, drop}
 use Rattle.wire.specs.Numbers.{le}
-use Rattle.wire.specs.Rows.{rows}
 use Rattle.wire.proofs.Both.{and-first, and-second}
 use Rattle.fid.specs.Fid.{goodFid, sameFid, zeroFid}
 use Rattle.layout.specs.Slot.{maxIndex}
 use Rattle.layout.specs.Layout.{acceptedLayout}
 use Rattle.layout.proofs.LayoutLaws.{LayoutFacts, accepted-facts}
-use Rattle.tables.specs.Bytes.{parentSize, objectSize, entrySize, layoutRoom, isUsed, layoutLength, layoutBytes, parentRows, objectRows, reserveEntries}
-use Rattle.tables.specs.Check.{all, whenUsed, maxParents, maxObjects, wholeRows, isMark, usedMark, freshMark, parentsWhole, objectsWhole, reserveWhole, tablesWhole, goodLayout, goodLayouts, selfFid, goodSelf, goodIndex, claimed, goodClaim, freshClaims, goodObject, goodEntry, goodFids, noneTwice, allDifferent, Sound, SoundReserve}
+use Rattle.tables.specs.Bytes.{parentSize, objectSize, layoutRoom, isUsed, layoutLength, layoutBytes, parentRows, objectRows, reserveEntries}
+use Rattle.tables.specs.Check.{all, whenUsed, maxParents, maxObjects, wholeRows, isMark, usedMark, freshMark, parentsWhole, objectsWhole, reserveWhole, tablesWhole, goodLayout, goodLayouts, selfFid, goodSelf, goodIndex, claimed, goodClaim, freshClaims, goodObject, goodEntry, goodFids, noneTwice, allDifferent, Sound}
 use Rattle.tables.proofs.AllLaws.{part-length, all-at}
 use Rattle.tables.proofs.RowReads.{layout-bytes}
 use Rattle.tables.proofs.CheckLaws.{sound-pass}
@@ -201,10 +200,3 @@ module _ (p o : List ℕ) (h : Sound p o) (r : ℕ) (row : List ℕ) where
           claim = and-second (a && b) (goodClaim row) t₂;
           fresh = fresh-claimed row (and-second (a && b && goodClaim row) (freshClaims row) t);
         }
-
--- ## The reserve
-
-pub reserve-good : (s : List ℕ) (r : ℕ) → SoundReserve s → r < length s / entrySize → goodEntry (take entrySize (drop (entrySize * r) s)) ≡ true
-unfolding SoundReserve reserveEntries
-reserve-good s r h k =
-    all-at goodEntry entrySize (length s / entrySize) r s (and-second (reserveWhole s) (all goodEntry (reserveEntries s)) h) k

@@ -1,4 +1,4 @@
--- Records of one size: the record at a place, and what a run of stores inside one record does to them. Assumes nothing.
+-- Rows of one size: the row at a place, and what a run of stores inside one row does to them. Assumes nothing.
 use mathlib.Core.Path.{_≡_, refl, sym, ap, _∙_}
 use mathlib.Core.List.{List, [], _∷_, _++_}
 use Prim.Native.Nat.{ℕ, zero, suc, _+_, _-_, _*_, _≤_, _<_}
@@ -6,8 +6,8 @@ use native.Mathlib.Nat.{not-suc-le-zero, mul-zero, mul-suc, zero-add, sub-zero}
 use native.Mathlib.Numerals.{add-one}
 use native.Mathlib.Omega.{arith}
 use lib.ListN.{length, take, drop, set, getD, length-drop, take-append-drop}
-use lib.Seq.{sets, length-sets, drop-drop, drop-set-lt, take-set-lt, take-set-le}
-use Rattle.wire.specs.Rows.{recs, rows}
+use lib.Seq.{sets, drop-drop, drop-set-lt, take-set-lt}
+use Rattle.wire.specs.Rows.{rows}
 use Rattle.wire.proofs.Splice.{take-sets-le, drop-sets-add}
 
 module _ {A : Type 0} where
@@ -20,38 +20,6 @@ module _ {A : Type 0} where
   pub take-sets-in : (vs l : List A) (n i : ℕ) → i + length vs ≤ n → take n (sets l i vs) ≡ sets (take n l) i vs
   take-sets-in [] l n i h = refl
   take-sets-in (a ∷ vs) l n i h = take-sets-in vs (set l i a) n (suc i) (omega arith) ∙ rw (take-set-lt n l i a (omega arith))
-
-module _ {R : Type 0} (size : ℕ) (decode : List ℕ → R) where
-  pub recs-length : (n : ℕ) (l : List ℕ) → length (recs size decode n l) ≡ n
-  unfolding recs
-  recs-length zero l = refl
-  recs-length (suc n) l = ap suc (recs-length n (drop size l))
-
-  pub recs-at : (n j : ℕ) (l : List ℕ) (d : R) → j < n → getD (recs size decode n l) j d ≡ decode (drop (size * j) l)
-  unfolding recs
-  recs-at zero j l d h = absurd (not-suc-le-zero h)
-  recs-at (suc n) zero l d h = rw mul-zero
-  recs-at (suc n) (suc j) l d h =
-      let m : size * suc j ≡ size + size * j = omega (arith, mul-suc size j) in
-      recs-at n j (drop size l) d (omega arith) ∙ rw (m, drop-drop (size * j) size l)
-
-  -- stores inside record j change that record alone
-  pub recs-inside : ((l : List ℕ) → size ≤ length l → decode (take size l) ≡ decode l) →
-      (n j k : ℕ) (l e : List ℕ) → k + length e ≤ size → j < n → size * n ≤ length l →
-      recs size decode n (sets l (size * j + k) e) ≡ set (recs size decode n l) j (decode (sets (drop (size * j) l) k e))
-  unfolding recs
-  recs-inside loc zero j k l e f h s = absurd (not-suc-le-zero h)
-  recs-inside loc (suc n) zero k l e f h s = rw (mul-zero, zero-add, drop-sets-le e l size k f)
-  recs-inside loc (suc n) (suc j) k l e f h s =
-      let m : size * suc j ≡ size + size * j = omega (arith, mul-suc size j) in
-      let p : size * suc n ≡ size + size * n = omega (arith, mul-suc size n) in
-      let i : size * suc j + k ≡ size + (size * j + k) = omega arith in
-      let x : List ℕ = sets l (size + (size * j + k)) e in
-      let q : decode x ≡ decode l =
-      sym (loc x (rw length-sets (omega arith))) ∙ ap decode (take-sets-le e l size (size + (size * j + k)) (omega arith)) ∙ loc l (omega arith) in
-      rw (i, q, drop-sets-add e l size (size * j + k), recs-inside loc n j k (drop size l) e f (omega arith) (rw length-drop (omega arith)), m, drop-drop (size * j) size l)
-
--- ---- rows of bytes
 
 pub rows-length : (size n : ℕ) (l : List ℕ) → length (rows size n l) ≡ n
 unfolding rows
