@@ -1,2 +1,0 @@
-// Steps on object rows: EMPTY is destroyed, ORPHAN is put in its claimed place.
-pub mod orphans;

@@ -1,3 +1,0 @@
-pub mod StepLaws
-pub mod SlotSteps
-pub mod SlotReads
