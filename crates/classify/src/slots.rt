@@ -12,7 +12,6 @@ use tables::Owner;
 use tables::rows;
 use tables::rows::PARENT_SIZE;
 ghost use mathlib.Core.Path.{_≡_};
-ghost use mathlib.Core.Bool.{true};
 ghost use Prim.Native.Nat.{_/_, _<_};
 ghost use lib.ListN.{length};
 ghost use Rattle.tables.specs.Bytes.{parentSize, parse};

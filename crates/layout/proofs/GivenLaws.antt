@@ -1,8 +1,8 @@
 -- Laws of slots that are handed in as five numbers each. Assumes nothing.
-use mathlib.Core.Path.{_≡_, refl, sym, ap, _∙_}
+use mathlib.Core.Path.{_≡_, refl, ap}
 use mathlib.Core.List.{List, [], _∷_, _++_}
 use mathlib.Core.Bool.{Bool, true, false, _&&_}
-use Prim.Native.Nat.{ℕ, zero, suc, _+_, _-_, _*_, _≤_, _<_, _^_}
+use Prim.Native.Nat.{ℕ, zero, suc, _+_, _-_, _≤_, _<_}
 use borrow.Author.Tests.{eq-eqb, ne-eqb, le-leb, lt-leb}
 use native.Mathlib.Omega.{arith}
 use native.Mathlib.Nat.{sub-zero}
@@ -13,7 +13,7 @@ use Rattle.layout.specs.declared.Slot.{Slot}
 use Rattle.layout.specs.declared.Slot.the-variants.{Hole, Names}
 use Rattle.layout.specs.declared.Given.{Given}
 use Rattle.layout.specs.declared.Given.the-variants.{NotSlot, GivenSlot}
-use Rattle.layout.specs.Slot.{allowedSlot, allowedSlots, encodeSlot, encodeSlots}
+use Rattle.layout.specs.Slot.{allowedSlot, allowedSlots, encodeSlot}
 use Rattle.layout.specs.Answers.{zeroGiven, namesGiven, givenFrom, givenAt, isSlot, slotGiven, givenSlots, allGiven}
 
 module _ (k s o g i : ℕ) where

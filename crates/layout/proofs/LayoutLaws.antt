@@ -1,26 +1,26 @@
 -- Laws of layouts: what is accepted, case by case and as facts, and the round trips. Assumes nothing.
 use mathlib.Core.Path.{_≡_, refl, sym, ap, _∙_}
 use mathlib.Core.List.{List, [], _∷_, _++_, append-assoc, append-nil}
-use mathlib.Core.Bool.{Bool, true, false, cond, _&&_, _||_}
-use Prim.Native.Nat.{ℕ, zero, suc, _+_, _-_, _*_, _≤_, _<_, _^_}
+use mathlib.Core.Bool.{Bool, true, false, _&&_}
+use Prim.Native.Nat.{ℕ, zero, suc, _+_, _-_, _*_, _≤_, _<_}
 use borrow.Author.Tests.{eq-eqb, ne-eqb, le-leb, lt-leb, lt-ltb, le-ltb, eqb-true, leb-true}
 use native.Mathlib.Omega.{arith}
-use lib.Dec.{eqb, leb, ltb}
-use lib.ListN.{length, take, drop, set, getD, length-append, length-drop, take-append-drop}
-use lib.Seq.{sets, length-sets, take-all, take-add, drop-drop, drop-at, drop-append-le, take-at, length-take-le}
+use lib.Dec.{eqb, leb}
+use lib.ListN.{length, take, drop, set, length-append, length-drop, take-append-drop}
+use lib.Seq.{sets, length-sets, take-all, take-add, drop-at, drop-append-le, take-at, length-take-le}
 use Rattle.wire.specs.Numbers.{le, bytes}
-use Rattle.wire.proofs.Both.{and-first, and-second, and-both}
+use Rattle.wire.proofs.Both.{and-first, and-second}
 use Rattle.wire.proofs.Splice.{take-sets-le, drop-sets-add, drop-take-all}
 use Rattle.wire.proofs.NumberLaws.{Bytes, bytes-drop, le-append}
 use Rattle.layout.specs.declared.Header.{Header}
 use Rattle.layout.specs.declared.Slot.{Slot}
-use Rattle.layout.specs.declared.Slot.the-variants.{Hole, Names}
+use Rattle.layout.specs.declared.Slot.the-variants.{Hole}
 use Rattle.layout.specs.declared.Reading.the-variants.{Refused, Accepted}
 use Rattle.layout.specs.declared.SlotRead.the-variants.{BadLayout, NoSlot, SlotIs}
 use Rattle.layout.specs.Slot.{slotOf, encodeSlot, decodeSlots, encodeSlots, allowedSlot, allowedSlots}
 use Rattle.layout.specs.Layout.{Layout, headerSize, decodeHeader, encodeHeader, stripeCount, slotStart, decodeLayout, encodeLayout, knownVersion, knownPattern, withHoles, maxSlots, fewSlots, layoutSize, exactLength, layoutRules, acceptedLayout}
 use Rattle.layout.specs.Answers.{readLayout, readSlot, rewriteAnswer, rewriteBytes}
-use Rattle.layout.proofs.SlotLaws.{FitSlot, FitSlots, length-slot, length-slots, length-encode-slots, slots-at, slots-set, slots-written-back, slots-read-back}
+use Rattle.layout.proofs.SlotLaws.{FitSlot, FitSlots, length-slots, length-encode-slots, slots-at, slots-set, slots-written-back, slots-read-back}
 use Rattle.layout.proofs.HeaderLaws.{FitHeader, size-least, size-most, length-header, header-written-back, header-read-back, count-read-back}
 
 -- ## What is accepted

@@ -3,18 +3,17 @@ use mathlib.Core.Path.{_≡_, refl, sym, ap, _∙_}
 use mathlib.Core.List.{List, [], _∷_, _++_, append-assoc}
 use mathlib.Core.Bool.{Bool, true, false, cond, _&&_}
 use Prim.Native.Nat.{ℕ, zero, suc, _+_, _-_, _*_, _≤_, _<_, _^_}
-use borrow.Author.Tests.{eq-eqb, ne-eqb, eqb-true, leb-true}
+use borrow.Author.Tests.{eq-eqb, ne-eqb, eqb-true}
 use native.Mathlib.Omega.{arith}
 use native.Mathlib.Nat.{mod-eq-of-lt, not-suc-le-zero, sub-zero}
-use native.Mathlib.Numerals.{add-one}
 use lib.Dec.{eqb, leb}
 use lib.ListN.{length, take, drop, set, getD, length-append, length-drop, take-append-drop, replicate}
-use lib.Seq.{sets, sets-eq, length-sets, drop-drop, take-all, take-add, drop-at, drop-append-le, length-take-le}
+use lib.Seq.{sets, length-sets, drop-drop, take-add, drop-at, drop-append-le, length-take-le}
 use Rattle.wire.specs.Numbers.{le, bytes}
 use Rattle.wire.proofs.Both.{and-first, and-second}
 use Rattle.wire.proofs.Splice.{sets-at, sets-whole, drop-sets, take-sets-le, drop-sets-add}
 use Rattle.wire.proofs.NumberLaws.{Bytes, bytes-drop, bytes-le, length-bytes, le-bytes, le-append}
-use Rattle.fid.specs.Fid.{decodeFid, encodeFid, goodFid, goodNumber, goodSequence}
+use Rattle.fid.specs.Fid.{decodeFid, encodeFid, goodFid}
 use Rattle.fid.specs.declared.Fid.{Fid}
 use Rattle.fid.specs.declared.OstFid.{OstFid}
 use Rattle.fid.proofs.FidLaws.{length-encode, decode-encode, encode-decode, decode-append, Fits, good-positive}

@@ -2,12 +2,12 @@
 use mathlib.Core.Path.{_≡_, refl, sym, ap, _∙_}
 use mathlib.Core.List.{List, [], _∷_, _++_, append-nil, append-assoc}
 use mathlib.Core.Bool.{Bool, true, false, _&&_}
-use Prim.Native.Nat.{ℕ, zero, suc, _+_, _-_, _*_, _≤_, _<_}
-use borrow.Author.Tests.{eq-eqb, ne-eqb, le-leb, lt-leb, eqb-true, leb-true}
+use Prim.Native.Nat.{ℕ, _+_, _-_, _*_, _≤_, _<_}
+use borrow.Author.Tests.{eq-eqb, ne-eqb, le-leb, lt-leb, eqb-true}
 use native.Mathlib.Omega.{arith}
 use native.Mathlib.Numerals.{add-one}
 use lib.Dec.{eqb, leb}
-use lib.ListN.{length, take, drop, set, getD, length-append}
+use lib.ListN.{length, take, set, getD, length-append}
 use lib.Seq.{sets, length-sets, take-suc, take-all, length-take-le}
 use Rattle.wire.proofs.Both.{and-first, and-second}
 use Rattle.wire.proofs.Splice.{sets-at, put-sets}
@@ -16,10 +16,10 @@ use Rattle.layout.specs.declared.Header.{Header}
 use Rattle.layout.specs.declared.Slot.{Slot}
 use Rattle.layout.specs.declared.Written.the-variants.{BadFields, TooShort, Bytes}
 use Rattle.layout.specs.Slot.{allowedSlots, encodeSlot, encodeSlots}
-use Rattle.layout.specs.Layout.{Layout, headerSize, encodeHeader, encodeLayout, knownVersion, knownPattern, withHoles, maxSlots, fewSlots, layoutSize, layoutRules}
+use Rattle.layout.specs.Layout.{headerSize, encodeHeader, encodeLayout, knownVersion, knownPattern, withHoles, maxSlots, fewSlots, layoutSize, layoutRules}
 use Rattle.layout.specs.Answers.{givenAt, slotGiven, givenSlots, allGiven, givenLayout, writable, writeLayout, leftBy, writeBytes}
 use Rattle.layout.proofs.SlotLaws.{length-slot, length-encode-slots}
-use Rattle.layout.proofs.HeaderLaws.{length-header, size-least, size-most}
+use Rattle.layout.proofs.HeaderLaws.{length-header, size-least}
 use Rattle.layout.proofs.LayoutLaws.{rules-few}
 use Rattle.layout.proofs.GivenLaws.{length-given, given-more}
 

@@ -4,7 +4,7 @@ use fid::OstFid;
 ghost use mathlib.Core.Path.{_≡_};
 ghost use mathlib.Core.Bool.{true, _&&_};
 ghost use Prim.Native.Nat.{_+_, _*_, _≤_};
-ghost use lib.ListN.{length, drop};
+ghost use lib.ListN.{length};
 ghost use lib.Seq.{sets};
 ghost use Rattle.layout.specs.Slot.{zeroSlot, slotOf, encodeSlot, decodeSlots, encodeSlots, allowedSlot, allowedSlots, slotNames};
 ghost use Rattle.layout.specs.Layout.{headerSize, decodeHeader, encodeHeader, stripeCount, slotStart, knownVersion, knownPattern, withHoles, exactLength, acceptedLayout};

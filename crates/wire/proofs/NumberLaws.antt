@@ -1,12 +1,12 @@
 -- Laws of little-endian numbers, over the width. Assumes nothing.
-use mathlib.Core.Path.{_≡_, refl, sym, ap, ap₂, _∙_}
+use mathlib.Core.Path.{_≡_, refl, sym, ap}
 use mathlib.Core.List.{List, [], _∷_, _++_}
 use Prim.Native.Nat.{ℕ, zero, suc, _+_, _*_, _/_, _%_, _^_, _≤_, _<_}
-use native.Mathlib.Nat.{zero-add, suc-add, mul-zero, mul-assoc, mul-comm, add-zero, pow-suc, div-one, mod-lt, one-le-pow, div-div-eq-div-mul, mod-one, mul-add}
+use native.Mathlib.Nat.{zero-add, suc-add, mul-zero, mul-assoc, mul-comm, add-zero, pow-suc, div-one, one-le-pow, div-div-eq-div-mul, mod-one}
 use native.Mathlib.Omega.{arith}
 use lib.Arith.{mod-mul, digits-div, digits-mod}
 use lib.ListN.{length, take, drop, getD}
-use native.Mathlib.Nat.{mod-eq-of-lt, not-suc-le-zero}
+use native.Mathlib.Nat.{not-suc-le-zero}
 use lib.Seq.{drop-drop, getD-drop, sets}
 use Rattle.wire.proofs.Splice.{sets-at}
 use Rattle.wire.specs.Numbers.{le, bytes}

@@ -2,8 +2,6 @@ use Rattle.rules.specs.Classes.{only}
 use Rattle.capi_class.specs.Classes.{listed}
 use Rattle.capi_class.proofs.bare.Statement.{statement}
 use Rattle.capi_class.proofs.bare.Tie as tie
-use Rattle.capi_class.proofs.bare.Reads as reads
-use Rattle.capi_class.proofs.bare.Lts as lts
 
 returns : tie.Need-returns
 unfolding listed only

@@ -3,37 +3,15 @@ use Rattle.capi_layout.proofs.LayoutNumbers.{slot-bad, slot-none, slot-
 use borrow.Author.Needs.{needs}
 use Rattle.capi_layout.proofs.layout_slot.Statement.{statement}
 use Rattle.capi_layout.proofs.layout_slot.Tie as tie
-use Rattle.capi_layout.proofs.layout_slot.Reads as reads
-use Rattle.capi_layout.proofs.layout_slot.Lts as lts
-use Rattle.capi_layout.proofs.put_slot.Reads as put-slot-reads
-use Rattle.layout.proofs.read_slot.Reads as read-slot-reads
-
-read-slot-requires : tie.Need-read-slot-requires
-read-slot-requires c κs = search needs
-
-enum-told : tie.Need-enum-told
-enum-told c = search needs
-
-enum-told-2 : tie.Need-enum-told-2
-enum-told-2 c = search needs
-
-enum-known-read : tie.Need-enum-known-read
-enum-known-read c = search needs
 
 returns : tie.Need-returns
 returns c = let v = c .before .before .read .given .0 in slot-short _ _ (v .0) (sym (c .before .before .before .before .read-slot .ensures) ∙ c .before .before .read .given .1) (c .if1 .taken)
-
-put-slot-requires : tie.Need-put-slot-requires
-put-slot-requires c κs = search needs
 
 returns-2 : tie.Need-returns-2
 returns-2 c = slot-bad _ _ (sym (c .before .before .read-slot .ensures) ∙ c .enum-told .given .1)
 
 returns-3 : tie.Need-returns-3
 returns-3 c = slot-none _ _ (sym (c .before .before .read-slot .ensures) ∙ c .enum-told2 .given .1)
-
-same-length : tie.Need-same-length
-same-length c = search needs
 
 returns-4 : tie.Need-returns-4
 returns-4 c = let v = c .before .before .before .before .before .before .read .given .0 in slot-done _ _ (v .0) (sym (c .before .before .before .before .before .before .before .before .read-slot .ensures) ∙ c .before .before .before .before .before .before .read .given .1) _ (c .before .before .before .before .if1 .left) (c .before .before .put-slot .ensures)
@@ -42,13 +20,13 @@ pub layout-slot-spec : {M : Type 1} → statement M
 layout-slot-spec =
     tie.close
     (tie.spec
-    read-slot-requires
-    enum-told
-    enum-told-2
-    enum-known-read
+    (λ c κs. search needs)
+    (λ c. search needs)
+    (λ c. search needs)
+    (λ c. search needs)
     returns
-    put-slot-requires
+    (λ c κs. search needs)
     returns-2
     returns-3
-    same-length
+    (λ c. search needs)
     returns-4)

@@ -3,33 +3,6 @@ use Rattle.capi_out.proofs.OutLaws.{four}
 use borrow.Author.Needs.{needs}
 use Rattle.capi_out.proofs.put_four.Statement.{statement}
 use Rattle.capi_out.proofs.put_four.Tie as tie
-use Rattle.capi_out.proofs.put_four.Reads as reads
-use Rattle.capi_out.proofs.put_four.Lts as lts
-use Rattle.capi_out.proofs.put.Reads as put-reads
-
-put-requires : tie.Need-put-requires
-put-requires c κs = search needs
-
-add-put : tie.Need-add-put
-add-put c = search needs
-
-put-requires-2 : tie.Need-put-requires-2
-put-requires-2 c κs = search needs
-
-add-put-2 : tie.Need-add-put-2
-add-put-2 c = search needs
-
-put-requires-3 : tie.Need-put-requires-3
-put-requires-3 c κs = search needs
-
-add-put-3 : tie.Need-add-put-3
-add-put-3 c = search needs
-
-put-requires-4 : tie.Need-put-requires-4
-put-requires-4 c κs = search needs
-
-same-length : tie.Need-same-length
-same-length c = search needs
 
 returns : tie.Need-returns
 returns c =
@@ -40,12 +13,12 @@ pub put-four-spec : {M : Type 1} → statement M
 put-four-spec =
     tie.close
     (tie.spec
-    put-requires
-    add-put
-    put-requires-2
-    add-put-2
-    put-requires-3
-    add-put-3
-    put-requires-4
-    same-length
+    (λ c κs. search needs)
+    (λ c. search needs)
+    (λ c κs. search needs)
+    (λ c. search needs)
+    (λ c κs. search needs)
+    (λ c. search needs)
+    (λ c κs. search needs)
+    (λ c. search needs)
     returns)

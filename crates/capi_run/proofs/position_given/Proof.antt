@@ -4,21 +4,10 @@ use Rattle.capi_run.proofs.RunNumbers.{given-other, given-three}
 use borrow.Author.Needs.{needs}
 use Rattle.capi_run.proofs.position_given.Statement.{statement}
 use Rattle.capi_run.proofs.position_given.Tie as tie
-use Rattle.capi_run.proofs.position_given.Reads as reads
-use Rattle.capi_run.proofs.position_given.Lts as lts
 
 returns : tie.Need-returns
 unfolding place
 returns c = given-other (now (c .before .args .position)) (c .if1 .taken)
-
-shared-slice-read-t5 : tie.Need-shared-slice-read-t5
-shared-slice-read-t5 c = search needs
-
-shared-slice-read-t7 : tie.Need-shared-slice-read-t7
-shared-slice-read-t7 c = search needs
-
-shared-slice-read-t9 : tie.Need-shared-slice-read-t9
-shared-slice-read-t9 c = search needs
 
 returns-2 : tie.Need-returns-2
 unfolding place
@@ -27,4 +16,4 @@ returns-2 c = given-three (now (c .before .before .before .before .args .positio
 pub position-given-spec : {M : Type 1} → statement M
 position-given-spec =
     tie.close
-    (tie.spec returns shared-slice-read-t5 shared-slice-read-t7 shared-slice-read-t9 returns-2)
+    (tie.spec returns (λ c. search needs) (λ c. search needs) (λ c. search needs) returns-2)

@@ -5,22 +5,12 @@ use Rattle.capi_write.proofs.WriteNumbers.{header-none, header-is, fit-
 use borrow.Author.Needs.{needs}
 use Rattle.capi_write.proofs.given_header.Statement.{statement}
 use Rattle.capi_write.proofs.given_header.Tie as tie
-use Rattle.capi_write.proofs.given_header.Reads as reads
-use Rattle.capi_write.proofs.given_header.Lts as lts
-use Rattle.capi_write.proofs.fields_fit.Reads as fields-fit-reads
-use Rattle.capi_write.proofs.magic_of.Reads as magic-of-reads
-
-fields-fit-requires : tie.Need-fields-fit-requires
-fields-fit-requires c κs = search needs
 
 returns : tie.Need-returns
 returns c = header-none _ (sym (c .before .fields-fit .ensures) ∙ not-true _ (c .if1 .taken))
 
 shared-slice-read-magic-of : tie.Need-shared-slice-read-magic-of
 shared-slice-read-magic-of c = omega (arith, fit-fields _ (sym (c .before .before .fields-fit .ensures) ∙ not-false _ (c .before .if1 .left)))
-
-magic-of-requires : tie.Need-magic-of-requires
-magic-of-requires c κs = search needs
 
 shared-slice-read-t8 : tie.Need-shared-slice-read-t8
 shared-slice-read-t8 c = omega (arith, fit-fields _ (sym (c .before .before .before .before .fields-fit .ensures) ∙ not-false _ (c .before .before .before .if1 .left)))
@@ -53,10 +43,10 @@ pub given-header-spec : {M : Type 1} → statement M
 given-header-spec =
     tie.close
     (tie.spec
-    fields-fit-requires
+    (λ c κs. search needs)
     returns
     shared-slice-read-magic-of
-    magic-of-requires
+    (λ c κs. search needs)
     shared-slice-read-t8
     cast-t9
     shared-slice-read-t11

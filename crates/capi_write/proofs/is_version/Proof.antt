@@ -1,8 +1,6 @@
 use Rattle.capi_write.proofs.WriteNumbers.{is-one, is-three}
 use Rattle.capi_write.proofs.is_version.Statement.{statement}
 use Rattle.capi_write.proofs.is_version.Tie as tie
-use Rattle.capi_write.proofs.is_version.Reads as reads
-use Rattle.capi_write.proofs.is_version.Lts as lts
 
 returns : tie.Need-returns
 returns c = is-one _ (c .if1 .taken)

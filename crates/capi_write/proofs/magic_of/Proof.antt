@@ -1,8 +1,6 @@
 use Rattle.capi_write.proofs.WriteNumbers.{magic-three, magic-one}
 use Rattle.capi_write.proofs.magic_of.Statement.{statement}
 use Rattle.capi_write.proofs.magic_of.Tie as tie
-use Rattle.capi_write.proofs.magic_of.Reads as reads
-use Rattle.capi_write.proofs.magic_of.Lts as lts
 
 returns : tie.Need-returns
 returns c = magic-three _ (c .if1 .taken)

@@ -6,9 +6,6 @@ use borrow.Author.Needs.{needs}
 use Rattle.classify.proofs.class_at.Statement.{statement}
 use Rattle.classify.proofs.class_at.Tie as tie
 
-check-tables-requires : tie.Need-check-tables-requires
-check-tables-requires c κs = search needs
-
 returns : tie.Need-returns
 returns c = let a = c .before .before .before .before .args in answer-refused (now (a .parents)) (now (a .objects)) (a .at) _ (c .before .check-tables .ensures) (c .if1 .taken)
 
@@ -17,9 +14,6 @@ is-position-requires c κs = let a = c .before .before .before .before .args in 
 
 returns-2 : tie.Need-returns-2
 returns-2 c = let a = c .before .before .before .before .before .before .args in answer-nowhere (now (a .parents)) (now (a .objects)) (a .at) _ (c .before .before .before .check-tables .ensures) (c .before .before .if1 .left) (sym (c .before .is-position .ensures) ∙ not-true _ (c .if2 .taken))
-
-is-end-requires : tie.Need-is-end-requires
-is-end-requires c κs = search needs
 
 returns-3 : tie.Need-returns-3
 returns-3 c = let a = c .before .before .before .before .before .before .before .before .args in answer-end (now (a .parents)) (now (a .objects)) (a .at) _ (c .before .before .before .before .before .check-tables .ensures) (c .before .before .before .before .if1 .left) (sym (c .before .before .before .is-position .ensures) ∙ not-false _ (c .before .before .if2 .left)) (sym (c .before .is-end .ensures) ∙ c .if3 .taken)
@@ -34,11 +28,11 @@ pub class-at-spec : {M : Type 1} → statement M
 class-at-spec =
     tie.close
     (tie.spec
-    check-tables-requires
+    (λ c κs. search needs)
     returns
     is-position-requires
     returns-2
-    is-end-requires
+    (λ c κs. search needs)
     returns-3
     class-of-requires
     returns-4)

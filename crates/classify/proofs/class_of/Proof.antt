@@ -19,9 +19,6 @@ header-class-requires c κs = let a = c .before .before .before .before .before 
 returns-2 : tie.Need-returns-2
 returns-2 c = let a = c .before .before .before .before .before .before .before .args in at-header (now (a .parents)) (now (a .objects)) (a .at) (omega arith) (omega arith) _ (c .header-class .ensures)
 
-sub-j : tie.Need-sub-j
-sub-j c = search needs
-
 slot-class-requires : tie.Need-slot-class-requires
 slot-class-requires c κs = let a = c .before .before .before .before .before .before .before .args in (c .before .before .before .before .before .before .before .pre .0, parent-there (now (a .parents)) (now (a .objects)) (a .at) (c .before .before .before .before .before .before .before .pre .1) (omega arith))
 
@@ -36,6 +33,6 @@ class-of-spec =
     returns
     header-class-requires
     returns-2
-    sub-j
+    (λ c. search needs)
     slot-class-requires
     returns-3)

@@ -4,12 +4,6 @@ use Rattle.fid.proofs.FidLaws.{good-bad, good-version}
 use borrow.Author.Needs.{needs}
 use Rattle.fid.proofs.is_good.Statement.{statement}
 use Rattle.fid.proofs.is_good.Tie as tie
-use Rattle.fid.proofs.is_good.Reads as reads
-use Rattle.fid.proofs.is_good.Lts as lts
-use Rattle.fid.proofs.is_good_number.Reads as is-good-number-reads
-
-is-good-number-requires : tie.Need-is-good-number-requires
-is-good-number-requires c κs = search needs
 
 returns : tie.Need-returns
 returns c = good-bad _ (sym (c .before .is-good-number .ensures) ∙ not-true _ (c .if1 .taken))
@@ -18,4 +12,4 @@ returns-2 : tie.Need-returns-2
 returns-2 c = good-version _ (sym (c .before .before .is-good-number .ensures) ∙ not-false _ (c .before .if1 .left))
 
 pub is-good-spec : {M : Type 1} → statement M
-is-good-spec = tie.close (tie.spec is-good-number-requires returns returns-2)
+is-good-spec = tie.close (tie.spec (λ c κs. search needs) returns returns-2)

@@ -2,8 +2,6 @@ use native.Mathlib.Omega.{arith}
 use Rattle.fid.proofs.FidLaws.{number-low, number-high, number-id}
 use Rattle.fid.proofs.is_good_number.Statement.{statement}
 use Rattle.fid.proofs.is_good_number.Tie as tie
-use Rattle.fid.proofs.is_good_number.Reads as reads
-use Rattle.fid.proofs.is_good_number.Lts as lts
 
 returns : tie.Need-returns
 returns c = number-low _ (omega arith)

@@ -2,8 +2,6 @@ use native.Mathlib.Omega.{arith}
 use Rattle.fid.proofs.FidLaws.{same-seq, same-oid, same-ver}
 use Rattle.fid.proofs.same_fid.Statement.{statement}
 use Rattle.fid.proofs.same_fid.Tie as tie
-use Rattle.fid.proofs.same_fid.Reads as reads
-use Rattle.fid.proofs.same_fid.Lts as lts
 
 returns : tie.Need-returns
 returns c = same-seq _ _ (c .if1 .taken)

@@ -1,23 +1,11 @@
 use Rattle.layout.proofs.LayoutLaws.{area-long}
 use native.Mathlib.Omega.{arith}
-use mathlib.Core.Path.{_≡_, sym, ap, _∙_}
+use mathlib.Core.Path.{sym, _∙_}
 use borrow.Author.Tests.{not-true, not-false}
 use Rattle.layout.proofs.LayoutLaws.{accepted-length, accepted-header, accepted-many, accepted-slots, exact-long, exact-size}
 use borrow.Author.Needs.{needs}
 use Rattle.layout.proofs.accepted.Statement.{statement}
 use Rattle.layout.proofs.accepted.Tie as tie
-use Rattle.layout.proofs.accepted.Reads as reads
-use Rattle.layout.proofs.accepted.Lts as lts
-use Rattle.layout.proofs.allowed_slots.Reads as allowed-slots-reads
-use Rattle.layout.proofs.exact_length.Reads as exact-length-reads
-use Rattle.layout.proofs.known_header.Reads as known-header-reads
-use Rattle.layout.proofs.read_header.Reads as read-header-reads
-use Rattle.layout.proofs.slot_start.Reads as slot-start-reads
-use Rattle.layout.proofs.stripe_count.Reads as stripe-count-reads
-use Rattle.layout.proofs.with_holes.Reads as with-holes-reads
-
-exact-length-requires : tie.Need-exact-length-requires
-exact-length-requires c κs = search needs
 
 returns : tie.Need-returns
 returns c = accepted-length _ (sym (c .before .exact-length .ensures) ∙ not-true _ (c .if1 .taken))
@@ -25,17 +13,11 @@ returns c = accepted-length _ (sym (c .before .exact-length .ensures) ∙ not-tr
 read-header-requires : tie.Need-read-header-requires
 read-header-requires c κs = exact-long _ (sym (c .before .exact-length .ensures) ∙ not-false _ (c .if1 .left))
 
-known-header-requires : tie.Need-known-header-requires
-known-header-requires c κs = search needs
-
 returns-2 : tie.Need-returns-2
 returns-2 c = accepted-header _ _ (c .before .before .read-header .ensures) (sym (c .before .before .before .before .exact-length .ensures) ∙ not-false _ (c .before .before .before .if1 .left)) (sym (c .before .known-header .ensures) ∙ not-true _ (c .if2 .taken))
 
 stripe-count-requires : tie.Need-stripe-count-requires
 stripe-count-requires c κs = omega (arith, exact-long _ (sym (c .before .before .before .before .exact-length .ensures) ∙ not-false _ (c .before .before .before .if1 .left)))
-
-cast-n : tie.Need-cast-n
-cast-n c = search needs
 
 returns-3 : tie.Need-returns-3
 returns-3 c = accepted-many _ _ _ (c .before .before .before .before .read-header .ensures) (c .before .stripe-count .ensures) (sym (c .before .before .before .before .before .before .exact-length .ensures) ∙ not-false _ (c .before .before .before .before .before .if1 .left)) (sym (c .before .before .before .known-header .ensures) ∙ not-false _ (c .before .before .if2 .left)) (omega arith)
@@ -53,12 +35,6 @@ part-allowed-slots-start c =
     let x = (sym (c .before .before .before .before .before .before .before .exact-length .ensures) ∙ not-false _ (c .before .before .before .before .before .before .if1 .left)) in
     omega (arith, exact-size _ x, c .slot-start .ensures)
 
-part-allowed-slots-end : tie.Need-part-allowed-slots-end
-part-allowed-slots-end c = search needs
-
-with-holes-requires : tie.Need-with-holes-requires
-with-holes-requires c κs = search needs
-
 allowed-slots-requires : tie.Need-allowed-slots-requires
 allowed-slots-requires c κs = area-long _ _ _ (sym (c .before .before .before .before .before .before .before .before .before .exact-length .ensures) ∙ not-false _ (c .before .before .before .before .before .before .before .before .if1 .left)) (c .before .before .slot-start .ensures) (c .before .before .before .before .stripe-count .ensures)
 
@@ -72,18 +48,18 @@ pub accepted-spec : {M : Type 1} → statement M
 accepted-spec =
     tie.close
     (tie.spec
-    exact-length-requires
+    (λ c κs. search needs)
     returns
     read-header-requires
-    known-header-requires
+    (λ c κs. search needs)
     returns-2
     stripe-count-requires
-    cast-n
+    (λ c. search needs)
     returns-3
     slot-start-requires
     sub-allowed-slots
     part-allowed-slots-start
-    part-allowed-slots-end
-    with-holes-requires
+    (λ c. search needs)
+    (λ c κs. search needs)
     allowed-slots-requires
     returns-4)

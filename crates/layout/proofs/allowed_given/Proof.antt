@@ -2,18 +2,6 @@ use Rattle.layout.proofs.GivenLaws.{given-none, given-test}
 use borrow.Author.Needs.{needs}
 use Rattle.layout.proofs.allowed_given.Statement.{statement}
 use Rattle.layout.proofs.allowed_given.Tie as tie
-use Rattle.layout.proofs.allowed_given.Reads as reads
-use Rattle.layout.proofs.allowed_given.Lts as lts
-use Rattle.layout.proofs.allowed_slot.Reads as allowed-slot-reads
-
-enum-told : tie.Need-enum-told
-enum-told c = search needs
-
-enum-known-g : tie.Need-enum-known-g
-enum-known-g c = search needs
-
-allowed-slot-requires : tie.Need-allowed-slot-requires
-allowed-slot-requires c κs = search needs
 
 returns : tie.Need-returns
 returns c = given-none _ _ (cc)
@@ -23,4 +11,4 @@ returns-2 c = let v = c .before .before .g .given .0 in given-test _ _ (v .0) _ 
 
 pub allowed-given-spec : {M : Type 1} → statement M
 allowed-given-spec =
-    tie.close (tie.spec enum-told enum-known-g allowed-slot-requires returns returns-2)
+    tie.close (tie.spec (λ c. search needs) (λ c. search needs) (λ c κs. search needs) returns returns-2)

@@ -3,16 +3,12 @@ use borrow.Author.Tests.{not-true, not-false}
 use borrow.Author.Needs.{needs}
 use mathlib.Core.Path.{_≡_}
 use mathlib.Core.Bool.{_&&_}
-use Prim.Native.Nat.{ℕ, _+_, _-_, _*_, _≤_, _<_}
+use Prim.Native.Nat.{_-_, _≤_}
 use Rattle.layout.specs.Slot.{allowedSlots}
 use Rattle.layout.specs.Answers.{allGiven, givenSlots}
 use Rattle.layout.proofs.GivenLaws.{givenFromOn, given-start, given-stop, given-next, given-end}
 use Rattle.layout.proofs.allowed_numbers.Statement.{statement}
 use Rattle.layout.proofs.allowed_numbers.Tie as tie
-use Rattle.layout.proofs.allowed_numbers.Reads as reads
-use Rattle.layout.proofs.allowed_numbers.Lts as lts
-use Rattle.layout.proofs.allowed_given.Reads as allowed-given-reads
-use Rattle.layout.proofs.given_at.Reads as given-at-reads
 
 abbrev Inv-loop : tie.InvT-loop
 Inv-loop numbers count holes j₀ j = (j ≤ count) × ((allGiven numbers count 0 && allowedSlots holes (givenSlots numbers count 0)) ≡ givenFromOn holes numbers count j)

@@ -2,15 +2,11 @@ use native.Mathlib.Omega.{arith}
 use borrow.Author.Tests.{not-true, not-false}
 use borrow.Author.Needs.{needs}
 use mathlib.Core.Path.{_≡_}
-use Prim.Native.Nat.{ℕ, _+_, _-_, _*_, _≤_, _<_}
+use Prim.Native.Nat.{_-_, _≤_}
 use Rattle.layout.specs.Slot.{allowedSlots, decodeSlots}
 use Rattle.layout.proofs.SlotLaws.{allowedFrom, allowed-start, allowed-stop, allowed-next, allowed-end}
 use Rattle.layout.proofs.allowed_slots.Statement.{statement}
 use Rattle.layout.proofs.allowed_slots.Tie as tie
-use Rattle.layout.proofs.allowed_slots.Reads as reads
-use Rattle.layout.proofs.allowed_slots.Lts as lts
-use Rattle.layout.proofs.allowed_slot.Reads as allowed-slot-reads
-use Rattle.layout.proofs.slot_at.Reads as slot-at-reads
 
 abbrev Inv-loop : tie.InvT-loop
 Inv-loop area count holes j₀ j = (j ≤ count) × (allowedSlots holes (decodeSlots count area) ≡ allowedFrom holes area count j)

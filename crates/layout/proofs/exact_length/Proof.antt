@@ -3,25 +3,9 @@ use Rattle.layout.proofs.LayoutLaws.{exact-short, exact-is, start-most}
 use borrow.Author.Needs.{needs}
 use Rattle.layout.proofs.exact_length.Statement.{statement}
 use Rattle.layout.proofs.exact_length.Tie as tie
-use Rattle.layout.proofs.exact_length.Reads as reads
-use Rattle.layout.proofs.exact_length.Lts as lts
-use Rattle.layout.proofs.slot_start.Reads as slot-start-reads
-use Rattle.layout.proofs.stripe_count.Reads as stripe-count-reads
 
 returns : tie.Need-returns
 returns c = exact-short _ (omega arith)
-
-slot-start-requires : tie.Need-slot-start-requires
-slot-start-requires c κs = search needs
-
-stripe-count-requires : tie.Need-stripe-count-requires
-stripe-count-requires c κs = search needs
-
-cast-n : tie.Need-cast-n
-cast-n c = search needs
-
-mul-result : tie.Need-mul-result
-mul-result c = search needs
 
 add-result : tie.Need-add-result
 add-result c = omega (arith, start-most _ (c .before .slot-start .ensures))
@@ -34,9 +18,9 @@ exact-length-spec =
     tie.close
     (tie.spec
     returns
-    slot-start-requires
-    stripe-count-requires
-    cast-n
-    mul-result
+    (λ c κs. search needs)
+    (λ c κs. search needs)
+    (λ c. search needs)
+    (λ c. search needs)
     add-result
     returns-2)

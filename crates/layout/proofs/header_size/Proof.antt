@@ -1,8 +1,6 @@
 use Rattle.layout.proofs.HeaderLaws.{size-three, size-one}
 use Rattle.layout.proofs.header_size.Statement.{statement}
 use Rattle.layout.proofs.header_size.Tie as tie
-use Rattle.layout.proofs.header_size.Reads as reads
-use Rattle.layout.proofs.header_size.Lts as lts
 
 returns : tie.Need-returns
 returns c = size-three _ (c .if1 .taken)

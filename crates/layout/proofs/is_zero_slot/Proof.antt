@@ -2,8 +2,6 @@ use native.Mathlib.Omega.{arith}
 use Rattle.layout.proofs.SlotLaws.{zero-seq, zero-oid, zero-ver, zero-generation, zero-index}
 use Rattle.layout.proofs.is_zero_slot.Statement.{statement}
 use Rattle.layout.proofs.is_zero_slot.Tie as tie
-use Rattle.layout.proofs.is_zero_slot.Reads as reads
-use Rattle.layout.proofs.is_zero_slot.Lts as lts
 
 returns : tie.Need-returns
 returns c = zero-seq _ _ _ (c .if1 .taken)

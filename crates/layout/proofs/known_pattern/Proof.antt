@@ -1,8 +1,6 @@
 use Rattle.layout.proofs.HeaderLaws.{pattern-plain, pattern-holes}
 use Rattle.layout.proofs.known_pattern.Statement.{statement}
 use Rattle.layout.proofs.known_pattern.Tie as tie
-use Rattle.layout.proofs.known_pattern.Reads as reads
-use Rattle.layout.proofs.known_pattern.Lts as lts
 
 returns : tie.Need-returns
 returns c = pattern-plain _ (c .if1 .taken)

@@ -1,8 +1,6 @@
 use Rattle.layout.proofs.HeaderLaws.{version-one, version-three}
 use Rattle.layout.proofs.known_version.Statement.{statement}
 use Rattle.layout.proofs.known_version.Tie as tie
-use Rattle.layout.proofs.known_version.Reads as reads
-use Rattle.layout.proofs.known_version.Lts as lts
 
 returns : tie.Need-returns
 returns c = version-one _ (c .if1 .taken)

@@ -6,24 +6,12 @@ use Rattle.layout.proofs.WriteLaws.{write-many, write-uneven, write-poo
 use borrow.Author.Needs.{needs}
 use Rattle.layout.proofs.may_write.Statement.{statement}
 use Rattle.layout.proofs.may_write.Tie as tie
-use Rattle.layout.proofs.may_write.Reads as reads
-use Rattle.layout.proofs.may_write.Lts as lts
-use Rattle.layout.proofs.allowed_numbers.Reads as allowed-numbers-reads
-use Rattle.layout.proofs.header_size.Reads as header-size-reads
-use Rattle.layout.proofs.known_header.Reads as known-header-reads
-use Rattle.layout.proofs.with_holes.Reads as with-holes-reads
 
 returns : tie.Need-returns
 returns c = write-many _ _ _ _ (omega arith)
 
-mul-if2 : tie.Need-mul-if2
-mul-if2 c = search needs
-
 returns-2 : tie.Need-returns-2
 returns-2 c = write-uneven _ _ _ _ (c .if2 .taken)
-
-header-size-requires : tie.Need-header-size-requires
-header-size-requires c κs = search needs
 
 sub-if3 : tie.Need-sub-if3
 sub-if3 c = omega (arith, size-least (c .before .before .before .before .before .args .h .magic), c .header-size .ensures)
@@ -31,18 +19,9 @@ sub-if3 c = omega (arith, size-least (c .before .before .before .before .before 
 returns-3 : tie.Need-returns-3
 returns-3 c = write-pool _ _ _ _ _ (c .before .header-size .ensures) (omega arith) (c .if3 .taken)
 
-known-header-requires : tie.Need-known-header-requires
-known-header-requires c κs = search needs
-
 returns-4 : tie.Need-returns-4
 returns-4 c =
     write-unknown _ _ _ _ _ (c .before .before .before .header-size .ensures) (omega arith) (omega arith) (sym (c .before .known-header .ensures) ∙ not-true _ (c .if4 .taken))
-
-with-holes-requires : tie.Need-with-holes-requires
-with-holes-requires c κs = search needs
-
-allowed-numbers-requires : tie.Need-allowed-numbers-requires
-allowed-numbers-requires c κs = search needs
 
 returns-5 : tie.Need-returns-5
 returns-5 c =
@@ -54,13 +33,13 @@ may-write-spec =
     tie.close
     (tie.spec
     returns
-    mul-if2
+    (λ c. search needs)
     returns-2
-    header-size-requires
+    (λ c κs. search needs)
     sub-if3
     returns-3
-    known-header-requires
+    (λ c κs. search needs)
     returns-4
-    with-holes-requires
-    allowed-numbers-requires
+    (λ c κs. search needs)
+    (λ c κs. search needs)
     returns-5)

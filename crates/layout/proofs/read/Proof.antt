@@ -1,18 +1,10 @@
 use native.Mathlib.Omega.{arith}
-use mathlib.Core.Path.{_≡_, sym, ap, _∙_}
+use mathlib.Core.Path.{sym, _∙_}
 use borrow.Author.Tests.{not-true, not-false}
 use Rattle.layout.proofs.LayoutLaws.{read-refused, read-accepted, accepted-long}
 use borrow.Author.Needs.{needs}
 use Rattle.layout.proofs.read.Statement.{statement}
 use Rattle.layout.proofs.read.Tie as tie
-use Rattle.layout.proofs.read.Reads as reads
-use Rattle.layout.proofs.read.Lts as lts
-use Rattle.layout.proofs.accepted.Reads as accepted-reads
-use Rattle.layout.proofs.read_header.Reads as read-header-reads
-use Rattle.layout.proofs.stripe_count.Reads as stripe-count-reads
-
-accepted-requires : tie.Need-accepted-requires
-accepted-requires c κs = search needs
 
 returns : tie.Need-returns
 returns c = read-refused _ (sym (c .before .accepted .ensures) ∙ not-true _ (c .if1 .taken))
@@ -29,4 +21,4 @@ returns-2 c = read-accepted _ _ _ (sym (c .before .before .before .accepted .ens
 pub read-spec : {M : Type 1} → statement M
 read-spec =
     tie.close
-    (tie.spec accepted-requires returns read-header-requires stripe-count-requires returns-2)
+    (tie.spec (λ c κs. search needs) returns read-header-requires stripe-count-requires returns-2)

@@ -1,34 +1,16 @@
 use native.Mathlib.Omega.{arith}
-use mathlib.Core.Path.{_≡_, sym, ap, _∙_}
+use mathlib.Core.Path.{sym, _∙_}
 use borrow.Author.Tests.{not-true, not-false}
 use Rattle.layout.proofs.LayoutLaws.{rewrite-bad, rewrite-past, rewrite-done, may-accepted, accepted-long, accepted-size}
 use borrow.Author.Needs.{needs}
 use Rattle.layout.proofs.rewrite.Statement.{statement}
 use Rattle.layout.proofs.rewrite.Tie as tie
-use Rattle.layout.proofs.rewrite.Reads as reads
-use Rattle.layout.proofs.rewrite.Lts as lts
-use Rattle.layout.proofs.may_rewrite.Reads as may-rewrite-reads
-use Rattle.layout.proofs.set_slot.Reads as set-slot-reads
-use Rattle.layout.proofs.slot_start.Reads as slot-start-reads
-use Rattle.layout.proofs.stripe_count.Reads as stripe-count-reads
-
-may-rewrite-requires : tie.Need-may-rewrite-requires
-may-rewrite-requires c κs = search needs
-
-same-length : tie.Need-same-length
-same-length c = search needs
 
 returns : tie.Need-returns
 returns c = rewrite-bad _ _ _ (sym (c .before .may-rewrite .ensures) ∙ not-true _ (c .if1 .taken))
 
 stripe-count-requires : tie.Need-stripe-count-requires
 stripe-count-requires c κs = omega (arith, accepted-long _ (may-accepted _ _ (sym (c .before .before .may-rewrite .ensures) ∙ not-false _ (c .before .if1 .left))))
-
-cast-n : tie.Need-cast-n
-cast-n c = search needs
-
-same-length-2 : tie.Need-same-length-2
-same-length-2 c = search needs
 
 returns-2 : tie.Need-returns-2
 returns-2 c = rewrite-past _ _ _ _ (sym (c .before .before .before .before .may-rewrite .ensures) ∙ not-false _ (c .before .before .before .if1 .left)) (c .before .stripe-count .ensures) (omega arith)
@@ -39,9 +21,6 @@ slot-start-requires c κs = omega (arith, accepted-long _ (may-accepted _ _ (sym
 set-slot-requires : tie.Need-set-slot-requires
 set-slot-requires c κs = omega (arith, accepted-size _ _ _ (may-accepted _ _ (sym (c .before .before .before .before .before .before .before .may-rewrite .ensures) ∙ not-false _ (c .before .before .before .before .before .before .if1 .left))) (c .before .slot-start .ensures) (c .before .before .before .before .stripe-count .ensures))
 
-same-length-3 : tie.Need-same-length-3
-same-length-3 c = search needs
-
 returns-3 : tie.Need-returns-3
 returns-3 c = rewrite-done _ _ _ _ _ _ (sym (c .before .before .before .before .before .before .before .before .before .before .may-rewrite .ensures) ∙ not-false _ (c .before .before .before .before .before .before .before .before .before .if1 .left)) (c .before .before .before .before .before .before .before .stripe-count .ensures) (c .before .before .before .before .slot-start .ensures) (omega arith) (c .before .before .set-slot .ensures)
 
@@ -49,14 +28,14 @@ pub rewrite-spec : {M : Type 1} → statement M
 rewrite-spec =
     tie.close
     (tie.spec
-    may-rewrite-requires
-    same-length
+    (λ c κs. search needs)
+    (λ c. search needs)
     returns
     stripe-count-requires
-    cast-n
-    same-length-2
+    (λ c. search needs)
+    (λ c. search needs)
     returns-2
     slot-start-requires
     set-slot-requires
-    same-length-3
+    (λ c. search needs)
     returns-3)

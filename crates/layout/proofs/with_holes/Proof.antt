@@ -2,8 +2,6 @@ use mathlib.Core.Path.{refl}
 use Rattle.layout.specs.Layout.{withHoles}
 use Rattle.layout.proofs.with_holes.Statement.{statement}
 use Rattle.layout.proofs.with_holes.Tie as tie
-use Rattle.layout.proofs.with_holes.Reads as reads
-use Rattle.layout.proofs.with_holes.Lts as lts
 
 returns : tie.Need-returns
 unfolding withHoles

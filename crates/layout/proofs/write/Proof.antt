@@ -6,22 +6,9 @@ use Rattle.layout.proofs.WriteLaws.{write-facts, write-bad, write-short
 use borrow.Author.Needs.{needs}
 use Rattle.layout.proofs.write.Statement.{statement}
 use Rattle.layout.proofs.write.Tie as tie
-use Rattle.layout.proofs.write.Reads as reads
-use Rattle.layout.proofs.write.Lts as lts
-use Rattle.layout.proofs.header_size.Reads as header-size-reads
-use Rattle.layout.proofs.may_write.Reads as may-write-reads
-use Rattle.layout.proofs.write_header.Reads as write-header-reads
-use Rattle.layout.proofs.write_pool.Reads as write-pool-reads
-use Rattle.layout.proofs.write_slots.Reads as write-slots-reads
-
-may-write-requires : tie.Need-may-write-requires
-may-write-requires c κs = search needs
 
 returns : tie.Need-returns
 returns c = write-bad _ _ _ _ _ (sym (c .before .may-write .ensures) ∙ not-true _ (c .if1 .taken))
-
-header-size-requires : tie.Need-header-size-requires
-header-size-requires c κs = search needs
 
 mul-size : tie.Need-mul-size
 mul-size c = omega (arith, write-facts _ _ _ _ (sym (c .before .before .may-write .ensures) ∙ not-false _ (c .before .if1 .left)), size-known _ _ (c .header-size .ensures))
@@ -46,9 +33,6 @@ write-slots-requires c κs =
     let f = write-facts _ _ _ _ (sym (c .before .before .before .before .before .before .before .before .before .before .before .before .may-write .ensures) ∙ not-false _ (c .before .before .before .before .before .before .before .before .before .before .before .if1 .left)) in
     (omega (arith, f, size-known _ _ (c .before .before .before .before .before .before .before .before .before .before .header-size .ensures)), f .even)
 
-same-length : tie.Need-same-length
-same-length c = search needs
-
 returns-3 : tie.Need-returns-3
 returns-3 c = write-done _ _ _ _ _ _ _ _ _ (sym (c .before .before .before .before .before .before .before .before .before .before .before .before .before .before .before .may-write .ensures) ∙ not-false _ (c .before .before .before .before .before .before .before .before .before .before .before .before .before .before .if1 .left)) (c .before .before .before .before .before .before .before .before .before .before .before .before .before .header-size .ensures) (omega arith) (c .before .before .before .before .before .before .before .before .before .before .write-header .ensures) (c .before .before .before .before .before .before .write-pool .ensures) (c .before .before .write-slots .ensures)
 
@@ -56,9 +40,9 @@ pub write-spec : {M : Type 1} → statement M
 write-spec =
     tie.close
     (tie.spec
-    may-write-requires
+    (λ c κs. search needs)
     returns
-    header-size-requires
+    (λ c κs. search needs)
     mul-size
     add-size
     returns-2
@@ -66,5 +50,5 @@ write-spec =
     write-header-requires
     write-pool-requires
     write-slots-requires
-    same-length
+    (λ c. search needs)
     returns-3)

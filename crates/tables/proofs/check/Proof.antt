@@ -6,27 +6,12 @@ use Rattle.tables.proofs.CheckLaws.{check-11, check-11-reserve, check-1
 use borrow.Author.Needs.{needs}
 use Rattle.tables.proofs.check.Statement.{statement}
 use Rattle.tables.proofs.check.Tie as tie
-use Rattle.tables.proofs.check.Reads as reads
-use Rattle.tables.proofs.check.Lts as lts
-use Rattle.tables.proofs.fids.good_reserve.Reads as good-reserve-reads
-use Rattle.tables.proofs.fids.good_rows.Reads as good-rows-reads
-use Rattle.tables.proofs.layouts.good_layouts.Reads as good-layouts-reads
-use Rattle.tables.proofs.positions.is_position.Reads as is-position-reads
-use Rattle.tables.proofs.twice.all_different.Reads as all-different-reads
-use Rattle.tables.proofs.whole.both_whole.Reads as both-whole-reads
-use Rattle.tables.proofs.whole.reserve_whole.Reads as reserve-whole-reads
-
-both-whole-requires : tie.Need-both-whole-requires
-both-whole-requires c κs = search needs
 
 returns : tie.Need-returns
 returns c =
     let a = c .before .before .before .before .before .args in
     check-11 (now (a .parents)) (now (a .objects)) (now (a .reserve)) (a .policy) (a .at)
     (sym (c .before .both-whole .ensures) ∙ not-true _ (c .if1 .taken))
-
-reserve-whole-requires : tie.Need-reserve-whole-requires
-reserve-whole-requires c κs = search needs
 
 returns-2 : tie.Need-returns-2
 returns-2 c =
@@ -43,9 +28,6 @@ returns-3 c =
     (sym (c .before .before .reserve-whole .ensures) ∙ not-false _ (c .before .if2 .left))
     (omega arith)
 
-good-layouts-requires : tie.Need-good-layouts-requires
-good-layouts-requires c κs = search needs
-
 returns-4 : tie.Need-returns-4
 returns-4 c =
     let a = c .before .before .before .before .before .before .before .before .before .before .args in
@@ -54,9 +36,6 @@ returns-4 c =
     (sym (c .before .before .before .before .reserve-whole .ensures) ∙ not-false _ (c .before .before .before .if2 .left))
     (omega arith)
     (sym (c .before .good-layouts .ensures) ∙ not-true _ (c .if4 .taken))
-
-good-rows-requires : tie.Need-good-rows-requires
-good-rows-requires c κs = search needs
 
 returns-5 : tie.Need-returns-5
 returns-5 c =
@@ -68,9 +47,6 @@ returns-5 c =
     (sym (c .before .before .before .good-layouts .ensures) ∙ not-false _ (c .before .before .if4 .left))
     (sym (c .before .good-rows .ensures) ∙ not-true _ (c .if5 .taken))
 
-good-reserve-requires : tie.Need-good-reserve-requires
-good-reserve-requires c κs = search needs
-
 returns-6 : tie.Need-returns-6
 returns-6 c =
     let a = c .before .before .before .before .before .before .before .before .before .before .before .before .before .before .args in
@@ -81,9 +57,6 @@ returns-6 c =
     (sym (c .before .before .before .before .before .good-layouts .ensures) ∙ not-false _ (c .before .before .before .before .if4 .left))
     (sym (c .before .before .before .good-rows .ensures) ∙ not-false _ (c .before .before .if5 .left))
     (sym (c .before .good-reserve .ensures) ∙ not-true _ (c .if6 .taken))
-
-all-different-requires : tie.Need-all-different-requires
-all-different-requires c κs = search needs
 
 returns-7 : tie.Need-returns-7
 returns-7 c =
@@ -136,18 +109,18 @@ pub check-spec : {M : Type 1} → statement M
 check-spec =
     tie.close
     (tie.spec
-    both-whole-requires
+    (λ c κs. search needs)
     returns
-    reserve-whole-requires
+    (λ c κs. search needs)
     returns-2
     returns-3
-    good-layouts-requires
+    (λ c κs. search needs)
     returns-4
-    good-rows-requires
+    (λ c κs. search needs)
     returns-5
-    good-reserve-requires
+    (λ c κs. search needs)
     returns-6
-    all-different-requires
+    (λ c κs. search needs)
     returns-7
     is-position-requires
     returns-8

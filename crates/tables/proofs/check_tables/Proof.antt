@@ -5,24 +5,12 @@ use Rattle.tables.proofs.CheckLaws.{tables-11, tables-13, tables-14, ta
 use borrow.Author.Needs.{needs}
 use Rattle.tables.proofs.check_tables.Statement.{statement}
 use Rattle.tables.proofs.check_tables.Tie as tie
-use Rattle.tables.proofs.check_tables.Reads as reads
-use Rattle.tables.proofs.check_tables.Lts as lts
-use Rattle.tables.proofs.fids.good_rows.Reads as good-rows-reads
-use Rattle.tables.proofs.layouts.good_layouts.Reads as good-layouts-reads
-use Rattle.tables.proofs.twice.all_different.Reads as all-different-reads
-use Rattle.tables.proofs.whole.both_whole.Reads as both-whole-reads
-
-both-whole-requires : tie.Need-both-whole-requires
-both-whole-requires c κs = search needs
 
 returns : tie.Need-returns
 returns c =
     let a = c .before .before .before .before .args in
     tables-11 (now (a .parents)) (now (a .objects))
     (sym (c .before .both-whole .ensures) ∙ not-true _ (c .if1 .taken))
-
-good-layouts-requires : tie.Need-good-layouts-requires
-good-layouts-requires c κs = search needs
 
 returns-2 : tie.Need-returns-2
 returns-2 c =
@@ -31,9 +19,6 @@ returns-2 c =
     (sym (c .before .before .before .both-whole .ensures) ∙ not-false _ (c .before .before .if1 .left))
     (sym (c .before .good-layouts .ensures) ∙ not-true _ (c .if2 .taken))
 
-good-rows-requires : tie.Need-good-rows-requires
-good-rows-requires c κs = search needs
-
 returns-3 : tie.Need-returns-3
 returns-3 c =
     let a = c .before .before .before .before .before .before .before .before .args in
@@ -41,9 +26,6 @@ returns-3 c =
     (sym (c .before .before .before .before .before .both-whole .ensures) ∙ not-false _ (c .before .before .before .before .if1 .left))
     (sym (c .before .before .before .good-layouts .ensures) ∙ not-false _ (c .before .before .if2 .left))
     (sym (c .before .good-rows .ensures) ∙ not-true _ (c .if3 .taken))
-
-all-different-requires : tie.Need-all-different-requires
-all-different-requires c κs = search needs
 
 returns-4 : tie.Need-returns-4
 returns-4 c =
@@ -67,12 +49,12 @@ pub check-tables-spec : {M : Type 1} → statement M
 check-tables-spec =
     tie.close
     (tie.spec
-    both-whole-requires
+    (λ c κs. search needs)
     returns
-    good-layouts-requires
+    (λ c κs. search needs)
     returns-2
-    good-rows-requires
+    (λ c κs. search needs)
     returns-3
-    all-different-requires
+    (λ c κs. search needs)
     returns-4
     returns-5)

@@ -5,20 +5,9 @@ use denote.Ref.{now}
 use Rattle.wire.proofs.NumberLaws.{le-two}
 use Rattle.wire.proofs.le16.Statement.{statement}
 use Rattle.wire.proofs.le16.Tie as tie
-use Rattle.wire.proofs.le16.Reads as reads
-use Rattle.wire.proofs.le16.Lts as lts
-
-shared-slice-read-lo : tie.Need-shared-slice-read-lo
-shared-slice-read-lo c = search needs
 
 cast-lo : tie.Need-cast-lo
 cast-lo c = omega (arith, c .shared-slice-known .given (c .before .args .at))
-
-add-hi : tie.Need-add-hi
-add-hi c = search needs
-
-shared-slice-read-hi : tie.Need-shared-slice-read-hi
-shared-slice-read-hi c = search needs
 
 cast-hi : tie.Need-cast-hi
 cast-hi c = omega (arith, c .shared-slice-known2 .given (c .before .before .args .at + 1))
@@ -38,10 +27,10 @@ pub le16-spec : {M : Type 1} → statement M
 le16-spec =
     tie.close
     (tie.spec
-    shared-slice-read-lo
+    (λ c. search needs)
     cast-lo
-    add-hi
-    shared-slice-read-hi
+    (λ c. search needs)
+    (λ c. search needs)
     cast-hi
     mul-result
     add-result

@@ -4,9 +4,6 @@ use borrow.Author.Needs.{needs}
 use Rattle.classify.proofs.headers.own_right.Statement.{statement}
 use Rattle.classify.proofs.headers.own_right.Tie as tie
 
-cast-if1 : tie.Need-cast-if1
-cast-if1 c = search needs
-
 returns : tie.Need-returns
 returns c = let a = c .before .before .before .before .args in own-id (a .h) (a .f) (c .if1 .taken)
 
@@ -14,4 +11,4 @@ returns-2 : tie.Need-returns-2
 returns-2 c = let a = c .before .before .before .before .before .before .args in own-sequence (a .h) (a .f) (omega arith)
 
 pub own-right-spec : {M : Type 1} → statement M
-own-right-spec = tie.close (tie.spec cast-if1 returns returns-2)
+own-right-spec = tie.close (tie.spec (λ c. search needs) returns returns-2)

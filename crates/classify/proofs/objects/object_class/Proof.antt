@@ -7,25 +7,13 @@ use borrow.Author.Needs.{needs}
 use Rattle.classify.proofs.objects.object_class.Statement.{statement}
 use Rattle.classify.proofs.objects.object_class.Tie as tie
 
-row-at-requires : tie.Need-row-at-requires
-row-at-requires c κs = search needs
-
-is-used-requires : tie.Need-is-used-requires
-is-used-requires c κs = search needs
-
 returns : tie.Need-returns
 returns c =
     let a = c .before .before .before .before .before in
     class-unused (now (a .args .parents)) (now (a .args .objects)) (a .args .o) _ (a .pre .1) (c .before .before .row-at .ensures .0) (sym (c .before .is-used .ensures) ∙ not-true _ (c .if1 .taken))
 
-decode-object-requires : tie.Need-decode-object-requires
-decode-object-requires c κs = search needs
-
 keeper-by-requires : tie.Need-keeper-by-requires
 keeper-by-requires c κs = let k = sound-facts _ _ (c .before .before .before .before .before .before .before .pre .0) in (k .layouts, k .parents-differ)
-
-is-somewhere-requires : tie.Need-is-somewhere-requires
-is-somewhere-requires c κs = search needs
 
 returns-2 : tie.Need-returns-2
 returns-2 c =
@@ -46,12 +34,12 @@ pub object-class-spec : {M : Type 1} → statement M
 object-class-spec =
     tie.close
     (tie.spec
-    row-at-requires
-    is-used-requires
+    (λ c κs. search needs)
+    (λ c κs. search needs)
     returns
-    decode-object-requires
+    (λ c κs. search needs)
     keeper-by-requires
-    is-somewhere-requires
+    (λ c κs. search needs)
     returns-2
     unnamed-class-requires
     returns-3)

@@ -6,23 +6,11 @@ use borrow.Author.Needs.{needs}
 use Rattle.classify.proofs.places.claim_is.Statement.{statement}
 use Rattle.classify.proofs.places.claim_is.Tie as tie
 
-enum-told : tie.Need-enum-told
-enum-told c = search needs
-
-enum-known-claim : tie.Need-enum-known-claim
-enum-known-claim c = search needs
-
-same-mdt-requires : tie.Need-same-mdt-requires
-same-mdt-requires c κs = search needs
-
 returns : tie.Need-returns
 returns c =
     let a = c .before .before .before .before .before .args in
     let v = c .before .before .before .claim .given .0 in
     cc (claim-file (v .0) (v .1 .0) (a .f) (a .i) (sym (c .before .same-mdt .ensures) ∙ not-true _ (c .if1 .taken)))
-
-cast-result : tie.Need-cast-result
-cast-result c = search needs
 
 returns-2 : tie.Need-returns-2
 unfolding claimIs
@@ -37,4 +25,4 @@ returns-3 c =
 pub claim-is-spec : {M : Type 1} → statement M
 claim-is-spec =
     tie.close
-    (tie.spec enum-told enum-known-claim same-mdt-requires returns cast-result returns-2 returns-3)
+    (tie.spec (λ c. search needs) (λ c. search needs) (λ c κs. search needs) returns (λ c. search needs) returns-2 returns-3)

@@ -5,25 +5,10 @@ use borrow.Author.Needs.{needs}
 use Rattle.classify.proofs.places.row_way.Statement.{statement}
 use Rattle.classify.proofs.places.row_way.Tie as tie
 
-width-requires : tie.Need-width-requires
-width-requires c κs = search needs
-
-cast-if1 : tie.Need-cast-if1
-cast-if1 c = search needs
-
-slot-of-requires : tie.Need-slot-of-requires
-slot-of-requires c κs = search needs
-
-slot-way-requires : tie.Need-slot-way-requires
-slot-way-requires c κs = search needs
-
 returns : tie.Need-returns
 returns c =
     let a = c .before .before .before .before .before .before .args in
     row-slot (now (a .parents)) (now (a .objects)) (a .f) (a .i) (a .r) _ (c .before .before .before .width .ensures) (omega arith) _ _ (c .before .slot-of .ensures) (c .slot-way .ensures)
-
-holes-in-requires : tie.Need-holes-in-requires
-holes-in-requires c κs = search needs
 
 returns-2 : tie.Need-returns-2
 returns-2 c =
@@ -39,11 +24,11 @@ pub row-way-spec : {M : Type 1} → statement M
 row-way-spec =
     tie.close
     (tie.spec
-    width-requires
-    cast-if1
-    slot-of-requires
-    slot-way-requires
+    (λ c κs. search needs)
+    (λ c. search needs)
+    (λ c κs. search needs)
+    (λ c κs. search needs)
     returns
-    holes-in-requires
+    (λ c κs. search needs)
     returns-2
     returns-3)

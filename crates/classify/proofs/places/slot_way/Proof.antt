@@ -6,15 +6,6 @@ use borrow.Author.Needs.{needs}
 use Rattle.classify.proofs.places.slot_way.Statement.{statement}
 use Rattle.classify.proofs.places.slot_way.Tie as tie
 
-enum-told : tie.Need-enum-told
-enum-told c = search needs
-
-enum-known-s : tie.Need-enum-known-s
-enum-known-s c = search needs
-
-takeable-requires : tie.Need-takeable-requires
-takeable-requires c κs = search needs
-
 returns : tie.Need-returns
 unfolding slotWay
 returns c = cc
@@ -33,4 +24,4 @@ returns-3 c =
 
 pub slot-way-spec : {M : Type 1} → statement M
 slot-way-spec =
-    tie.close (tie.spec enum-told enum-known-s takeable-requires returns returns-2 returns-3)
+    tie.close (tie.spec (λ c. search needs) (λ c. search needs) (λ c κs. search needs) returns returns-2 returns-3)

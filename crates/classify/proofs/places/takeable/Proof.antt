@@ -6,30 +6,15 @@ use borrow.Author.Needs.{needs}
 use Rattle.classify.proofs.places.takeable.Statement.{statement}
 use Rattle.classify.proofs.places.takeable.Tie as tie
 
-lookup-requires : tie.Need-lookup-requires
-lookup-requires c κs = search needs
-
-enum-told : tie.Need-enum-told
-enum-told c = search needs
-
-enum-known-found : tie.Need-enum-known-found
-enum-known-found c = search needs
-
 returns : tie.Need-returns
 returns c =
     let a = c .before .before .before .before .before .before .before .before .args in
     take-stale (now (a .parents)) (now (a .objects)) (a .f) (a .g) (a .r) (a .i) _ (c .before .before .before .before .before .lookup .ensures) (c .before .before .before .found .given .0 .0) (c .before .before .before .found .given .1) (not-true _ (c .if1 .taken))
 
-claim-is-requires : tie.Need-claim-is-requires
-claim-is-requires c κs = search needs
-
 returns-2 : tie.Need-returns-2
 returns-2 c =
     let a = c .before .before .before .before .before .before .before .before .before .before .args in
     take-other (now (a .parents)) (now (a .objects)) (a .f) (a .g) (a .r) (a .i) _ (c .before .before .before .before .before .before .before .lookup .ensures) (c .before .before .before .before .before .found .given .0 .0) (c .before .before .before .before .before .found .given .1) (not-false _ (c .before .before .if1 .left)) (sym (c .before .claim-is .ensures) ∙ not-true _ (c .if2 .taken))
-
-named-else-requires : tie.Need-named-else-requires
-named-else-requires c κs = search needs
 
 returns-3 : tie.Need-returns-3
 returns-3 c =
@@ -45,12 +30,12 @@ pub takeable-spec : {M : Type 1} → statement M
 takeable-spec =
     tie.close
     (tie.spec
-    lookup-requires
-    enum-told
-    enum-known-found
+    (λ c κs. search needs)
+    (λ c. search needs)
+    (λ c. search needs)
     returns
-    claim-is-requires
+    (λ c κs. search needs)
     returns-2
-    named-else-requires
+    (λ c κs. search needs)
     returns-3
     returns-4)

@@ -1,6 +1,5 @@
 use mathlib.Core.Path.{sym, _∙_}
 use mathlib.Core.List.{[]}
-use native.Mathlib.Omega.{arith}
 use denote.Ref.{now}
 use Rattle.search.proofs.FoundRows.{parent-inside}
 use Rattle.classify.proofs.PlaceLaws.{way-far, way-absent, way-row}
@@ -10,15 +9,6 @@ use Rattle.classify.proofs.places.way.Tie as tie
 
 returns : tie.Need-returns
 returns c = let a = c .before .before .before .args in way-far (now (a .parents)) (now (a .objects)) (a .f) (a .i) (c .if1 .taken)
-
-parent-row-requires : tie.Need-parent-row-requires
-parent-row-requires c κs = search needs
-
-enum-told : tie.Need-enum-told
-enum-told c = search needs
-
-enum-known-row : tie.Need-enum-known-row
-enum-known-row c = search needs
 
 row-way-requires : tie.Need-row-way-requires
 row-way-requires c κs = let a = c .before .before .before .before .before .before .before .args in (c .before .before .before .before .before .before .before .pre, parent-inside (now (a .parents)) [] (a .f) (c .before .row .given .0 .0) (sym (c .before .before .before .parent-row .ensures) ∙ c .before .row .given .1))
@@ -34,9 +24,9 @@ way-spec =
     tie.close
     (tie.spec
     returns
-    parent-row-requires
-    enum-told
-    enum-known-row
+    (λ c κs. search needs)
+    (λ c. search needs)
+    (λ c. search needs)
     row-way-requires
     returns-2
     returns-3)

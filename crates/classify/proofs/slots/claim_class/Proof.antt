@@ -6,15 +6,6 @@ use borrow.Author.Needs.{needs}
 use Rattle.classify.proofs.slots.claim_class.Statement.{statement}
 use Rattle.classify.proofs.slots.claim_class.Tie as tie
 
-enum-told : tie.Need-enum-told
-enum-told c = search needs
-
-enum-known-claim : tie.Need-enum-known-claim
-enum-known-claim c = search needs
-
-claim-is-requires : tie.Need-claim-is-requires
-claim-is-requires c κs = search needs
-
 returns : tie.Need-returns
 returns c =
     let a = c .before .before .before .before .before .args in
@@ -40,4 +31,4 @@ returns-4 c =
 pub claim-class-spec : {M : Type 1} → statement M
 claim-class-spec =
     tie.close
-    (tie.spec enum-told enum-known-claim claim-is-requires returns returns-2 returns-3 returns-4)
+    (tie.spec (λ c. search needs) (λ c. search needs) (λ c κs. search needs) returns returns-2 returns-3 returns-4)

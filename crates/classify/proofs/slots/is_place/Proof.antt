@@ -5,12 +5,6 @@ use borrow.Author.Needs.{needs}
 use Rattle.classify.proofs.slots.is_place.Statement.{statement}
 use Rattle.classify.proofs.slots.is_place.Tie as tie
 
-enum-told : tie.Need-enum-told
-enum-told c = search needs
-
-enum-known-found : tie.Need-enum-known-found
-enum-known-found c = search needs
-
 returns : tie.Need-returns
 returns c = let a = c .before .before .before .before .args in let v = c .before .before .found .given .0 in cc (place-row (v .0) (v .1 .0) (a .r) (a .j) (c .if1 .taken))
 
@@ -22,4 +16,4 @@ returns-3 : tie.Need-returns-3
 returns-3 c = let a = c .before .before .before .before .args in let v = c .before .before .found .given .0 in cc (place-slot (v .0) (v .1 .0) (a .r) (a .j) (omega arith))
 
 pub is-place-spec : {M : Type 1} → statement M
-is-place-spec = tie.close (tie.spec enum-told enum-known-found returns returns-2 returns-3)
+is-place-spec = tie.close (tie.spec (λ c. search needs) (λ c. search needs) returns returns-2 returns-3)

@@ -4,18 +4,6 @@ use borrow.Author.Needs.{needs}
 use Rattle.classify.proofs.slots.keeper_class.Statement.{statement}
 use Rattle.classify.proofs.slots.keeper_class.Tie as tie
 
-enum-told : tie.Need-enum-told
-enum-told c = search needs
-
-enum-known-found : tie.Need-enum-known-found
-enum-known-found c = search needs
-
-same-owner-requires : tie.Need-same-owner-requires
-same-owner-requires c κs = search needs
-
-claim-class-requires : tie.Need-claim-class-requires
-claim-class-requires c κs = search needs
-
 returns : tie.Need-returns
 unfolding keeperClass
 returns c = cc
@@ -29,9 +17,9 @@ pub keeper-class-spec : {M : Type 1} → statement M
 keeper-class-spec =
     tie.close
     (tie.spec
-    enum-told
-    enum-known-found
-    same-owner-requires
-    claim-class-requires
+    (λ c. search needs)
+    (λ c. search needs)
+    (λ c κs. search needs)
+    (λ c κs. search needs)
     returns
     returns-2)

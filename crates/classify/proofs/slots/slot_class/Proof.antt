@@ -11,23 +11,8 @@ use Rattle.classify.proofs.slots.slot_class.Tie as tie
 slot-of-requires : tie.Need-slot-of-requires
 slot-of-requires c κs = (sound-facts _ _ (c .before .before .pre .0) .layouts, c .before .before .pre .1)
 
-enum-told : tie.Need-enum-told
-enum-told c = search needs
-
-enum-known-slot : tie.Need-enum-known-slot
-enum-known-slot c = search needs
-
-lookup-requires : tie.Need-lookup-requires
-lookup-requires c κs = search needs
-
-claim-in-requires : tie.Need-claim-in-requires
-claim-in-requires c κs = search needs
-
 keeper-by-requires : tie.Need-keeper-by-requires
 keeper-by-requires c κs = let k = sound-facts _ _ (c .before .before .before .before .before .before .before .before .pre .0) in (k .layouts, k .parents-differ)
-
-is-place-requires : tie.Need-is-place-requires
-is-place-requires c κs = search needs
 
 -- the slot names an object
 names : (c : tie.After-known-told) →
@@ -41,18 +26,6 @@ returns c =
     let v = c .before .before .before .before .before .before .slot .given .0 in
     class-multiple (now (a .parents)) (now (a .objects)) (a .r) (a .j) _ (c .before .before .before .before .before .before .before .before .slot-of .ensures) (v .0) (v .1 .0) (v .1 .1 .0) (names (c .before .before .before .before .before))
     _ (c .before .before .before .before .lookup .ensures) _ (c .before .before .before .claim-in .ensures) _ (c .before .before .keeper-by .ensures) _ (c .before .is-place .ensures) (not-true _ (c .if1 .taken))
-
-row-at-requires : tie.Need-row-at-requires
-row-at-requires c κs = search needs
-
-self-of-requires : tie.Need-self-of-requires
-self-of-requires c κs = search needs
-
-owner-of-requires : tie.Need-owner-of-requires
-owner-of-requires c κs = search needs
-
-keeper-class-requires : tie.Need-keeper-class-requires
-keeper-class-requires c κs = search needs
 
 returns-2 : tie.Need-returns-2
 returns-2 c =
@@ -72,16 +45,16 @@ slot-class-spec =
     tie.close
     (tie.spec
     slot-of-requires
-    enum-told
-    enum-known-slot
-    lookup-requires
-    claim-in-requires
+    (λ c. search needs)
+    (λ c. search needs)
+    (λ c κs. search needs)
+    (λ c κs. search needs)
     keeper-by-requires
-    is-place-requires
+    (λ c κs. search needs)
     returns
-    row-at-requires
-    self-of-requires
-    owner-of-requires
-    keeper-class-requires
+    (λ c κs. search needs)
+    (λ c κs. search needs)
+    (λ c κs. search needs)
+    (λ c κs. search needs)
     returns-2
     returns-3)

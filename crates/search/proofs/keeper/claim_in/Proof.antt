@@ -3,12 +3,6 @@ use borrow.Author.Needs.{needs}
 use Rattle.search.proofs.keeper.claim_in.Statement.{statement}
 use Rattle.search.proofs.keeper.claim_in.Tie as tie
 
-enum-told : tie.Need-enum-told
-enum-told c = search needs
-
-enum-known-found : tie.Need-enum-known-found
-enum-known-found c = search needs
-
 returns : tie.Need-returns
 unfolding claimIn
 returns c = cc
@@ -18,4 +12,4 @@ unfolding claimIn
 returns-2 c = cc
 
 pub claim-in-spec : {M : Type 1} → statement M
-claim-in-spec = tie.close (tie.spec enum-told enum-known-found returns returns-2)
+claim-in-spec = tie.close (tie.spec (λ c. search needs) (λ c. search needs) returns returns-2)

@@ -15,30 +15,6 @@ use borrow.Author.Needs.{needs}
 use Rattle.search.proofs.keeper.keeper_by.Statement.{statement}
 use Rattle.search.proofs.keeper.keeper_by.Tie as tie
 
-enum-told : tie.Need-enum-told
-enum-told c = search needs
-
-first-naming-requires : tie.Need-first-naming-requires
-first-naming-requires c κs = search needs
-
-enum-known-claim : tie.Need-enum-known-claim
-enum-known-claim c = search needs
-
-parent-row-requires : tie.Need-parent-row-requires
-parent-row-requires c κs = search needs
-
-enum-told-2 : tie.Need-enum-told-2
-enum-told-2 c = search needs
-
-first-naming-requires-2 : tie.Need-first-naming-requires-2
-first-naming-requires-2 c κs = search needs
-
-enum-known-row : tie.Need-enum-known-row
-enum-known-row c = search needs
-
-cast-i : tie.Need-cast-i
-cast-i c = search needs
-
 -- the claimed parent's row, and that it lies in the table
 row-is : (c : tie.After-known-told2) → parentRow (parse (now (c .before .before .before .before .before .before .before .before .args .parents)) []) (c .before .before .before .before .before .claim .given .0 .0) ≡ RowIs (c .before .row .given .0 .0)
 row-is c = sym (c .before .before .before .parent-row .ensures) ∙ c .before .row .given .1
@@ -82,14 +58,14 @@ pub keeper-by-spec : {M : Type 1} → statement M
 keeper-by-spec =
     tie.close
     (tie.spec
-    enum-told
-    first-naming-requires
-    enum-known-claim
-    parent-row-requires
-    enum-told-2
-    first-naming-requires-2
-    enum-known-row
-    cast-i
+    (λ c. search needs)
+    (λ c κs. search needs)
+    (λ c. search needs)
+    (λ c κs. search needs)
+    (λ c. search needs)
+    (λ c κs. search needs)
+    (λ c. search needs)
+    (λ c. search needs)
     names-at-requires
     returns
     keeper-in-requires

@@ -4,18 +4,6 @@ use borrow.Author.Needs.{needs}
 use Rattle.search.proofs.keeper.keeper_in.Statement.{statement}
 use Rattle.search.proofs.keeper.keeper_in.Tie as tie
 
-first-in-requires : tie.Need-first-in-requires
-first-in-requires c κs = search needs
-
-enum-known-found : tie.Need-enum-known-found
-enum-known-found c = search needs
-
-enum-told : tie.Need-enum-told
-enum-told c = search needs
-
-first-naming-requires : tie.Need-first-naming-requires
-first-naming-requires c κs = search needs
-
 returns : tie.Need-returns
 returns c = or-found _ _ _ _ (sym (c .before .found .given .1) ∙ c .before .before .before .first-in .ensures)
 
@@ -25,4 +13,4 @@ returns-2 c = or-other _ _ _ (sym (c .before .enum-told .given .1) ∙ c .before
 pub keeper-in-spec : {M : Type 1} → statement M
 keeper-in-spec =
     tie.close
-    (tie.spec first-in-requires enum-known-found enum-told first-naming-requires returns returns-2)
+    (tie.spec (λ c κs. search needs) (λ c. search needs) (λ c. search needs) (λ c κs. search needs) returns returns-2)

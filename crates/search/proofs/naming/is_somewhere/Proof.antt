@@ -3,12 +3,6 @@ use borrow.Author.Needs.{needs}
 use Rattle.search.proofs.naming.is_somewhere.Statement.{statement}
 use Rattle.search.proofs.naming.is_somewhere.Tie as tie
 
-enum-told : tie.Need-enum-told
-enum-told c = search needs
-
-enum-told-2 : tie.Need-enum-told-2
-enum-told-2 c = search needs
-
 returns : tie.Need-returns
 unfolding isSomewhere
 returns c = cc
@@ -18,4 +12,4 @@ unfolding isSomewhere
 returns-2 c = cc
 
 pub is-somewhere-spec : {M : Type 1} → statement M
-is-somewhere-spec = tie.close (tie.spec enum-told enum-told-2 returns returns-2)
+is-somewhere-spec = tie.close (tie.spec (λ c. search needs) (λ c. search needs) returns returns-2)

@@ -3,14 +3,8 @@ use borrow.Author.Needs.{needs}
 use Rattle.search.proofs.naming.named.Statement.{statement}
 use Rattle.search.proofs.naming.named.Tie as tie
 
-first-naming-requires : tie.Need-first-naming-requires
-first-naming-requires c κs = search needs
-
-is-somewhere-requires : tie.Need-is-somewhere-requires
-is-somewhere-requires c κs = search needs
-
 returns : tie.Need-returns
 returns c = named-is _ _ _ _ (c .before .first-naming .ensures) (c .is-somewhere .ensures)
 
 pub named-spec : {M : Type 1} → statement M
-named-spec = tie.close (tie.spec first-naming-requires is-somewhere-requires returns)
+named-spec = tie.close (tie.spec (λ c κs. search needs) (λ c κs. search needs) returns)

@@ -9,23 +9,11 @@ use borrow.Author.Needs.{needs}
 use Rattle.search.proofs.objects.lookup.Statement.{statement}
 use Rattle.search.proofs.objects.lookup.Tie as tie
 
-object-row-requires : tie.Need-object-row-requires
-object-row-requires c κs = search needs
-
-enum-told : tie.Need-enum-told
-enum-told c = search needs
-
-enum-known-found : tie.Need-enum-known-found
-enum-known-found c = search needs
-
 row-at-requires : tie.Need-row-at-requires
 row-at-requires c κs =
     let a = c .before .before .before .before .before .args in
     let h = object-inside [] (now (a .objects)) (a .f) (c .before .found .given .0 .0) (sym (c .before .before .before .object-row .ensures) ∙ c .before .found .given .1) in
     omega arith
-
-decode-object-requires : tie.Need-decode-object-requires
-decode-object-requires c κs = search needs
 
 returns : tie.Need-returns
 returns c = let a = c .before .before .before .before .args in lookup-missing (now (a .objects)) (a .f) (sym (c .before .before .object-row .ensures) ∙ c .enum-told .given .1)
@@ -40,10 +28,10 @@ pub lookup-spec : {M : Type 1} → statement M
 lookup-spec =
     tie.close
     (tie.spec
-    object-row-requires
-    enum-told
-    enum-known-found
+    (λ c κs. search needs)
+    (λ c. search needs)
+    (λ c. search needs)
     row-at-requires
-    decode-object-requires
+    (λ c κs. search needs)
     returns
     returns-2)

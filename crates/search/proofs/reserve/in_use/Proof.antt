@@ -4,19 +4,10 @@ use borrow.Author.Needs.{needs}
 use Rattle.search.proofs.reserve.in_use.Statement.{statement}
 use Rattle.search.proofs.reserve.in_use.Tie as tie
 
-object-row-requires : tie.Need-object-row-requires
-object-row-requires c κs = search needs
-
-is-row-requires : tie.Need-is-row-requires
-is-row-requires c κs = search needs
-
 returns : tie.Need-returns
 returns c =
     let a = c .before .before .before .before .before .args in
     used-row (now (a .parents)) (now (a .objects)) (a .f) _ _ (c .before .before .object-row .ensures) (c .before .is-row .ensures) (c .if1 .taken)
-
-named-requires : tie.Need-named-requires
-named-requires c κs = search needs
 
 returns-2 : tie.Need-returns-2
 returns-2 c =
@@ -25,4 +16,4 @@ returns-2 c =
 
 pub in-use-spec : {M : Type 1} → statement M
 in-use-spec =
-    tie.close (tie.spec object-row-requires is-row-requires returns named-requires returns-2)
+    tie.close (tie.spec (λ c κs. search needs) (λ c κs. search needs) returns (λ c κs. search needs) returns-2)

@@ -3,12 +3,6 @@ use borrow.Author.Needs.{needs}
 use Rattle.search.proofs.reserve.is_row.Statement.{statement}
 use Rattle.search.proofs.reserve.is_row.Tie as tie
 
-enum-told : tie.Need-enum-told
-enum-told c = search needs
-
-enum-told-2 : tie.Need-enum-told-2
-enum-told-2 c = search needs
-
 returns : tie.Need-returns
 unfolding isRow
 returns c = cc
@@ -18,4 +12,4 @@ unfolding isRow
 returns-2 c = cc
 
 pub is-row-spec : {M : Type 1} → statement M
-is-row-spec = tie.close (tie.spec enum-told enum-told-2 returns returns-2)
+is-row-spec = tie.close (tie.spec (λ c. search needs) (λ c. search needs) returns returns-2)

@@ -5,15 +5,9 @@ use borrow.Author.Needs.{needs}
 use Rattle.search.proofs.slots.names_at.Statement.{statement}
 use Rattle.search.proofs.slots.names_at.Tie as tie
 
-slot-of-requires : tie.Need-slot-of-requires
-slot-of-requires c κs = search needs
-
-names-requires : tie.Need-names-requires
-names-requires c κs = search needs
-
 returns : tie.Need-returns
 unfolding namesAt
 returns c = c .names .ensures ∙ ap (slotNames _) (c .before .slot-of .ensures)
 
 pub names-at-spec : {M : Type 1} → statement M
-names-at-spec = tie.close (tie.spec slot-of-requires names-requires returns)
+names-at-spec = tie.close (tie.spec (λ c κs. search needs) (λ c κs. search needs) returns)

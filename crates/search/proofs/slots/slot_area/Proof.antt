@@ -11,12 +11,6 @@ use borrow.Author.Needs.{needs}
 use Rattle.search.proofs.slots.slot_area.Statement.{statement}
 use Rattle.search.proofs.slots.slot_area.Tie as tie
 
-is-used-requires : tie.Need-is-used-requires
-is-used-requires c κs = search needs
-
-slice-aggregate-result : tie.Need-slice-aggregate-result
-slice-aggregate-result c = search needs
-
 returns : tie.Need-returns
 returns c = area-unused _ (sym (c .before .before .is-used .ensures) ∙ not-true _ (c .before .if1 .taken))
 
@@ -41,9 +35,6 @@ sub-result c = omega (arith, layout-facts (c .before), c .slot-start .ensures)
 part-result-start : tie.Need-part-result-start
 part-result-start c = omega (arith, layout-facts (c .before), c .slot-start .ensures)
 
-part-result-end : tie.Need-part-result-end
-part-result-end c = search needs
-
 returns-2 : tie.Need-returns-2
 returns-2 c =
     let d = c .before .before .before in
@@ -53,12 +44,12 @@ pub slot-area-spec : {M : Type 1} → statement M
 slot-area-spec =
     tie.close
     (tie.spec
-    is-used-requires
-    slice-aggregate-result
+    (λ c κs. search needs)
+    (λ c. search needs)
     returns
     layout-of-requires
     slot-start-requires
     sub-result
     part-result-start
-    part-result-end
+    (λ c. search needs)
     returns-2)

@@ -13,9 +13,6 @@ use borrow.Author.Needs.{needs}
 use Rattle.search.proofs.slots.slot_of.Statement.{statement}
 use Rattle.search.proofs.slots.slot_of.Tie as tie
 
-row-at-requires : tie.Need-row-at-requires
-row-at-requires c κs = search needs
-
 slot-area-requires : tie.Need-slot-area-requires
 slot-area-requires c κs = (c .row-at .ensures .1, layout-at (now (c .before .before .args .parents)) _ (c .before .before .args .r) (c .before .before .pre .0) (c .before .before .pre .1) (c .row-at .ensures .0))
 
@@ -28,12 +25,9 @@ area c = area-of _ _ _ (now (c .slot-area .result)) (c .before .before .before .
 returns : tie.Need-returns
 returns c = area-past _ _ _ _ (area (c .before)) _ (omega arith)
 
-slot-at-requires : tie.Need-slot-at-requires
-slot-at-requires c κs = search needs
-
 returns-2 : tie.Need-returns-2
 returns-2 c = area-slot _ _ _ _ (area (c .before .before)) _ _ (omega arith) (c .slot-at .ensures)
 
 pub slot-of-spec : {M : Type 1} → statement M
 slot-of-spec =
-    tie.close (tie.spec row-at-requires slot-area-requires returns slot-at-requires returns-2)
+    tie.close (tie.spec (λ c κs. search needs) slot-area-requires returns (λ c κs. search needs) returns-2)

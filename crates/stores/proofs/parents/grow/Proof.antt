@@ -5,16 +5,6 @@ use Rattle.stores.proofs.RowStores.{used-facts, row-start, row-count, g
 use borrow.Author.Needs.{needs}
 use Rattle.stores.proofs.parents.grow.Statement.{statement}
 use Rattle.stores.proofs.parents.grow.Tie as tie
-use Rattle.stores.proofs.parents.grow.Reads as reads
-use Rattle.stores.proofs.parents.grow.Lts as lts
-use Rattle.layout.proofs.read_header.Reads as read-header-reads
-use Rattle.layout.proofs.slot_start.Reads as slot-start-reads
-use Rattle.layout.proofs.stripe_count.Reads as stripe-count-reads
-use Rattle.stores.proofs.pieces.put_header.Reads as put-header-reads
-use Rattle.stores.proofs.pieces.put_holes.Reads as put-holes-reads
-use Rattle.stores.proofs.pieces.put_slot.Reads as put-slot-reads
-use Rattle.tables.proofs.rows.layout_of.Reads as layout-of-reads
-use Rattle.wire.proofs.put_le16.Reads as put-le16-reads
 
 layout-of-requires : tie.Need-layout-of-requires
 layout-of-requires c κs = let f = used-facts _ (c .before .before .pre .0) in (f .size, f .room)
@@ -28,15 +18,6 @@ slot-start-requires c κs = omega (arith, used-facts _ (c .before .before .befor
 stripe-count-requires : tie.Need-stripe-count-requires
 stripe-count-requires c κs = omega (arith, used-facts _ (c .before .before .before .before .before .pre .0))
 
-cast-n : tie.Need-cast-n
-cast-n c = search needs
-
-add-size : tie.Need-add-size
-add-size c = search needs
-
-mul-size : tie.Need-mul-size
-mul-size c = search needs
-
 add-size-2 : tie.Need-add-size-2
 add-size-2 c = omega (arith, c .before .before .before .before .before .before .pre .0 .size, row-start _ _ _ (c .before .before .before .before .before .before .pre .0) (c .before .before .before .layout-of .ensures .0) (c .before .slot-start .ensures), row-count _ _ _ (c .before .before .before .layout-of .ensures .0) (c .stripe-count .ensures))
 
@@ -46,26 +27,14 @@ cast-put-le16 c = omega (arith, c .before .before .before .before .before .befor
 put-le16-requires : tie.Need-put-le16-requires
 put-le16-requires c κs = omega (arith, c .before .before .before .before .before .before .before .pre .0 .size, row-start _ _ _ (c .before .before .before .before .before .before .before .pre .0) (c .before .before .before .before .layout-of .ensures .0) (c .before .before .slot-start .ensures), row-count _ _ _ (c .before .before .before .before .layout-of .ensures .0) (c .before .stripe-count .ensures))
 
-add-put-header : tie.Need-add-put-header
-add-put-header c = search needs
-
-cast-put-header : tie.Need-cast-put-header
-cast-put-header c = search needs
-
 put-header-requires : tie.Need-put-header-requires
 put-header-requires c κs = omega (arith, c .before .before .before .before .before .before .before .before .before .before .before .pre .0 .size, row-start _ _ _ (c .before .before .before .before .before .before .before .before .before .before .before .pre .0) (c .before .before .before .before .before .before .before .before .layout-of .ensures .0) (c .before .before .before .before .before .before .slot-start .ensures), row-count _ _ _ (c .before .before .before .before .before .before .before .before .layout-of .ensures .0) (c .before .before .before .before .before .stripe-count .ensures))
 
 add-put-holes : tie.Need-add-put-holes
 add-put-holes c = omega (arith, c .before .before .before .before .before .before .before .before .before .before .before .before .before .before .before .pre .0 .size, row-start _ _ _ (c .before .before .before .before .before .before .before .before .before .before .before .before .before .before .before .pre .0) (c .before .before .before .before .before .before .before .before .before .before .before .before .layout-of .ensures .0) (c .before .before .before .before .before .before .before .before .before .before .slot-start .ensures), row-count _ _ _ (c .before .before .before .before .before .before .before .before .before .before .before .before .layout-of .ensures .0) (c .before .before .before .before .before .before .before .before .before .stripe-count .ensures))
 
-mul-put-holes : tie.Need-mul-put-holes
-mul-put-holes c = search needs
-
 add-put-holes-2 : tie.Need-add-put-holes-2
 add-put-holes-2 c = omega (arith, c .before .before .before .before .before .before .before .before .before .before .before .before .before .before .before .pre .0 .size, row-start _ _ _ (c .before .before .before .before .before .before .before .before .before .before .before .before .before .before .before .pre .0) (c .before .before .before .before .before .before .before .before .before .before .before .before .layout-of .ensures .0) (c .before .before .before .before .before .before .before .before .before .before .slot-start .ensures), row-count _ _ _ (c .before .before .before .before .before .before .before .before .before .before .before .before .layout-of .ensures .0) (c .before .before .before .before .before .before .before .before .before .stripe-count .ensures))
-
-add-put-holes-3 : tie.Need-add-put-holes-3
-add-put-holes-3 c = search needs
 
 sub-put-holes : tie.Need-sub-put-holes
 sub-put-holes c = omega (arith, c .before .before .before .before .before .before .before .before .before .before .before .before .before .before .before .pre .0 .size, row-start _ _ _ (c .before .before .before .before .before .before .before .before .before .before .before .before .before .before .before .pre .0) (c .before .before .before .before .before .before .before .before .before .before .before .before .layout-of .ensures .0) (c .before .before .before .before .before .before .before .before .before .before .slot-start .ensures), row-count _ _ _ (c .before .before .before .before .before .before .before .before .before .before .before .before .layout-of .ensures .0) (c .before .before .before .before .before .before .before .before .before .stripe-count .ensures))
@@ -76,17 +45,11 @@ put-holes-requires c κs = omega (arith, c .before .before .before .before .befo
 add-put-slot : tie.Need-add-put-slot
 add-put-slot c = omega (arith, c .before .before .before .before .before .before .before .before .before .before .before .before .before .before .before .before .before .before .before .pre .0 .size, row-start _ _ _ (c .before .before .before .before .before .before .before .before .before .before .before .before .before .before .before .before .before .before .before .pre .0) (c .before .before .before .before .before .before .before .before .before .before .before .before .before .before .before .before .layout-of .ensures .0) (c .before .before .before .before .before .before .before .before .before .before .before .before .before .before .slot-start .ensures), row-count _ _ _ (c .before .before .before .before .before .before .before .before .before .before .before .before .before .before .before .before .layout-of .ensures .0) (c .before .before .before .before .before .before .before .before .before .before .before .before .before .stripe-count .ensures))
 
-mul-put-slot : tie.Need-mul-put-slot
-mul-put-slot c = search needs
-
 add-put-slot-2 : tie.Need-add-put-slot-2
 add-put-slot-2 c = omega (arith, c .before .before .before .before .before .before .before .before .before .before .before .before .before .before .before .before .before .before .before .pre .0 .size, row-start _ _ _ (c .before .before .before .before .before .before .before .before .before .before .before .before .before .before .before .before .before .before .before .pre .0) (c .before .before .before .before .before .before .before .before .before .before .before .before .before .before .before .before .layout-of .ensures .0) (c .before .before .before .before .before .before .before .before .before .before .before .before .before .before .slot-start .ensures), row-count _ _ _ (c .before .before .before .before .before .before .before .before .before .before .before .before .before .before .before .before .layout-of .ensures .0) (c .before .before .before .before .before .before .before .before .before .before .before .before .before .stripe-count .ensures))
 
 put-slot-requires : tie.Need-put-slot-requires
 put-slot-requires c κs = omega (arith, c .before .before .before .before .before .before .before .before .before .before .before .before .before .before .before .before .before .before .before .pre .0 .size, row-start _ _ _ (c .before .before .before .before .before .before .before .before .before .before .before .before .before .before .before .before .before .before .before .pre .0) (c .before .before .before .before .before .before .before .before .before .before .before .before .before .before .before .before .layout-of .ensures .0) (c .before .before .before .before .before .before .before .before .before .before .before .before .before .before .slot-start .ensures), row-count _ _ _ (c .before .before .before .before .before .before .before .before .before .before .before .before .before .before .before .before .layout-of .ensures .0) (c .before .before .before .before .before .before .before .before .before .before .before .before .before .stripe-count .ensures))
-
-same-length : tie.Need-same-length
-same-length c = search needs
 
 returns : tie.Need-returns
 unfolding Bytes
@@ -104,24 +67,24 @@ grow-spec =
     read-header-requires
     slot-start-requires
     stripe-count-requires
-    cast-n
-    add-size
-    mul-size
+    (λ c. search needs)
+    (λ c. search needs)
+    (λ c. search needs)
     add-size-2
     cast-put-le16
     put-le16-requires
-    add-put-header
-    cast-put-header
+    (λ c. search needs)
+    (λ c. search needs)
     put-header-requires
     add-put-holes
-    mul-put-holes
+    (λ c. search needs)
     add-put-holes-2
-    add-put-holes-3
+    (λ c. search needs)
     sub-put-holes
     put-holes-requires
     add-put-slot
-    mul-put-slot
+    (λ c. search needs)
     add-put-slot-2
     put-slot-requires
-    same-length
+    (λ c. search needs)
     returns)

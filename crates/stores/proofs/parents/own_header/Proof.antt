@@ -3,15 +3,10 @@ use Rattle.rules.specs.Repairs.{ownHeader}
 use borrow.Author.Needs.{needs}
 use Rattle.stores.proofs.parents.own_header.Statement.{statement}
 use Rattle.stores.proofs.parents.own_header.Tie as tie
-use Rattle.stores.proofs.parents.own_header.Reads as reads
-use Rattle.stores.proofs.parents.own_header.Lts as lts
-
-cast-t4 : tie.Need-cast-t4
-cast-t4 c = search needs
 
 returns : tie.Need-returns
 unfolding ownHeader
 returns c = refl
 
 pub own-header-spec : {M : Type 1} → statement M
-own-header-spec = tie.close (tie.spec cast-t4 returns)
+own-header-spec = tie.close (tie.spec (λ c. search needs) returns)

@@ -5,14 +5,6 @@ use Rattle.stores.proofs.RowStores.{used-facts, own-nested}
 use borrow.Author.Needs.{needs}
 use Rattle.stores.proofs.parents.put_own.Statement.{statement}
 use Rattle.stores.proofs.parents.put_own.Tie as tie
-use Rattle.stores.proofs.parents.put_own.Reads as reads
-use Rattle.stores.proofs.parents.put_own.Lts as lts
-use Rattle.layout.proofs.read_header.Reads as read-header-reads
-use Rattle.layout.proofs.stripe_count.Reads as stripe-count-reads
-use Rattle.stores.proofs.parents.own_header.Reads as own-header-reads
-use Rattle.stores.proofs.pieces.put_header.Reads as put-header-reads
-use Rattle.tables.proofs.rows.layout_of.Reads as layout-of-reads
-use Rattle.tables.proofs.rows.self_of.Reads as self-of-reads
 
 self-of-requires : tie.Need-self-of-requires
 self-of-requires c κs = omega (arith, c .before .before .pre .size)
@@ -26,14 +18,8 @@ read-header-requires c κs = omega (arith, used-facts _ (c .before .before .befo
 stripe-count-requires : tie.Need-stripe-count-requires
 stripe-count-requires c κs = omega (arith, used-facts _ (c .before .before .before .before .before .before .pre))
 
-own-header-requires : tie.Need-own-header-requires
-own-header-requires c κs = search needs
-
 put-header-requires : tie.Need-put-header-requires
 put-header-requires c κs = omega (arith, c .before .before .before .before .before .before .before .before .before .pre .size)
-
-same-length : tie.Need-same-length
-same-length c = search needs
 
 returns : tie.Need-returns
 unfolding Bytes
@@ -47,7 +33,7 @@ put-own-spec =
     layout-of-requires
     read-header-requires
     stripe-count-requires
-    own-header-requires
+    (λ c κs. search needs)
     put-header-requires
-    same-length
+    (λ c. search needs)
     returns)

@@ -5,11 +5,6 @@ use Rattle.stores.proofs.RowStores.{used-facts, row-start, slot-nested}
 use borrow.Author.Needs.{needs}
 use Rattle.stores.proofs.parents.put_slot.Statement.{statement}
 use Rattle.stores.proofs.parents.put_slot.Tie as tie
-use Rattle.stores.proofs.parents.put_slot.Reads as reads
-use Rattle.stores.proofs.parents.put_slot.Lts as lts
-use Rattle.layout.proofs.slot_start.Reads as slot-start-reads
-use Rattle.stores.proofs.pieces.put_slot.Reads as put-slot-reads
-use Rattle.tables.proofs.rows.layout_of.Reads as layout-of-reads
 
 layout-of-requires : tie.Need-layout-of-requires
 layout-of-requires c κs = let f = used-facts _ (c .before .before .pre .0) in (f .size, f .room)
@@ -29,9 +24,6 @@ add-put-slot-2 c = omega (arith, row-start _ _ _ (c .before .before .before .bef
 put-slot-requires : tie.Need-put-slot-requires
 put-slot-requires c κs = omega (arith, c .before .before .before .before .before .pre .0 .size, row-start _ _ _ (c .before .before .before .before .before .pre .0) (c .before .before .layout-of .ensures .0) (c .before .slot-start .ensures))
 
-same-length : tie.Need-same-length
-same-length c = search needs
-
 returns : tie.Need-returns
 unfolding Bytes
 returns c = let d = c .before .before .before .before .before .before .before .before in cc (slot-nested (now (d .args .row)) (λ i. c .before .before .before .before .before .before .before .slice-known .given i .fits) (d .pre .0) (d .args .j) (d .args .s) (d .pre .1))
@@ -46,5 +38,5 @@ put-slot-spec =
     mul-put-slot
     add-put-slot-2
     put-slot-requires
-    same-length
+    (λ c. search needs)
     returns)

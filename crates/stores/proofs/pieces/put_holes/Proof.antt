@@ -5,9 +5,6 @@ use lib.ListN.{length}
 use Rattle.stores.proofs.StoreLaws.{holesDone, holes-start, holes-step, holes-length, holes-end}
 use Rattle.stores.proofs.pieces.put_holes.Statement.{statement}
 use Rattle.stores.proofs.pieces.put_holes.Tie as tie
-use Rattle.stores.proofs.pieces.put_holes.Reads as reads
-use Rattle.stores.proofs.pieces.put_holes.Lts as lts
-use Rattle.stores.proofs.pieces.put_slot.Reads as put-slot-reads
 
 abbrev Inv-loop : tie.InvT-loop
 Inv-loop row₀ at count k₀ row k = (k ≤ count) × (length row ≡ length row₀) × (row ≡ holesDone row₀ at k)

@@ -7,10 +7,6 @@ use Rattle.tables.specs.Check.{all, whenUsed, goodObject}
 use Rattle.tables.proofs.AllLaws.{allFrom, all-start, all-end, all-pass, all-fail}
 use Rattle.tables.proofs.fids.good_objects.Statement.{statement}
 use Rattle.tables.proofs.fids.good_objects.Tie as tie
-use Rattle.tables.proofs.fids.good_objects.Reads as reads
-use Rattle.tables.proofs.fids.good_objects.Lts as lts
-use Rattle.tables.proofs.fids.good_object.Reads as good-object-reads
-use Rattle.tables.proofs.rows.row_at.Reads as row-at-reads
 
 abbrev Inv-loop : tie.InvT-loop
 Inv-loop objects n r₀ r = (r ≤ n) × (all (whenUsed goodObject) (objectRows objects) ≡ allFrom (whenUsed goodObject) objectSize objects n r)

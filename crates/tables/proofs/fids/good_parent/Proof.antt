@@ -6,23 +6,9 @@ use Rattle.tables.specs.Check.{goodSelf}
 use borrow.Author.Needs.{needs}
 use Rattle.tables.proofs.fids.good_parent.Statement.{statement}
 use Rattle.tables.proofs.fids.good_parent.Tie as tie
-use Rattle.tables.proofs.fids.good_parent.Reads as reads
-use Rattle.tables.proofs.fids.good_parent.Lts as lts
-use Rattle.fid.proofs.is_good.Reads as is-good-reads
-use Rattle.tables.proofs.rows.is_used.Reads as is-used-reads
-use Rattle.tables.proofs.rows.self_fid.Reads as self-fid-reads
-
-is-used-requires : tie.Need-is-used-requires
-is-used-requires c κs = search needs
 
 returns : tie.Need-returns
 returns c = when-unused _ _ (sym (c .before .is-used .ensures) ∙ not-true _ (c .if1 .taken))
-
-self-fid-requires : tie.Need-self-fid-requires
-self-fid-requires c κs = search needs
-
-is-good-requires : tie.Need-is-good-requires
-is-good-requires c κs = search needs
 
 returns-2 : tie.Need-returns-2
 unfolding goodSelf
@@ -30,4 +16,4 @@ returns-2 c = c .is-good .ensures ∙ ap goodFid (c .before .self-fid .ensures) 
 
 pub good-parent-spec : {M : Type 1} → statement M
 good-parent-spec =
-    tie.close (tie.spec is-used-requires returns self-fid-requires is-good-requires returns-2)
+    tie.close (tie.spec (λ c κs. search needs) returns (λ c κs. search needs) (λ c κs. search needs) returns-2)

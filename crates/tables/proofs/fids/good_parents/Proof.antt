@@ -7,10 +7,6 @@ use Rattle.tables.specs.Check.{all, whenUsed, goodSelf}
 use Rattle.tables.proofs.AllLaws.{allFrom, all-start, all-end, all-pass, all-fail}
 use Rattle.tables.proofs.fids.good_parents.Statement.{statement}
 use Rattle.tables.proofs.fids.good_parents.Tie as tie
-use Rattle.tables.proofs.fids.good_parents.Reads as reads
-use Rattle.tables.proofs.fids.good_parents.Lts as lts
-use Rattle.tables.proofs.fids.good_parent.Reads as good-parent-reads
-use Rattle.tables.proofs.rows.row_at.Reads as row-at-reads
 
 abbrev Inv-loop : tie.InvT-loop
 Inv-loop parents n r₀ r = (r ≤ n) × (all (whenUsed goodSelf) (parentRows parents) ≡ allFrom (whenUsed goodSelf) parentSize parents n r)

@@ -8,11 +8,6 @@ use Rattle.tables.specs.Check.{all, goodEntry}
 use Rattle.tables.proofs.AllLaws.{allFrom, all-start, all-end, all-pass, all-fail}
 use Rattle.tables.proofs.fids.good_reserve.Statement.{statement}
 use Rattle.tables.proofs.fids.good_reserve.Tie as tie
-use Rattle.tables.proofs.fids.good_reserve.Reads as reads
-use Rattle.tables.proofs.fids.good_reserve.Lts as lts
-use Rattle.fid.proofs.is_good.Reads as is-good-reads
-use Rattle.fid.proofs.read_fid.Reads as read-fid-reads
-use Rattle.tables.proofs.rows.row_at.Reads as row-at-reads
 
 abbrev Inv-loop : tie.InvT-loop
 Inv-loop reserve n r₀ r = (r ≤ n) × (all (goodEntry) (reserveEntries reserve) ≡ allFrom (goodEntry) entrySize reserve n r)

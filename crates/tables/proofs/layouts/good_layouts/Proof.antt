@@ -7,10 +7,6 @@ use Rattle.tables.specs.Check.{whenUsed, goodLayout, goodLayouts}
 use Rattle.tables.proofs.AllLaws.{allFrom, all-start, all-end, all-pass, all-fail}
 use Rattle.tables.proofs.layouts.good_layouts.Statement.{statement}
 use Rattle.tables.proofs.layouts.good_layouts.Tie as tie
-use Rattle.tables.proofs.layouts.good_layouts.Reads as reads
-use Rattle.tables.proofs.layouts.good_layouts.Lts as lts
-use Rattle.tables.proofs.layouts.good_layout.Reads as good-layout-reads
-use Rattle.tables.proofs.rows.row_at.Reads as row-at-reads
 
 abbrev Inv-loop : tie.InvT-loop
 Inv-loop parents n r₀ r = (r ≤ n) × (goodLayouts parents ≡ allFrom (whenUsed goodLayout) parentSize parents n r)

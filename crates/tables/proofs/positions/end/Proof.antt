@@ -2,8 +2,6 @@ use mathlib.Core.Path.{refl}
 use Rattle.tables.specs.Positions.{place}
 use Rattle.tables.proofs.positions.end.Statement.{statement}
 use Rattle.tables.proofs.positions.end.Tie as tie
-use Rattle.tables.proofs.positions.end.Reads as reads
-use Rattle.tables.proofs.positions.end.Lts as lts
 
 returns : tie.Need-returns
 unfolding place

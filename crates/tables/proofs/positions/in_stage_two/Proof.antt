@@ -5,12 +5,6 @@ use Rattle.tables.proofs.PositionLaws.{two-past, two-part}
 use borrow.Author.Needs.{needs}
 use Rattle.tables.proofs.positions.in_stage_two.Statement.{statement}
 use Rattle.tables.proofs.positions.in_stage_two.Tie as tie
-use Rattle.tables.proofs.positions.in_stage_two.Reads as reads
-use Rattle.tables.proofs.positions.in_stage_two.Lts as lts
-use Rattle.tables.proofs.positions.object_count.Reads as object-count-reads
-
-object-count-requires : tie.Need-object-count-requires
-object-count-requires c κs = search needs
 
 returns : tie.Need-returns
 returns c = let a = c .before .before .before .args in two-past [] (now (a .objects)) (a .row) (a .part) (omega arith)
@@ -19,4 +13,4 @@ returns-2 : tie.Need-returns-2
 returns-2 c = let a = c .before .before .before .args in two-part [] (now (a .objects)) (a .row) (a .part) (omega arith)
 
 pub in-stage-two-spec : {M : Type 1} → statement M
-in-stage-two-spec = tie.close (tie.spec object-count-requires returns returns-2)
+in-stage-two-spec = tie.close (tie.spec (λ c κs. search needs) returns returns-2)

@@ -2,8 +2,6 @@ use native.Mathlib.Omega.{arith}
 use Rattle.tables.proofs.PositionLaws.{end-stage, end-row, end-part}
 use Rattle.tables.proofs.positions.is_end.Statement.{statement}
 use Rattle.tables.proofs.positions.is_end.Tie as tie
-use Rattle.tables.proofs.positions.is_end.Reads as reads
-use Rattle.tables.proofs.positions.is_end.Lts as lts
 
 returns : tie.Need-returns
 returns c = end-stage _ (c .if1 .taken)

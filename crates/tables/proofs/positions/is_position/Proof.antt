@@ -7,11 +7,6 @@ use Rattle.tables.proofs.SoundLaws.{sound-facts}
 use borrow.Author.Needs.{needs}
 use Rattle.tables.proofs.positions.is_position.Statement.{statement}
 use Rattle.tables.proofs.positions.is_position.Tie as tie
-use Rattle.tables.proofs.positions.is_position.Reads as reads
-use Rattle.tables.proofs.positions.is_position.Lts as lts
-use Rattle.tables.proofs.positions.in_stage_one.Reads as in-stage-one-reads
-use Rattle.tables.proofs.positions.in_stage_two.Reads as in-stage-two-reads
-use Rattle.tables.proofs.positions.is_end.Reads as is-end-reads
 
 in-stage-one-requires : tie.Need-in-stage-one-requires
 in-stage-one-requires c κs = sound-facts _ _ (c .before .before .before .before .pre) .layouts
@@ -22,17 +17,11 @@ returns c =
     c .in-stage-one .ensures ∙ one-alone (now (a .parents)) (now (a .objects)) (a .at .row) (a .at .part)
     ∙ position-one (parse (now (a .parents)) (now (a .objects))) (a .at) (omega arith)
 
-in-stage-two-requires : tie.Need-in-stage-two-requires
-in-stage-two-requires c κs = search needs
-
 returns-2 : tie.Need-returns-2
 returns-2 c =
     let a = c .before .before .before .before .before .before .before .args in
     c .in-stage-two .ensures ∙ two-alone (now (a .parents)) (now (a .objects)) (a .at .row) (a .at .part)
     ∙ position-two (parse (now (a .parents)) (now (a .objects))) (a .at) (omega arith)
-
-is-end-requires : tie.Need-is-end-requires
-is-end-requires c κs = search needs
 
 returns-3 : tie.Need-returns-3
 returns-3 c =
@@ -45,7 +34,7 @@ is-position-spec =
     (tie.spec
     in-stage-one-requires
     returns
-    in-stage-two-requires
+    (λ c κs. search needs)
     returns-2
-    is-end-requires
+    (λ c κs. search needs)
     returns-3)

@@ -7,11 +7,6 @@ use Rattle.tables.proofs.SoundLaws.{sound-facts}
 use borrow.Author.Needs.{needs}
 use Rattle.tables.proofs.positions.next_position.Statement.{statement}
 use Rattle.tables.proofs.positions.next_position.Tie as tie
-use Rattle.tables.proofs.positions.next_position.Reads as reads
-use Rattle.tables.proofs.positions.next_position.Lts as lts
-use Rattle.tables.proofs.positions.after_part.Reads as after-part-reads
-use Rattle.tables.proofs.positions.end.Reads as end-reads
-use Rattle.tables.proofs.positions.from_object.Reads as from-object-reads
 
 after-part-requires : tie.Need-after-part-requires
 after-part-requires c κs =
@@ -37,16 +32,10 @@ add-from-object c =
           (position-two (parse (now (a .parents)) (now (a .objects))) (a .at) (omega arith) ∙ d .pre .1),
     )
 
-from-object-requires : tie.Need-from-object-requires
-from-object-requires c κs = search needs
-
 returns-2 : tie.Need-returns-2
 returns-2 c =
     let a = c .before .before .before .before .before .before .before .args in
     c .from-object .ensures ∙ object-alone (now (a .parents)) (now (a .objects)) _ ∙ next-two (parse (now (a .parents)) (now (a .objects))) (a .at) (omega arith)
-
-end-requires : tie.Need-end-requires
-end-requires c κs = search needs
 
 returns-3 : tie.Need-returns-3
 returns-3 c =
@@ -60,7 +49,7 @@ next-position-spec =
     after-part-requires
     returns
     add-from-object
-    from-object-requires
+    (λ c κs. search needs)
     returns-2
-    end-requires
+    (λ c κs. search needs)
     returns-3)

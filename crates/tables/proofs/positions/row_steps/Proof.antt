@@ -9,10 +9,6 @@ use Rattle.tables.proofs.PositionLaws.{stepsFrom, steps-start, steps-en
 use Rattle.tables.proofs.SoundLaws.{layout-at}
 use Rattle.tables.proofs.positions.row_steps.Statement.{statement}
 use Rattle.tables.proofs.positions.row_steps.Tie as tie
-use Rattle.tables.proofs.positions.row_steps.Reads as reads
-use Rattle.tables.proofs.positions.row_steps.Lts as lts
-use Rattle.tables.proofs.positions.row_width.Reads as row-width-reads
-use Rattle.tables.proofs.rows.row_at.Reads as row-at-reads
 
 abbrev Inv-loop : tie.InvT-loop
 Inv-loop parents n steps₀ r₀ steps r = (r ≤ n) × (steps ≤ 65536 * r) × (rowSteps (map parseParent (parentRows parents)) ≡ steps + stepsFrom parents n r)

@@ -8,14 +8,6 @@ use Rattle.tables.proofs.SoundLaws.{LayoutOf, layout-of-row}
 use borrow.Author.Needs.{needs}
 use Rattle.tables.proofs.positions.row_width.Statement.{statement}
 use Rattle.tables.proofs.positions.row_width.Tie as tie
-use Rattle.tables.proofs.positions.row_width.Reads as reads
-use Rattle.tables.proofs.positions.row_width.Lts as lts
-use Rattle.tables.proofs.rows.is_used.Reads as is-used-reads
-use Rattle.tables.proofs.rows.layout_of.Reads as layout-of-reads
-use Rattle.layout.proofs.stripe_count.Reads as stripe-count-reads
-
-is-used-requires : tie.Need-is-used-requires
-is-used-requires c κs = search needs
 
 returns : tie.Need-returns
 returns c = slots-unused (now (c .before .before .before .args .row)) (sym (c .before .is-used .ensures) ∙ not-true _ (c .if1 .taken))
@@ -36,4 +28,4 @@ returns-2 c =
 
 pub row-width-spec : {M : Type 1} → statement M
 row-width-spec =
-    tie.close (tie.spec is-used-requires returns layout-of-requires stripe-count-requires returns-2)
+    tie.close (tie.spec (λ c κs. search needs) returns layout-of-requires stripe-count-requires returns-2)

@@ -5,13 +5,6 @@ use Rattle.tables.proofs.PositionLaws.{parsed-width}
 use Rattle.tables.proofs.SoundLaws.{layout-at}
 use Rattle.tables.proofs.positions.width.Statement.{statement}
 use Rattle.tables.proofs.positions.width.Tie as tie
-use Rattle.tables.proofs.positions.width.Reads as reads
-use Rattle.tables.proofs.positions.width.Lts as lts
-use Rattle.tables.proofs.positions.row_width.Reads as row-width-reads
-use Rattle.tables.proofs.rows.row_at.Reads as row-at-reads
-
-row-at-requires : tie.Need-row-at-requires
-row-at-requires c κs = omega arith
 
 row-width-requires : tie.Need-row-width-requires
 row-width-requires c κs = let d = c .before .before in (c .row-at .ensures .1, layout-at (now (d .args .parents)) _ (d .args .r) (d .pre .0) (d .pre .1) (c .row-at .ensures .0))
@@ -20,4 +13,4 @@ returns : tie.Need-returns
 returns c = let d = c .before .before .before in parsed-width (now (d .args .parents)) [] (d .args .r) (d .pre .1) _ _ (c .before .row-at .ensures .0) (c .row-width .ensures)
 
 pub width-spec : {M : Type 1} → statement M
-width-spec = tie.close (tie.spec row-at-requires row-width-requires returns)
+width-spec = tie.close (tie.spec (λ c κs. omega arith) row-width-requires returns)

@@ -3,12 +3,6 @@ use Rattle.tables.proofs.RowReads.{claim-none, claim-some}
 use borrow.Author.Needs.{needs}
 use Rattle.tables.proofs.rows.claim_from.Statement.{statement}
 use Rattle.tables.proofs.rows.claim_from.Tie as tie
-use Rattle.tables.proofs.rows.claim_from.Reads as reads
-use Rattle.tables.proofs.rows.claim_from.Lts as lts
-use Rattle.tables.proofs.rows.is_zero.Reads as is-zero-reads
-
-is-zero-requires : tie.Need-is-zero-requires
-is-zero-requires c κs = search needs
 
 returns : tie.Need-returns
 returns c = claim-none _ (sym (c .before .is-zero .ensures) ∙ c .if1 .taken)
@@ -17,4 +11,4 @@ returns-2 : tie.Need-returns-2
 returns-2 c = claim-some _ (sym (c .before .is-zero .ensures) ∙ c .if1 .left)
 
 pub claim-from-spec : {M : Type 1} → statement M
-claim-from-spec = tie.close (tie.spec is-zero-requires returns returns-2)
+claim-from-spec = tie.close (tie.spec (λ c κs. search needs) returns returns-2)

@@ -7,27 +7,6 @@ use Rattle.tables.proofs.RowReads.{layout-part, layout-bytes}
 use borrow.Author.Needs.{needs}
 use Rattle.tables.proofs.rows.layout_of.Statement.{statement}
 use Rattle.tables.proofs.rows.layout_of.Tie as tie
-use Rattle.tables.proofs.rows.layout_of.Reads as reads
-use Rattle.tables.proofs.rows.layout_of.Lts as lts
-use Rattle.tables.proofs.rows.layout_len.Reads as layout-len-reads
-
-layout-len-requires : tie.Need-layout-len-requires
-layout-len-requires c κs = search needs
-
-cast-end : tie.Need-cast-end
-cast-end c = search needs
-
-add-end : tie.Need-add-end
-add-end c = search needs
-
-sub-result : tie.Need-sub-result
-sub-result c = search needs
-
-part-result-start : tie.Need-part-result-start
-part-result-start c = search needs
-
-part-result-end : tie.Need-part-result-end
-part-result-end c = search needs
 
 returns : tie.Need-returns
 returns c =
@@ -39,10 +18,10 @@ pub layout-of-spec : {M : Type 1} → statement M
 layout-of-spec =
     tie.close
     (tie.spec
-    layout-len-requires
-    cast-end
-    add-end
-    sub-result
-    part-result-start
-    part-result-end
+    (λ c κs. search needs)
+    (λ c. search needs)
+    (λ c. search needs)
+    (λ c. search needs)
+    (λ c. search needs)
+    (λ c. search needs)
     returns)

@@ -8,10 +8,6 @@ use Rattle.tables.proofs.AllLaws.{row-fits}
 use Rattle.tables.proofs.TwiceLaws.{hasFrom, has-from, has-none, has-hit, has-pass}
 use Rattle.tables.proofs.twice.has_self.Statement.{statement}
 use Rattle.tables.proofs.twice.has_self.Tie as tie
-use Rattle.tables.proofs.twice.has_self.Reads as reads
-use Rattle.tables.proofs.twice.has_self.Lts as lts
-use Rattle.tables.proofs.rows.row_at.Reads as row-at-reads
-use Rattle.tables.proofs.twice.has_fid.Reads as has-fid-reads
 
 abbrev Inv-loop : tie.InvT-loop
 Inv-loop table size from f n r₀ r = hasFrom f size table n from ≡ hasFrom f size table n r

@@ -11,12 +11,6 @@ use Rattle.tables.proofs.AllLaws.{row-fits}
 use Rattle.tables.proofs.TwiceLaws.{noneFrom, none-start, none-end, none-unused, none-pass, none-fail}
 use Rattle.tables.proofs.twice.none_twice.Statement.{statement}
 use Rattle.tables.proofs.twice.none_twice.Tie as tie
-use Rattle.tables.proofs.twice.none_twice.Reads as reads
-use Rattle.tables.proofs.twice.none_twice.Lts as lts
-use Rattle.tables.proofs.rows.is_used.Reads as is-used-reads
-use Rattle.tables.proofs.rows.row_at.Reads as row-at-reads
-use Rattle.tables.proofs.rows.self_fid.Reads as self-fid-reads
-use Rattle.tables.proofs.twice.has_self.Reads as has-self-reads
 
 abbrev Inv-loop : tie.InvT-loop
 Inv-loop table size n r₀ r = (r ≤ n) × (noneTwice (rows size n table) ≡ noneFrom size table n r)

@@ -5,22 +5,13 @@ use Rattle.tables.specs.Check.{freshMark, isMark}
 use borrow.Author.Needs.{needs}
 use Rattle.tables.proofs.whole.fresh_mark.Statement.{statement}
 use Rattle.tables.proofs.whole.fresh_mark.Tie as tie
-use Rattle.tables.proofs.whole.fresh_mark.Reads as reads
-use Rattle.tables.proofs.whole.fresh_mark.Lts as lts
-use Rattle.tables.proofs.rows.is_used.Reads as is-used-reads
-
-is-used-requires : tie.Need-is-used-requires
-is-used-requires c κs = search needs
 
 returns : tie.Need-returns
 returns c = when-unused _ _ (sym (c .before .is-used .ensures) ∙ not-true _ (c .if1 .taken))
-
-shared-slice-read-result : tie.Need-shared-slice-read-result
-shared-slice-read-result c = search needs
 
 returns-2 : tie.Need-returns-2
 unfolding freshMark isMark
 returns-2 c = when-used freshMark _ (sym (c .before .before .is-used .ensures) ∙ not-false _ (c .before .if1 .left))
 
 pub fresh-mark-spec : {M : Type 1} → statement M
-fresh-mark-spec = tie.close (tie.spec is-used-requires returns shared-slice-read-result returns-2)
+fresh-mark-spec = tie.close (tie.spec (λ c κs. search needs) returns (λ c. search needs) returns-2)

@@ -7,10 +7,6 @@ use Rattle.tables.specs.Check.{all, whenUsed, freshMark}
 use Rattle.tables.proofs.AllLaws.{allFrom, all-start, all-end, all-pass, all-fail}
 use Rattle.tables.proofs.whole.fresh_marks.Statement.{statement}
 use Rattle.tables.proofs.whole.fresh_marks.Tie as tie
-use Rattle.tables.proofs.whole.fresh_marks.Reads as reads
-use Rattle.tables.proofs.whole.fresh_marks.Lts as lts
-use Rattle.tables.proofs.rows.row_at.Reads as row-at-reads
-use Rattle.tables.proofs.whole.fresh_mark.Reads as fresh-mark-reads
 
 abbrev Inv-loop : tie.InvT-loop
 Inv-loop objects n r₀ r = (r ≤ n) × (all (whenUsed freshMark) (objectRows objects) ≡ allFrom (whenUsed freshMark) objectSize objects n r)

@@ -5,23 +5,13 @@ use Rattle.tables.proofs.TestLaws.{parents-not, parents-marks}
 use borrow.Author.Needs.{needs}
 use Rattle.tables.proofs.whole.parents_whole.Statement.{statement}
 use Rattle.tables.proofs.whole.parents_whole.Tie as tie
-use Rattle.tables.proofs.whole.parents_whole.Reads as reads
-use Rattle.tables.proofs.whole.parents_whole.Lts as lts
-use Rattle.tables.proofs.whole.used_marks.Reads as used-marks-reads
-use Rattle.tables.proofs.whole.whole_rows.Reads as whole-rows-reads
-
-whole-rows-requires : tie.Need-whole-rows-requires
-whole-rows-requires c κs = search needs
 
 returns : tie.Need-returns
 returns c = parents-not _ (sym (c .before .whole-rows .ensures) ∙ not-true _ (c .if1 .taken))
-
-used-marks-requires : tie.Need-used-marks-requires
-used-marks-requires c κs = search needs
 
 returns-2 : tie.Need-returns-2
 unfolding parentRows
 returns-2 c = c .used-marks .ensures ∙ parents-marks _ (sym (c .before .before .whole-rows .ensures) ∙ not-false _ (c .before .if1 .left))
 
 pub parents-whole-spec : {M : Type 1} → statement M
-parents-whole-spec = tie.close (tie.spec whole-rows-requires returns used-marks-requires returns-2)
+parents-whole-spec = tie.close (tie.spec (λ c κs. search needs) returns (λ c κs. search needs) returns-2)

@@ -10,9 +10,6 @@ use Rattle.tables.proofs.TestLaws.{mark-bad, mark-good}
 use Rattle.tables.proofs.AllLaws.{row-fits, allFrom, all-start, all-end, all-pass, all-fail}
 use Rattle.tables.proofs.whole.used_marks.Statement.{statement}
 use Rattle.tables.proofs.whole.used_marks.Tie as tie
-use Rattle.tables.proofs.whole.used_marks.Reads as reads
-use Rattle.tables.proofs.whole.used_marks.Lts as lts
-use Rattle.tables.proofs.rows.row_at.Reads as row-at-reads
 
 abbrev Inv-loop : tie.InvT-loop
 Inv-loop table size n r₀ r = (r ≤ n) × (all usedMark (rows size n table) ≡ allFrom usedMark size table n r)

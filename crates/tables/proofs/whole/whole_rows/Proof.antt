@@ -6,11 +6,6 @@ use Rattle.tables.proofs.TestLaws.{whole-not, whole-most}
 use borrow.Author.Needs.{needs}
 use Rattle.tables.proofs.whole.whole_rows.Statement.{statement}
 use Rattle.tables.proofs.whole.whole_rows.Tie as tie
-use Rattle.tables.proofs.whole.whole_rows.Reads as reads
-use Rattle.tables.proofs.whole.whole_rows.Lts as lts
-
-div-n : tie.Need-div-n
-div-n c = search needs
 
 mul-if1 : tie.Need-mul-if1
 mul-if1 c = let a = c .args in omega (arith, mul-div-le (length (now (a .table))) (a .size))
@@ -22,4 +17,4 @@ returns-2 : tie.Need-returns-2
 returns-2 c = whole-most _ _ (now (c .before .args .table)) (omega arith)
 
 pub whole-rows-spec : {M : Type 1} → statement M
-whole-rows-spec = tie.close (tie.spec div-n mul-if1 returns returns-2)
+whole-rows-spec = tie.close (tie.spec (λ c. search needs) mul-if1 returns returns-2)
