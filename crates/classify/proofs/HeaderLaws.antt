@@ -9,7 +9,7 @@ use lib.ListN.{length, take, drop}
 use Rattle.fid.specs.declared.MdtFid.{MdtFid}
 use Rattle.layout.specs.Layout.{decodeHeader, decodeLayout, withHoles}
 use Rattle.layout.specs.declared.Header.{Header}
-use Rattle.tables.specs.Records.{ParentRow, noParent, parent}
+use Rattle.tables.specs.Records.{ParentRow, unused, used}
 use Rattle.tables.specs.Bytes.{parentSize, isUsed, layoutBytes, decodeParent, parseParent, parse}
 use Rattle.tables.specs.Positions.{rowAt}
 use Rattle.tables.proofs.PositionLaws.{parsed-row}
@@ -35,11 +35,11 @@ module _ (p : List ℕ) (r : ℕ) (row : List ℕ) (h : r < length p / parentSiz
 
   pub header-unused : isUsed row ≡ false → UNUSED ≡ headerClass (rowAt (parse p []) r)
   unfolding headerClass
-  header-unused u = rw (row-is (noParent (drop 1 row)) (parent-unused row u))
+  header-unused u = rw (row-is (unused (drop 1 row)) (parent-unused row u))
 
   pub holes-unused : isUsed row ≡ false → false ≡ holesIn (rowAt (parse p []) r)
   unfolding holesIn
-  holes-unused u = rw (row-is (noParent (drop 1 row)) (parent-unused row u))
+  holes-unused u = rw (row-is (unused (drop 1 row)) (parent-unused row u))
 
   module _ (u : isUsed row ≡ true) (l : List ℕ) (e : l ≡ layoutBytes row) (hd : Header) (q : hd ≡ decodeHeader l) where
     header-read : hd ≡ decodeParent row .layout .header
@@ -48,7 +48,7 @@ module _ (p : List ℕ) (r : ℕ) (row : List ℕ) (h : r < length p / parentSiz
 
     pub holes-used : (b : Bool) → b ≡ withHoles hd → b ≡ holesIn (rowAt (parse p []) r)
     unfolding holesIn
-    holes-used b t = rw (row-is (parent (decodeParent row)) (parent-used row u)) (t ∙ ap withHoles header-read)
+    holes-used b t = rw (row-is (used (decodeParent row)) (parent-used row u)) (t ∙ ap withHoles header-read)
 
     module _ (f : MdtFid) (s : f ≡ decodeParent row .self) (b : Bool) (t : b ≡ (eqb (hd .oid) (f .0 .oid) && eqb (hd .seq) (f .0 .seq))) where
       own : b ≡ ownRight (decodeParent row)
@@ -57,8 +57,8 @@ module _ (p : List ℕ) (r : ℕ) (row : List ℕ) (h : r < length p / parentSiz
 
       pub header-clean : b ≡ true → CLEAN ≡ headerClass (rowAt (parse p []) r)
       unfolding headerClass
-      header-clean k = rw (row-is (parent (decodeParent row)) (parent-used row u), ← own, k)
+      header-clean k = rw (row-is (used (decodeParent row)) (parent-used row u), ← own, k)
 
       pub header-self : b ≡ false → SELF ≡ headerClass (rowAt (parse p []) r)
       unfolding headerClass
-      header-self k = rw (row-is (parent (decodeParent row)) (parent-used row u), ← own, k)
+      header-self k = rw (row-is (used (decodeParent row)) (parent-used row u), ← own, k)

@@ -5,7 +5,7 @@ use mathlib.Core.Bool.{Bool, true, false}
 use Prim.Native.Nat.{ℕ, _*_, _/_, _<_}
 use lib.ListN.{length, take, drop}
 use Rattle.fid.specs.declared.MdtFid.{MdtFid}
-use Rattle.tables.specs.Records.{ObjectRow, noObject, object, Tables}
+use Rattle.tables.specs.Records.{ObjectRow, unused, used, Tables}
 use Rattle.tables.specs.Bytes.{objectSize, isUsed, decodeObject, parseObject, parse}
 use Rattle.tables.specs.declared.Object.{Object}
 use Rattle.tables.specs.declared.Claim.{Claim}
@@ -50,15 +50,15 @@ module _ (p o : List ℕ) (i : ℕ) (row : List ℕ) (h : i < length o / objectS
 
   pub class-unused : isUsed row ≡ false → UNUSED ≡ objectClass (parse p o) i
   unfolding objectClass objectClassOf
-  class-unused u = rw (row-is (noObject (drop 1 row)) (object-unused row u))
+  class-unused u = rw (row-is (unused (drop 1 row)) (object-unused row u))
 
   module _ (u : isUsed row ≡ true) (x : Object) (q : x ≡ decodeObject row) (k : Found) (t : k ≡ keeperBy (parse p []) (x .fid) (x .claim))
       (b : Bool) (d : b ≡ isSomewhere k) where
     named-is : named (parse p o) (x .fid) ≡ b
     named-is = sym (d ∙ ap isSomewhere (t ∙ keeper-alone p o (x .fid) (x .claim)) ∙ named-kept (parse p o) (x .fid) (x .claim))
 
-    used-is : objectAt (parse p o) i ≡ object x
-    used-is = row-is (object (decodeObject row)) (object-used row u) ∙ ap (λ (y : Object). object y) (sym q)
+    used-is : objectAt (parse p o) i ≡ used x
+    used-is = row-is (used (decodeObject row)) (object-used row u) ∙ ap (λ (y : Object). used y) (sym q)
 
     pub class-kept : b ≡ true → KEPT ≡ objectClass (parse p o) i
     unfolding objectClass objectClassOf

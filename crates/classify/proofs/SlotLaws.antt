@@ -9,7 +9,7 @@ use Rattle.fid.specs.declared.MdtFid.{MdtFid}
 use Rattle.fid.specs.declared.OstFid.{OstFid}
 use Rattle.layout.specs.declared.Slot.{Slot}
 use Rattle.layout.specs.declared.Slot.the-variants.{Hole, Names}
-use Rattle.tables.specs.Records.{ParentRow, parent}
+use Rattle.tables.specs.Records.{ParentRow, used}
 use Rattle.tables.specs.Bytes.{parentSize, isUsed, decodeParent, parseParent, parse}
 use Rattle.tables.specs.Positions.{slotsOf, rowAt}
 use Rattle.tables.proofs.PositionLaws.{parsed-row}
@@ -69,5 +69,5 @@ module _ (p o : List ℕ) (r j : ℕ) (s : Slot) (e : s ≡ slotAt (parse p []) 
     unfolding slotClass slotClassOf selfOf ownerOf
     class-keeper z row own owner a l at x y w =
         let u : isUsed row ≡ true = names-used p row r j f n i l at (sym h ∙ e) in
-        let v : rowAt (parse p o) r ≡ parent (decodeParent row) = parsed-row p o r l ∙ ap parseParent (sym at) ∙ parent-used row u in
+        let v : rowAt (parse p o) r ≡ used (decodeParent row) = parsed-row p o r l ∙ ap parseParent (sym at) ∙ parent-used row u in
         rw (slot-is, h, place-is, z, v, ← x, ← y, ← object-is) w

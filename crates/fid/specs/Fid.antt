@@ -7,6 +7,10 @@ use lib.Dec.{leb, eqb}
 use Rattle.wire.specs.Numbers.{le, bytes}
 use Rattle.fid.specs.declared.Fid.{Fid}
 
+-- "A FID is 16 bytes"
+abbrev pub fidSize : ℕ
+fidSize = 16
+
 -- "A FID is 16 bytes: sequence (64 bits), object id (32), version (32)": the FID that a list begins with
 unfoldable pub decodeFid : List ℕ → Fid
 decodeFid l = record { seq = le 8 l; oid = le 4 (drop 8 l); ver = le 4 (drop 12 l) }

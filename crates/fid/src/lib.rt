@@ -5,6 +5,9 @@ ghost use lib.ListN.{length, drop};
 ghost use lib.Seq.{sets};
 ghost use Rattle.fid.specs.Fid.{decodeFid, encodeFid, goodFid, goodNumber, sameFid};
 
+// The bytes of a FID.
+pub const FID_SIZE: usize = 16;
+
 // Sequence, object id and version, as they stand on disk.
 pub struct Fid {
     pub seq: u64,

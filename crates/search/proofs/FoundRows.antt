@@ -11,7 +11,6 @@ use Rattle.fid.specs.declared.MdtFid.{MdtFid}
 use Rattle.fid.specs.declared.OstFid.{OstFid}
 use Rattle.tables.specs.Bytes.{parentSize, objectSize, isUsed, decodeObject, parseObject, parse}
 use Rattle.tables.specs.Positions.{rowAt}
-use Rattle.tables.specs.Check.{selfFid}
 use Rattle.tables.proofs.PositionLaws.{parsed-parents, parsed-objects}
 use Rattle.rules.specs.Rows.{isParent, parentRow, freeParent, objectAt, isObject, objectRow, freeObject, objectIn, objectInRow, objectOf}
 use Rattle.rules.specs.declared.Row.the-variants.{RowIs, NoRow}

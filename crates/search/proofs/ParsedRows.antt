@@ -8,10 +8,9 @@ use Rattle.wire.proofs.RowLaws.{rows-at}
 use Rattle.fid.specs.Fid.{decodeFid, sameFid}
 use Rattle.fid.specs.declared.MdtFid.{MdtFid}
 use Rattle.fid.specs.declared.OstFid.{OstFid}
-use Rattle.tables.specs.Records.{noParent, parent, noObject, object}
+use Rattle.tables.specs.Records.{unused, used}
 use Rattle.tables.specs.Bytes.{parentSize, objectSize, isUsed, objectRows, decodeParent, decodeObject, parseParent, parseObject, parse}
 use Rattle.tables.specs.Positions.{rowAt}
-use Rattle.tables.specs.Check.{selfFid}
 use Rattle.tables.proofs.PositionLaws.{parsed-parents, parsed-objects, parsed-row}
 use Rattle.rules.specs.Rows.{isParent, isFreeParent, parentRow, freeParent, objectAt, isObject, isFreeObject, objectRow, freeObject}
 use Rattle.search.proofs.RowSearch.{rowsLeft, row-start}
@@ -29,7 +28,7 @@ pub parent-test : (f : MdtFid) (row : List ℕ) → isParent f (parseParent row)
 unfolding parseParent isParent decodeParent selfFid
 parent-test f row = go (isUsed row)
   where
-    go : (b : Bool) → isParent f (cond b (parent (decodeParent row)) (noParent (drop 1 row))) ≡ (b && sameFid (decodeFid (drop 1 row)) (f .0))
+    go : (b : Bool) → isParent f (cond b (used (decodeParent row)) (unused (drop 1 row))) ≡ (b && sameFid (decodeFid (drop 1 row)) (f .0))
     go true = refl
     go false = refl
 
@@ -37,7 +36,7 @@ pub object-test : (f : OstFid) (row : List ℕ) → isObject f (parseObject row)
 unfolding parseObject isObject decodeObject selfFid
 object-test f row = go (isUsed row)
   where
-    go : (b : Bool) → isObject f (cond b (object (decodeObject row)) (noObject (drop 1 row))) ≡ (b && sameFid (decodeFid (drop 1 row)) (f .0))
+    go : (b : Bool) → isObject f (cond b (used (decodeObject row)) (unused (drop 1 row))) ≡ (b && sameFid (decodeFid (drop 1 row)) (f .0))
     go true = refl
     go false = refl
 
@@ -45,7 +44,7 @@ pub free-parent-test : (row : List ℕ) → isFreeParent (parseParent row) ≡ n
 unfolding parseParent isFreeParent
 free-parent-test row = go (isUsed row)
   where
-    go : (b : Bool) → isFreeParent (cond b (parent (decodeParent row)) (noParent (drop 1 row))) ≡ not b
+    go : (b : Bool) → isFreeParent (cond b (used (decodeParent row)) (unused (drop 1 row))) ≡ not b
     go true = refl
     go false = refl
 
@@ -53,24 +52,24 @@ pub free-object-test : (row : List ℕ) → isFreeObject (parseObject row) ≡ n
 unfolding parseObject isFreeObject
 free-object-test row = go (isUsed row)
   where
-    go : (b : Bool) → isFreeObject (cond b (object (decodeObject row)) (noObject (drop 1 row))) ≡ not b
+    go : (b : Bool) → isFreeObject (cond b (used (decodeObject row)) (unused (drop 1 row))) ≡ not b
     go true = refl
     go false = refl
 
 -- what a used row says
-pub parent-used : (row : List ℕ) → isUsed row ≡ true → parseParent row ≡ parent (decodeParent row)
+pub parent-used : (row : List ℕ) → isUsed row ≡ true → parseParent row ≡ used (decodeParent row)
 unfolding parseParent
 parent-used row h = rw h
 
-pub object-used : (row : List ℕ) → isUsed row ≡ true → parseObject row ≡ object (decodeObject row)
+pub object-used : (row : List ℕ) → isUsed row ≡ true → parseObject row ≡ used (decodeObject row)
 unfolding parseObject
 object-used row h = rw h
 
-pub object-unused : (row : List ℕ) → isUsed row ≡ false → parseObject row ≡ noObject (drop 1 row)
+pub object-unused : (row : List ℕ) → isUsed row ≡ false → parseObject row ≡ unused (drop 1 row)
 unfolding parseObject
 object-unused row h = rw h
 
-pub parent-unused : (row : List ℕ) → isUsed row ≡ false → parseParent row ≡ noParent (drop 1 row)
+pub parent-unused : (row : List ℕ) → isUsed row ≡ false → parseParent row ≡ unused (drop 1 row)
 unfolding parseParent
 parent-unused row h = rw h
 

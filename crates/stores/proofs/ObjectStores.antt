@@ -12,7 +12,7 @@ use Rattle.fid.specs.Fid.{encodeFid, zeroFid}
 use Rattle.fid.specs.declared.MdtFid.{MdtFid}
 use Rattle.fid.specs.declared.Fid.{Fid}
 use Rattle.fid.proofs.FidLaws.{length-encode}
-use Rattle.tables.specs.Records.{object}
+use Rattle.tables.specs.Records.{used}
 use Rattle.tables.specs.Bytes.{objectSize, encodeOwner, claimFid, mark, encodeObject, renderObject}
 use Rattle.tables.specs.declared.Claim.{Claim}
 use Rattle.tables.specs.declared.Claim.the-variants.{Unclaimed, Claims}
@@ -28,13 +28,13 @@ pub mark-zero : (b : Bool) → b ≡ false → 0 ≡ mark b
 unfolding mark
 mark-zero b e = rw e
 
-pub length-object : (x : Object) → length (renderObject (object x)) ≡ objectSize
+pub length-object : (x : Object) → length (renderObject (used x)) ≡ objectSize
 unfolding renderObject encodeObject
 length-object x = simp (length-append, length-encode, length-bytes, length-owner)
 
 pub object-stores : (a b c d e f g : List ℕ) (x : Object) (n : Fid) (m : ℕ) → length a ≡ objectSize → n ≡ claimFid (x .claim) → m ≡ mark (x .fresh) →
     b ≡ set a 0 1 → c ≡ sets b 1 (encodeFid (x .fid .0)) → d ≡ sets c 17 (bytes 4 (x .ost)) → e ≡ sets d 21 (encodeOwner (x .owner)) →
-    f ≡ sets e 29 (encodeFid n) → g ≡ set f 45 m → g ≡ renderObject (object x)
+    f ≡ sets e 29 (encodeFid n) → g ≡ set f 45 m → g ≡ renderObject (used x)
 unfolding renderObject encodeObject
 object-stores a b c d e f g x n m h p q s1 s2 s3 s4 s5 s6 =
     let F : List ℕ = encodeFid (x .fid .0) in
@@ -60,7 +60,7 @@ length-destroyed = refl
 
 -- the same as runs of stores, one in the other
 pub object-nested : (a : List ℕ) (x : Object) → length a ≡ objectSize →
-    set (sets (sets (sets (sets (set a 0 1) 1 (encodeFid (x .fid .0))) 17 (bytes 4 (x .ost))) 21 (encodeOwner (x .owner))) 29 (encodeFid (claimFid (x .claim)))) 45 (mark (x .fresh)) ≡ renderObject (object x)
+    set (sets (sets (sets (sets (set a 0 1) 1 (encodeFid (x .fid .0))) 17 (bytes 4 (x .ost))) 21 (encodeOwner (x .owner))) 29 (encodeFid (claimFid (x .claim)))) 45 (mark (x .fresh)) ≡ renderObject (used x)
 object-nested a x h = object-stores a _ _ _ _ _ _ x _ _ h refl refl refl refl refl refl refl refl
 
 pub zero-nested : (a : List ℕ) → length a ≡ objectSize →

@@ -19,7 +19,7 @@ use Rattle.layout.specs.Slot.{encodeSlot, encodeSlots}
 use Rattle.layout.specs.Layout.{Layout, headerSize, magicOne, encodeHeader, encodeLayout, layoutSize}
 use Rattle.layout.proofs.SlotLaws.{length-slot, length-encode-slots}
 use Rattle.layout.proofs.HeaderLaws.{length-header}
-use Rattle.tables.specs.Records.{Parent, ParentRow, parent}
+use Rattle.tables.specs.Records.{Parent, ParentRow, used}
 use Rattle.tables.specs.Bytes.{encodeOwner, encodeParent, renderParent}
 use Rattle.tables.specs.Positions.{slotsOf}
 use Rattle.tables.specs.declared.Owner.{Owner}
@@ -47,7 +47,7 @@ unfolding encodeLayout
 layout-length L = rw (length-append, length-append, length-header (L .header) (length (L .slots)), length-encode-slots (L .slots)) (omega arith)
 
 -- a row spread out: front, header, pool name, slots, tail
-spread : (p : Parent) → renderParent (parent p) ≡ front p (length (encodeLayout (p .layout))) ++ (encodeHeader (p .layout .header) (length (p .layout .slots)) ++ (p .layout .pool ++ (encodeSlots (p .layout .slots) ++ p .tail)))
+spread : (p : Parent) → renderParent (used p) ≡ front p (length (encodeLayout (p .layout))) ++ (encodeHeader (p .layout .header) (length (p .layout .slots)) ++ (p .layout .pool ++ (encodeSlots (p .layout .slots) ++ p .tail)))
 unfolding renderParent encodeParent encodeLayout lead
 spread p = simp append-assoc
 
@@ -61,14 +61,14 @@ front-spread p n X = ap (λ (l : List ℕ). 1 ∷ l) (append-assoc (encodeFid (p
 own : Parent → Parent
 own p = record { self = p .self; owner = p .owner; layout = record { header = ownHeader (p .layout .header) (p .self); pool = p .layout .pool; slots = p .layout .slots }; tail = p .tail }
 
-pub own-render : (p : Parent) → sets (renderParent (parent p)) 27 (encodeHeader (ownHeader (p .layout .header) (p .self)) (length (p .layout .slots))) ≡ renderParent (withOwn (parent p))
+pub own-render : (p : Parent) → sets (renderParent (used p)) 27 (encodeHeader (ownHeader (p .layout .header) (p .self)) (length (p .layout .slots))) ≡ renderParent (withOwn (used p))
 unfolding withOwn own
 own-render p =
     let h : Header = ownHeader (p .layout .header) (p .self) in
     let n : ℕ = length (p .layout .slots) in
     let rest : List ℕ = p .layout .pool ++ (encodeSlots (p .layout .slots) ++ p .tail) in
     let q : length (encodeLayout (own p .layout)) ≡ length (encodeLayout (p .layout)) = layout-length (own p .layout) ∙ sym (layout-length (p .layout)) in
-    let e : sets (renderParent (parent p)) 27 (encodeHeader h n) ≡ front p (length (encodeLayout (p .layout))) ++ (encodeHeader h n ++ rest) =
+    let e : sets (renderParent (used p)) 27 (encodeHeader h n) ≡ front p (length (encodeLayout (p .layout))) ++ (encodeHeader h n ++ rest) =
     rw (spread p) (over (front p (length (encodeLayout (p .layout)))) (encodeHeader (p .layout .header) n) rest (encodeHeader h n) 27 (length-front p (length (encodeLayout (p .layout)))) (length-header h n ∙ sym (length-header (p .layout .header) n))) in
     e ∙ ap (λ (m : ℕ). front p m ++ (encodeHeader h n ++ rest)) (sym q) ∙ sym (spread (own p))
 
@@ -88,27 +88,27 @@ encode-set (x ∷ ss) (suc j) s h =
 slotted : Parent → ℕ → Slot → Parent
 slotted p j s = record { self = p .self; owner = p .owner; layout = record { header = p .layout .header; pool = p .layout .pool; slots = set (p .layout .slots) j s }; tail = p .tail }
 
-slotted-is : (p : Parent) (j : ℕ) (s : Slot) → withSlot (parent p) j s ≡ parent (slotted p j s)
+slotted-is : (p : Parent) (j : ℕ) (s : Slot) → withSlot (used p) j s ≡ used (slotted p j s)
 unfolding withSlot withSlots slotsOf tailOf slotted
 slotted-is p j s = refl
 
 pub slot-render : (p : Parent) (j at : ℕ) (s : Slot) → j < length (p .layout .slots) → at ≡ 59 + length (p .layout .pool) + 24 * j →
-    sets (renderParent (parent p)) at (encodeSlot s) ≡ renderParent (withSlot (parent p) j s)
+    sets (renderParent (used p)) at (encodeSlot s) ≡ renderParent (withSlot (used p) j s)
 unfolding slotted
 slot-render p j at s h a =
     let n : ℕ = length (encodeLayout (p .layout)) in
     let hd : List ℕ = encodeHeader (p .layout .header) (length (p .layout .slots)) in
     let pre : List ℕ = front p n ++ (hd ++ p .layout .pool) in
     let SS : List ℕ = encodeSlots (p .layout .slots) in
-    let r : renderParent (parent p) ≡ pre ++ (SS ++ p .tail) = spread p ∙ simp append-assoc in
+    let r : renderParent (used p) ≡ pre ++ (SS ++ p .tail) = spread p ∙ simp append-assoc in
     let lp : length pre ≡ 59 + length (p .layout .pool) = rw (length-append, length-append, length-front p n, length-header (p .layout .header) (length (p .layout .slots))) (omega arith) in
     let k : at ≡ length pre + 24 * j = omega arith in
     let m : 24 * j + length (encodeSlot s) ≤ length SS = omega (arith, length-slot s, length-encode-slots (p .layout .slots)) in
-    let e : sets (renderParent (parent p)) at (encodeSlot s) ≡ pre ++ (encodeSlots (set (p .layout .slots) j s) ++ p .tail) =
+    let e : sets (renderParent (used p)) at (encodeSlot s) ≡ pre ++ (encodeSlots (set (p .layout .slots) j s) ++ p .tail) =
     rw (r, k, sets-mid pre (p .tail) (encodeSlot s) SS (24 * j) m, encode-set (p .layout .slots) j s h) in
     let z : length (set (p .layout .slots) j s) ≡ length (p .layout .slots) = length-set (p .layout .slots) j s in
     let q : length (encodeLayout (slotted p j s .layout)) ≡ n = rw (layout-length (slotted p j s .layout), layout-length (p .layout), z) in
-    let w : renderParent (parent (slotted p j s)) ≡ pre ++ (encodeSlots (set (p .layout .slots) j s) ++ p .tail) =
+    let w : renderParent (used (slotted p j s)) ≡ pre ++ (encodeSlots (set (p .layout .slots) j s) ++ p .tail) =
     spread (slotted p j s) ∙ rw (q, z) (simp append-assoc) in
     e ∙ sym w ∙ ap renderParent (sym (slotted-is p j s))
 
@@ -122,14 +122,14 @@ encode-append (s ∷ ss) ts = rw (encode-append ss ts) (sym (append-assoc (encod
 longer : Parent → ℕ → Parent
 longer p more = record { self = p .self; owner = p .owner; layout = record { header = p .layout .header; pool = p .layout .pool; slots = p .layout .slots ++ replicate more Hole }; tail = drop (24 * more) (p .tail) }
 
-grown-is : (p : Parent) (i : ℕ) → grown (parent p) i ≡ parent (longer p (suc i - length (p .layout .slots)))
+grown-is : (p : Parent) (i : ℕ) → grown (used p) i ≡ used (longer p (suc i - length (p .layout .slots)))
 unfolding grown withSlots slotsOf tailOf longer
 grown-is p i = refl
 
 pub grown-render : (p : Parent) (i size at : ℕ) (b c d : List ℕ) → length (p .layout .slots) ≤ i → size ≡ 32 + length (p .layout .pool) + 24 * (i + 1) →
     at ≡ 59 + length (p .layout .pool) + 24 * length (p .layout .slots) → 24 * (i + 1 - length (p .layout .slots)) ≤ length (p .tail) →
-    b ≡ sets (renderParent (parent p)) 25 (bytes 2 size) → c ≡ sets b 27 (encodeHeader (p .layout .header) (i + 1)) →
-    d ≡ sets c at (encodeSlots (replicate (i + 1 - length (p .layout .slots)) Hole)) → d ≡ renderParent (grown (parent p) i)
+    b ≡ sets (renderParent (used p)) 25 (bytes 2 size) → c ≡ sets b 27 (encodeHeader (p .layout .header) (i + 1)) →
+    d ≡ sets c at (encodeSlots (replicate (i + 1 - length (p .layout .slots)) Hole)) → d ≡ renderParent (grown (used p) i)
 unfolding longer
 grown-render p i size at b c d h sz a tl s1 s2 s3 =
     let n : ℕ = length (p .layout .slots) in
@@ -145,7 +145,7 @@ grown-render p i size at b c d h sz a tl s1 s2 s3 =
     let SS : List ℕ = encodeSlots (p .layout .slots) in
     let Z : List ℕ = encodeSlots (replicate more Hole) in
     let T : List ℕ = drop (24 * more) (p .tail) in
-    let r0 : renderParent (parent p) ≡ (1 ∷ F) ++ (N ++ (h0 ++ (pool ++ (SS ++ p .tail)))) = spread p ∙ front-spread p (length (encodeLayout (p .layout))) (h0 ++ (pool ++ (SS ++ p .tail))) in
+    let r0 : renderParent (used p) ≡ (1 ∷ F) ++ (N ++ (h0 ++ (pool ++ (SS ++ p .tail)))) = spread p ∙ front-spread p (length (encodeLayout (p .layout))) (h0 ++ (pool ++ (SS ++ p .tail))) in
     let l0 : length (1 ∷ F) ≡ 25 = simp (length-append, length-encode, length-owner) in
     let r1 : b ≡ (1 ∷ F) ++ (N′ ++ (h0 ++ (pool ++ (SS ++ p .tail)))) =
     rw (s1, r0) (over (1 ∷ F) N (h0 ++ (pool ++ (SS ++ p .tail))) N′ 25 l0 (length-bytes 2 size ∙ sym (length-bytes 2 (length (encodeLayout (p .layout)))))) in
@@ -159,18 +159,18 @@ grown-render p i size at b c d h sz a tl s1 s2 s3 =
     let r3 : d ≡ pre ++ (Z ++ T) = rw (s3, me, r2′) (over pre (take (24 * more) (p .tail)) T Z at lp lt) in
     let lm : length (p .layout .slots ++ replicate more Hole) ≡ suc i = rw (length-append, length-replicate more Hole) (omega arith) in
     let q : length (encodeLayout (longer p more .layout)) ≡ size = rw (layout-length (longer p more .layout), lm) (omega arith) in
-    let w : renderParent (parent (longer p more)) ≡ pre ++ (Z ++ T) =
+    let w : renderParent (used (longer p more)) ≡ pre ++ (Z ++ T) =
     spread (longer p more) ∙ rw (q, lm, encode-append (p .layout .slots) (replicate more Hole)) (simp append-assoc) in
     r3 ∙ sym w ∙ ap renderParent (sym (grown-is p i))
 
 -- the last of the slots that it grew to
 pub grown-slot : (p : Parent) (i at : ℕ) (s : Slot) → length (p .layout .slots) ≤ i → at ≡ 59 + length (p .layout .pool) + 24 * i →
-    sets (renderParent (grown (parent p) i)) at (encodeSlot s) ≡ renderParent (withSlot (grown (parent p) i) i s)
+    sets (renderParent (grown (used p) i)) at (encodeSlot s) ≡ renderParent (withSlot (grown (used p) i) i s)
 unfolding longer
 grown-slot p i at s h a =
     let more : ℕ = suc i - length (p .layout .slots) in
     let lm : length (p .layout .slots ++ replicate more Hole) ≡ suc i = rw (length-append, length-replicate more Hole) (omega arith) in
-    let q : sets (renderParent (parent (longer p more))) at (encodeSlot s) ≡ renderParent (withSlot (parent (longer p more)) i s) =
+    let q : sets (renderParent (used (longer p more))) at (encodeSlot s) ≡ renderParent (withSlot (used (longer p more)) i s) =
     slot-render (longer p more) i at s (omega arith) a in
     rw (grown-is p i) q
 
@@ -190,7 +190,7 @@ front-stores a b c d e p n s1 s2 s3 s4 =
 pub maker : MdtFid → ℕ → Owner → List ℕ → Parent
 maker f i w l = record { self = f; owner = w; layout = record { header = madeHeader f; pool = []; slots = replicate (suc i) Hole }; tail = drop (26 + layoutSize magicOne (suc i)) l }
 
-made-is : (f : MdtFid) (i : ℕ) (w : Owner) (l : List ℕ) → made f i w l ≡ parent (maker f i w l)
+made-is : (f : MdtFid) (i : ℕ) (w : Owner) (l : List ℕ) → made f i w l ≡ used (maker f i w l)
 unfolding made maker madeHeader
 made-is f i w l = refl
 
@@ -205,7 +205,7 @@ maker-tail f i w a =
     rw (size-one (suc i), drop-drop (26 + (32 + 24 * suc i)) 1 a, e)
 
 maker-render : (f : MdtFid) (i : ℕ) (w : Owner) (a : List ℕ) →
-    renderParent (parent (maker f i w (drop 1 a))) ≡
+    renderParent (used (maker f i w (drop 1 a))) ≡
     front (maker f i w (drop 1 a)) (32 + 24 * suc i) ++ (encodeHeader (madeHeader f) (suc i) ++ (encodeSlots (replicate (suc i) Hole) ++ drop (59 + 24 * suc i) a))
 unfolding maker
 maker-render f i w a =
@@ -217,7 +217,7 @@ maker-render f i w a =
 pub made-render : (f : MdtFid) (i size : ℕ) (w : Owner) (a b c d e g h : List ℕ) → 59 + 24 * (i + 1) ≤ length a → size ≡ 32 + 24 * (i + 1) →
     b ≡ set a 0 1 → c ≡ sets b 1 (encodeFid (f .0)) → d ≡ sets c 17 (encodeOwner w) → e ≡ sets d 25 (bytes 2 size) →
     g ≡ sets e 27 (encodeHeader (madeHeader f) (i + 1)) → h ≡ sets g 59 (encodeSlots (replicate (i + 1) Hole)) →
-    h ≡ renderParent (parent (maker f i w (drop 1 a)))
+    h ≡ renderParent (used (maker f i w (drop 1 a)))
 unfolding maker
 made-render f i size w a b c d e g h room sz s1 s2 s3 s4 s5 s6 =
     let m : Parent = maker f i w (drop 1 a) in
@@ -237,7 +237,7 @@ made-render f i size w a b c d e g h room sz s1 s2 s3 s4 s5 s6 =
     k3 ∙ k5 ∙ simp append-assoc (sym (maker-render f i w a))
 
 pub made-slot : (f : MdtFid) (i : ℕ) (w : Owner) (s : Slot) (a : List ℕ) →
-    sets (renderParent (parent (maker f i w (drop 1 a)))) (59 + 24 * i) (encodeSlot s) ≡ renderParent (withSlot (made f i w (drop 1 a)) i s)
+    sets (renderParent (used (maker f i w (drop 1 a)))) (59 + 24 * i) (encodeSlot s) ≡ renderParent (withSlot (made f i w (drop 1 a)) i s)
 unfolding maker
 made-slot f i w s a =
     let n : length (replicate (suc i) Hole) ≡ suc i = length-replicate (suc i) Hole in

@@ -17,7 +17,7 @@ use Rattle.layout.specs.Slot.{encodeSlot, encodeSlots}
 use Rattle.layout.specs.Layout.{maxSlots, decodeHeader, encodeHeader, stripeCount, slotStart, decodeLayout}
 use Rattle.layout.proofs.SlotLaws.{length-slots}
 use Rattle.layout.proofs.LayoutLaws.{start-most}
-use Rattle.tables.specs.Records.{Parent, ParentRow, parent}
+use Rattle.tables.specs.Records.{Parent, ParentRow, used}
 use Rattle.tables.specs.Bytes.{parentSize, layoutRoom, isUsed, encodeOwner, layoutLength, layoutBytes, decodeParent, parseParent, renderParent}
 use Rattle.tables.specs.Check.{whenUsed, goodSelf}
 use Rattle.tables.specs.declared.Owner.{Owner}
@@ -51,7 +51,7 @@ unfolding isUsed
 marked row u = eqb-true (getD row 0 0) 1 u
 
 -- the row is what is written of what it says
-used-back : (row : List ℕ) → Bytes row → UsedRow row → renderParent (parent (decodeParent row)) ≡ row
+used-back : (row : List ℕ) → Bytes row → UsedRow row → renderParent (used (decodeParent row)) ≡ row
 used-back row b u =
     let m : getD row 0 0 ≡ 1 = marked row (u .used) in
     ap renderParent (sym (parent-used row (u .used))) ∙ parent-row-back row b (u .size) (omega arith) (λ z. used-facts row u)
@@ -107,8 +107,8 @@ module _ (row : List ℕ) (b : Bytes row) (u : UsedRow row) where
   pub own-nested : sets row 27 (encodeHeader (ownHeader (decodeHeader (layoutBytes row)) (decodeParent row .self)) (stripeCount (layoutBytes row))) ≡ renderParent (withOwn (parseParent row))
   own-nested =
       let p : Parent = decodeParent row in
-      let q : sets (renderParent (parent p)) 27 (encodeHeader (ownHeader (p .layout .header) (p .self)) (length (p .layout .slots))) ≡ renderParent (withOwn (parent p)) = own-render p in
-      let t : sets row 27 (encodeHeader (ownHeader (p .layout .header) (p .self)) (length (p .layout .slots))) ≡ renderParent (withOwn (parent p)) = rw (used-back row b u) at q in
+      let q : sets (renderParent (used p)) 27 (encodeHeader (ownHeader (p .layout .header) (p .self)) (length (p .layout .slots))) ≡ renderParent (withOwn (used p)) = own-render p in
+      let t : sets row 27 (encodeHeader (ownHeader (p .layout .header) (p .self)) (length (p .layout .slots))) ≡ renderParent (withOwn (used p)) = rw (used-back row b u) at q in
       rw (← header-of row, ← count-of row, parent-used row (u .used)) t
 
   pub own-length : length (renderParent (withOwn (parseParent row))) ≡ parentSize
@@ -120,7 +120,7 @@ module _ (row : List ℕ) (b : Bytes row) (u : UsedRow row) where
         let p : Parent = decodeParent row in
         let n : length (p .layout .slots) ≡ stripeCount (layoutBytes row) = count-of row in
         let k : 32 + length (p .layout .pool) ≡ slotStart (layoutBytes row) = pool-of row (used-facts row u) in
-        let q : sets (renderParent (parent p)) (27 + slotStart (layoutBytes row) + 24 * j) (encodeSlot s) ≡ renderParent (withSlot (parent p) j s) =
+        let q : sets (renderParent (used p)) (27 + slotStart (layoutBytes row) + 24 * j) (encodeSlot s) ≡ renderParent (withSlot (used p) j s) =
         slot-render p j (27 + slotStart (layoutBytes row) + 24 * j) s (omega arith) (omega arith) in
         ap (λ (l : List ℕ). sets l (27 + slotStart (layoutBytes row) + 24 * j) (encodeSlot s)) (sym (used-back row b u)) ∙ q
         ∙ ap (λ (w : ParentRow). renderParent (withSlot w j s)) (sym (parent-used row (u .used)))
@@ -136,7 +136,7 @@ module _ (row : List ℕ) (b : Bytes row) (u : UsedRow row) where
         sets (sets (sets row 25 (bytes 2 (slotStart l + 24 * (i + 1)))) 27 (encodeHeader (decodeHeader l) (i + 1))) (27 + slotStart l + 24 * stripeCount l)
         (encodeSlots (replicate (i + 1 - stripeCount l) Hole))
 
-    longer-is : longerRow ≡ renderParent (grown (parent (decodeParent row)) i)
+    longer-is : longerRow ≡ renderParent (grown (used (decodeParent row)) i)
     unfolding longerRow
     longer-is =
         let l : List ℕ = layoutBytes row in
@@ -164,7 +164,7 @@ module _ (row : List ℕ) (b : Bytes row) (u : UsedRow row) where
         let p : Parent = decodeParent row in
         let n : length (p .layout .slots) ≡ stripeCount l = count-of row in
         let k : 32 + length (p .layout .pool) ≡ slotStart l = pool-of row (used-facts row u) in
-        let e : sets longerRow (27 + slotStart l + 24 * i) (encodeSlot s) ≡ sets (renderParent (grown (parent p) i)) (27 + slotStart l + 24 * i) (encodeSlot s) =
+        let e : sets longerRow (27 + slotStart l + 24 * i) (encodeSlot s) ≡ sets (renderParent (grown (used p) i)) (27 + slotStart l + 24 * i) (encodeSlot s) =
         ap (λ (y : List ℕ). sets y (27 + slotStart l + 24 * i) (encodeSlot s)) longer-is in
         e ∙ grown-slot p i (27 + slotStart l + 24 * i) s (omega arith) (omega arith)
         ∙ ap (λ (w : ParentRow). renderParent (withSlot (grown w i) i s)) (sym (parent-used row (u .used)))

@@ -8,7 +8,7 @@ ghost use mathlib.Core.Path.{_≡_};
 ghost use Prim.Native.Nat.{_+_, _*_, _≤_};
 ghost use lib.ListN.{length};
 ghost use lib.Seq.{sets};
-ghost use Rattle.tables.specs.Records.{object};
+ghost use Rattle.tables.specs.Records.{used};
 ghost use Rattle.tables.specs.Bytes.{objectSize, claimFid, mark, renderObject};
 ghost use Rattle.rules.specs.Repairs.{destroyed};
 
@@ -43,7 +43,7 @@ pub fn mark_of(fresh: bool) -> u8
 // Writes a used row.
 pub fn put_row(row: &mut [u8], x: Object)
     requires { ⌜ length (now row) ≡ objectSize ⌝ }
-    ensures { λ _. ⌜ now (row .exit) ≡ renderObject (object x) ⌝ }
+    ensures { λ _. ⌜ now (row .exit) ≡ renderObject (used x) ⌝ }
 {
     let name = x.fid.0;
     let owner = x.owner;
@@ -73,7 +73,7 @@ pub fn zero_row(row: &mut [u8])
 // Writes object row o of the table.
 pub fn put_object(objects: &mut [u8], o: usize, x: Object)
     requires { ⌜ objectSize * o + objectSize ≤ length (now objects) ⌝ }
-    ensures { λ _. ⌜ now (objects .exit) ≡ sets (now (objects .entry)) (objectSize * o) (renderObject (object x)) ⌝ }
+    ensures { λ _. ⌜ now (objects .exit) ≡ sets (now (objects .entry)) (objectSize * o) (renderObject (used x)) ⌝ }
 {
     let a = OBJECT_SIZE * o;
     let e = a + OBJECT_SIZE;

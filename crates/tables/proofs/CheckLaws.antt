@@ -8,7 +8,7 @@ use borrow.Author.Tests.{le-leb, lt-leb, eq-eqb, ne-eqb}
 use Rattle.wire.specs.Rows.{rows}
 use Rattle.tables.specs.Bytes.{parentRows, objectRows, reserveEntries, parse}
 use Rattle.tables.specs.Positions.{isPosition, start, countSteps}
-use Rattle.tables.specs.Check.{all, whenUsed, parentsWhole, objectsWhole, wholeRows, reserveWhole, tablesWhole, goodPolicy, goodLayouts, goodSelf, goodObject, goodEntry, goodFids, allDifferent, tablesNumber, checkNumber, Sound}
+use Rattle.tables.specs.Check.{all, whenUsed, parentsWhole, objectsWhole, wholeRows, reserveWhole, tablesWhole, goodPolicy, goodLayouts, goodSelf, goodObject, goodEntry, goodFids, allDifferent, tablesNumber, checkNumber, Sound, firstFailing, inputTests, tablesTests}
 use Rattle.tables.specs.Answers.{startAnswer, stepsAnswer}
 use Rattle.tables.specs.declared.Position.{Position}
 use Rattle.tables.specs.declared.StartAnswer.the-variants.{NoStart, StartIs}
@@ -33,12 +33,12 @@ chosen false x y h e = absurd (omega arith)
 module _ (p o s : List ℕ) (policy : ℕ) (at : Position) where
   -- 0 is given where none applies
   pub passes-zero : Passes p o s policy at → checkNumber p o s policy at ≡ 0
-  unfolding checkNumber
+  unfolding checkNumber firstFailing inputTests
   passes-zero k = rw (k .whole, k .policy, k .layouts, k .fids, k .different, k .position)
 
   -- and nowhere else
   pub zero-passes : checkNumber p o s policy at ≡ 0 → Passes p o s policy at
-  unfolding checkNumber
+  unfolding checkNumber tablesWhole firstFailing parentsWhole inputTests
   zero-passes e =
       let six : ℕ = cond (isPosition (parse p o) at) 0 16 in
       let five : ℕ = cond (allDifferent p o) six 15 in
@@ -62,11 +62,11 @@ pub record TablesPass (p o : List ℕ) : Type 0 where
 
 module _ (p o : List ℕ) where
   pub pass-sound : TablesPass p o → Sound p o
-  unfolding Sound tablesNumber
+  unfolding Sound tablesNumber firstFailing tablesTests
   pass-sound k = rw (k .whole, k .layouts, k .fids, k .different)
 
   pub sound-pass : Sound p o → TablesPass p o
-  unfolding Sound tablesNumber
+  unfolding Sound tablesNumber tablesWhole firstFailing parentsWhole tablesTests
   sound-pass e =
       let four : ℕ = cond (allDifferent p o) 0 15 in
       let three : ℕ = cond (goodFids p o []) four 14 in
@@ -94,26 +94,26 @@ module _ (p o : List ℕ) where
   fids-empty = and-on (all (whenUsed goodSelf) (parentRows p) && all (whenUsed goodObject) (objectRows o))
 
   pub tables-11 : (parentsWhole p && objectsWhole o) ≡ false → 11 ≡ tablesNumber p o
-  unfolding tablesNumber
+  unfolding tablesNumber firstFailing tablesTests
   tables-11 w = rw (← whole-empty, w)
 
   module _ (w : (parentsWhole p && objectsWhole o) ≡ true) where
     pub tables-13 : goodLayouts p ≡ false → 13 ≡ tablesNumber p o
-    unfolding tablesNumber
+    unfolding tablesNumber firstFailing tablesTests
     tables-13 l = rw (← whole-empty, w, l)
 
     module _ (l : goodLayouts p ≡ true) where
       pub tables-14 : (all (whenUsed goodSelf) (parentRows p) && all (whenUsed goodObject) (objectRows o)) ≡ false → 14 ≡ tablesNumber p o
-      unfolding tablesNumber
+      unfolding tablesNumber firstFailing tablesTests
       tables-14 f = rw (← whole-empty, w, l, ← fids-empty, f)
 
       module _ (f : (all (whenUsed goodSelf) (parentRows p) && all (whenUsed goodObject) (objectRows o)) ≡ true) where
         pub tables-15 : allDifferent p o ≡ false → 15 ≡ tablesNumber p o
-        unfolding tablesNumber
+        unfolding tablesNumber firstFailing tablesTests
         tables-15 d = rw (← whole-empty, w, l, ← fids-empty, f, d)
 
         pub tables-0 : allDifferent p o ≡ true → 0 ≡ tablesNumber p o
-        unfolding tablesNumber
+        unfolding tablesNumber firstFailing tablesTests
         tables-0 d = rw (← whole-empty, w, l, ← fids-empty, f, d)
 
         pub tables-sound : allDifferent p o ≡ true → Sound p o
@@ -122,46 +122,46 @@ module _ (p o : List ℕ) where
 
 module _ (p o s : List ℕ) (policy : ℕ) (at : Position) where
   pub check-11 : (parentsWhole p && objectsWhole o) ≡ false → 11 ≡ checkNumber p o s policy at
-  unfolding checkNumber tablesWhole
+  unfolding checkNumber tablesWhole firstFailing inputTests
   check-11 w = rw w
 
   module _ (w : (parentsWhole p && objectsWhole o) ≡ true) where
     pub check-11-reserve : reserveWhole s ≡ false → 11 ≡ checkNumber p o s policy at
-    unfolding checkNumber tablesWhole
+    unfolding checkNumber tablesWhole firstFailing inputTests
     check-11-reserve v = rw (w, v)
 
     module _ (v : reserveWhole s ≡ true) where
       pub check-12 : 3 < policy → 12 ≡ checkNumber p o s policy at
-      unfolding checkNumber tablesWhole goodPolicy
+      unfolding checkNumber tablesWhole goodPolicy firstFailing inputTests
       check-12 k = rw (w, v, lt-leb _ _ k)
 
       module _ (k : policy ≤ 3) where
         pub check-13 : goodLayouts p ≡ false → 13 ≡ checkNumber p o s policy at
-        unfolding checkNumber tablesWhole goodPolicy
+        unfolding checkNumber tablesWhole goodPolicy firstFailing inputTests
         check-13 l = rw (w, v, le-leb _ _ k, l)
 
         module _ (l : goodLayouts p ≡ true) where
           pub check-14 : (all (whenUsed goodSelf) (parentRows p) && all (whenUsed goodObject) (objectRows o)) ≡ false → 14 ≡ checkNumber p o s policy at
-          unfolding checkNumber tablesWhole goodPolicy goodFids
+          unfolding checkNumber tablesWhole goodPolicy goodFids firstFailing inputTests
           check-14 f = rw (w, v, le-leb _ _ k, l, f)
 
           module _ (f : (all (whenUsed goodSelf) (parentRows p) && all (whenUsed goodObject) (objectRows o)) ≡ true) where
             pub check-14-reserve : all goodEntry (reserveEntries s) ≡ false → 14 ≡ checkNumber p o s policy at
-            unfolding checkNumber tablesWhole goodPolicy goodFids
+            unfolding checkNumber tablesWhole goodPolicy goodFids firstFailing inputTests
             check-14-reserve e = rw (w, v, le-leb _ _ k, l, f, e)
 
             module _ (e : all goodEntry (reserveEntries s) ≡ true) where
               pub check-15 : allDifferent p o ≡ false → 15 ≡ checkNumber p o s policy at
-              unfolding checkNumber tablesWhole goodPolicy goodFids
+              unfolding checkNumber tablesWhole goodPolicy goodFids firstFailing inputTests
               check-15 d = rw (w, v, le-leb _ _ k, l, f, e, d)
 
               module _ (d : allDifferent p o ≡ true) where
                 pub check-16 : isPosition (parse p o) at ≡ false → 16 ≡ checkNumber p o s policy at
-                unfolding checkNumber tablesWhole goodPolicy goodFids
+                unfolding checkNumber tablesWhole goodPolicy goodFids firstFailing inputTests
                 check-16 i = rw (w, v, le-leb _ _ k, l, f, e, d, i)
 
                 pub check-0 : isPosition (parse p o) at ≡ true → 0 ≡ checkNumber p o s policy at
-                unfolding checkNumber tablesWhole goodPolicy goodFids
+                unfolding checkNumber tablesWhole goodPolicy goodFids firstFailing inputTests
                 check-0 i = rw (w, v, le-leb _ _ k, l, f, e, d, i)
 
 -- ## Start and step count

@@ -1,3 +1,4 @@
+pub mod EitherRow
 -- The rows of a table, and the test of every row
 pub mod AllLaws
 pub mod RowReads
@@ -9,10 +10,10 @@ pub mod PositionLaws
 -- What is known of tables that pass
 pub mod SoundLaws
 pub mod SameLaws
-pub mod ApartLaws
+pub mod Apart
 -- Bytes to records and back
 pub mod RenderLaws
-pub mod FitLaws
+pub mod WritableRows
 pub mod ParseLaws
-pub mod SoundFits
-pub mod FitsSound
+pub mod PassedWritable
+pub mod WrittenPasses

@@ -7,14 +7,14 @@ use native.Mathlib.Omega.{arith}
 use lib.ListN.{length, getD, length-append}
 use lib.Seq.{take-at, drop-at}
 use Rattle.wire.specs.Rows.{rows}
-use Rattle.tables.specs.Records.{noParent, noObject, Tables}
+use Rattle.tables.specs.Records.{unused, Tables}
 use Rattle.tables.specs.Bytes.{parentSize, objectSize, parseParent, renderParent, parseObject, renderObject, parentRows, objectRows, parse, join, renderParents, renderObjects}
-use Rattle.tables.proofs.FitLaws.{FitParent, FitObject, parent-read-back, parent-length, object-read-back, object-length}
+use Rattle.tables.proofs.WritableRows.{FitParent, FitObject, parent-read-back, parent-length, object-read-back, object-length}
 
 -- every row can be written
 pub record FitTables (T : Tables) : Type 0 where
-  pub parents : (r : ℕ) → r < length (T .parents) → FitParent (getD (T .parents) r (noParent []))
-  pub objects : (r : ℕ) → r < length (T .objects) → FitObject (getD (T .objects) r (noObject []))
+  pub parents : (r : ℕ) → r < length (T .parents) → FitParent (getD (T .parents) r (unused []))
+  pub objects : (r : ℕ) → r < length (T .objects) → FitObject (getD (T .objects) r (unused []))
 
 -- rows of one size, put together and taken apart
 module _ {R : Type 0} (write : R → List ℕ) (size : ℕ) (d : R) where
@@ -57,10 +57,10 @@ module _ {R : Type 0} (read : List ℕ → R) (write : R → List ℕ) (size : �
 pub tables-read-back : (T : Tables) → FitTables T → parse (renderParents T) (renderObjects T) ≡ T
 unfolding parse parentRows objectRows renderParents renderObjects
 tables-read-back T f =
-    let a = join-apart parseParent renderParent parentSize (noParent []) (omega arith) (T .parents)
-    (λ r k. parent-length (getD (T .parents) r (noParent [])) (f .parents r k))
-    (λ r k. parent-read-back (getD (T .parents) r (noParent [])) (f .parents r k)) in
-    let b = join-apart parseObject renderObject objectSize (noObject []) (omega arith) (T .objects)
-    (λ r k. object-length (getD (T .objects) r (noObject [])) (f .objects r k))
-    (λ r k. object-read-back (getD (T .objects) r (noObject [])) (f .objects r k)) in
+    let a = join-apart parseParent renderParent parentSize (unused []) (omega arith) (T .parents)
+    (λ r k. parent-length (getD (T .parents) r (unused [])) (f .parents r k))
+    (λ r k. parent-read-back (getD (T .parents) r (unused [])) (f .parents r k)) in
+    let b = join-apart parseObject renderObject objectSize (unused []) (omega arith) (T .objects)
+    (λ r k. object-length (getD (T .objects) r (unused [])) (f .objects r k))
+    (λ r k. object-read-back (getD (T .objects) r (unused [])) (f .objects r k)) in
     λ i. record { parents = a i; objects = b i }

@@ -13,8 +13,8 @@ use Rattle.wire.proofs.RowLaws.{rows-length, rows-at, rows-start, rows-step, ro
 use Rattle.wire.proofs.Both.{and-first}
 use Rattle.layout.specs.Layout.{decodeLayout, stripeCount, slotStart}
 use Rattle.layout.proofs.SlotLaws.{length-slots}
-use Rattle.tables.specs.Records.{noObject, Tables}
-use Rattle.tables.specs.Bytes.{parentSize, objectSize, isUsed, layoutBytes, decodeParent, parseParent, parseObject, parentRows, objectRows, parse}
+use Rattle.tables.specs.Records.{unused, Tables}
+use Rattle.tables.specs.Bytes.{parentSize, objectSize, isUsed, layoutBytes, decodeParent, parseParent, parseObject, parentRows, objectRows, parse, parseRow}
 use Rattle.tables.specs.Positions.{slotsOf, rowAt, width, inStageOne, inStageTwo, isEnd, isPosition, place, fromObject, fromParent, afterPart, next, rowSteps, countSteps}
 use Rattle.tables.specs.declared.Position.{Position}
 
@@ -39,14 +39,14 @@ module _ (p o : List ℕ) where
 
   -- row r of the tables is row r of the bytes
   pub parsed-row : (r : ℕ) → r < length p / parentSize → rowAt (parse p o) r ≡ parseParent (take parentSize (drop (parentSize * r) p))
-  unfolding parse rowAt parentRows parseParent isUsed
+  unfolding parse rowAt parentRows parseParent isUsed parseRow
   parsed-row r h =
       List·getD-map parseParent (parentRows p) r []
       ∙ ap parseParent (rows-at parentSize (length p / parentSize) r p h)
 
   pub parsed-object : (r : ℕ) → r < length o / objectSize →
-      getD (parse p o .objects) r (noObject []) ≡ parseObject (take objectSize (drop (objectSize * r) o))
-  unfolding parse objectRows parseObject isUsed
+      getD (parse p o .objects) r (unused []) ≡ parseObject (take objectSize (drop (objectSize * r) o))
+  unfolding parse objectRows parseObject isUsed parseRow
   parsed-object r h =
       List·getD-map parseObject (objectRows o) r []
       ∙ ap parseObject (rows-at objectSize (length o / objectSize) r o h)
@@ -59,11 +59,11 @@ module _ (p o : List ℕ) where
 -- the slots of a row
 module _ (row : List ℕ) where
   pub slots-unused : isUsed row ≡ false → 0 ≡ length (slotsOf (parseParent row))
-  unfolding parseParent slotsOf
+  unfolding parseParent slotsOf parseRow
   slots-unused h = rw h
 
   pub slots-used : isUsed row ≡ true → stripeCount (layoutBytes row) ≡ length (slotsOf (parseParent row))
-  unfolding parseParent slotsOf decodeParent decodeLayout
+  unfolding parseParent slotsOf decodeParent decodeLayout stripeCount parseRow
   slots-used h = rw (h, length-slots (stripeCount (layoutBytes row)) (drop (slotStart (layoutBytes row)) (layoutBytes row)))
 
 -- what is asked of one table is the same beside any other

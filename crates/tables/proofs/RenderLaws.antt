@@ -17,12 +17,13 @@ use Rattle.fid.specs.declared.Fid.{Fid}
 use Rattle.fid.proofs.FidLaws.{encode-decode}
 use Rattle.layout.specs.Layout.{decodeLayout, encodeLayout}
 use Rattle.layout.proofs.LayoutLaws.{written-back}
-use Rattle.tables.specs.Records.{noParent, parent, noObject, object, Tables}
-use Rattle.tables.specs.Bytes.{parentSize, objectSize, isUsed, decodeOwner, encodeOwner, layoutLength, layoutBytes, decodeParent, encodeParent, parseParent, renderParent, claimFrom, claimFid, decodeObject, mark, encodeObject, parseObject, renderObject, parentRows, objectRows, parse, join, renderParents, renderObjects}
+use Rattle.tables.specs.Records.{Tables}
+use Rattle.tables.specs.Bytes.{parentSize, objectSize, isUsed, decodeOwner, encodeOwner, layoutLength, layoutBytes, decodeParent, encodeParent, parseParent, renderParent, claimFrom, claimFid, decodeObject, mark, encodeObject, parseObject, renderObject, parentRows, objectRows, parse, join, renderParents, renderObjects, selfFid, claimedFid}
 use Rattle.tables.specs.Check.{Sound}
 use Rattle.tables.specs.declared.Claim.the-variants.{Unclaimed, Claims}
 use Rattle.tables.proofs.SameLaws.{same-is}
 use Rattle.tables.proofs.SoundLaws.{sound-facts, ParentFacts, ObjectFacts, parent-size, parent-mark, parent-facts, object-size, object-mark, object-facts}
+use Rattle.tables.proofs.EitherRow.{row-back}
 
 -- ## Bytes
 
@@ -52,7 +53,7 @@ module _ (row : List ℕ) where
 -- ## Rows
 
 pub parent-written-back : (row : List ℕ) → Bytes row → ParentFacts row → encodeParent (decodeParent row) ≡ drop 1 row
-unfolding encodeParent decodeParent layoutLength layoutBytes
+unfolding encodeParent decodeParent selfFid layoutLength layoutBytes
 parent-written-back row b f =
     let n : ℕ = layoutLength row in
     let z = f .size in
@@ -76,7 +77,7 @@ unfolding claimFrom claimFid
 claim-back f = go (sameFid f zeroFid) refl
   where
     go : (b : Bool) → sameFid f zeroFid ≡ b →
-        claimFid (cond b Unclaimed (Claims (record { 0 = record { seq = f .seq; oid = f .oid; ver = 0 } }) (f .ver))) ≡ f
+        claimFid (cond b Unclaimed (Claims (record { file = record { 0 = record { seq = f .seq; oid = f .oid; ver = 0 } }; index = f .ver }))) ≡ f
     go true x = sym (same-is f zeroFid x)
     go false x = refl
 
@@ -89,7 +90,7 @@ mark-back b h = go (eqb b 1) refl
     go false x = omega (arith, eqb-false b 1 x)
 
 pub object-written-back : (row : List ℕ) → Bytes row → ObjectFacts row → encodeObject (decodeObject row) ≡ drop 1 row
-unfolding encodeObject decodeObject
+unfolding encodeObject decodeObject selfFid claimedFid
 object-written-back row b f =
     let z = f .size in
     rw (
@@ -105,35 +106,15 @@ object-written-back row b f =
     )
     (with-last row z)
 
--- a mark of 0 or 1 that isn't 1
-unmarked : (row : List ℕ) → getD row 0 0 ≤ 1 → isUsed row ≡ false → getD row 0 0 ≡ 0
-unfolding isUsed
-unmarked row h u = omega (arith, eqb-false (getD row 0 0) 1 u)
-
-marked : (row : List ℕ) → isUsed row ≡ true → getD row 0 0 ≡ 1
-unfolding isUsed
-marked row u = eqb-true (getD row 0 0) 1 u
-
-with-mark : (row : List ℕ) → 1 ≤ length row → getD row 0 0 ∷ drop 1 row ≡ row
-with-mark row h = sym (drop-cons row 0 0 h)
-
 pub parent-row-back : (row : List ℕ) → Bytes row → length row ≡ parentSize → getD row 0 0 ≤ 1 → (isUsed row ≡ true → ParentFacts row) →
     renderParent (parseParent row) ≡ row
 unfolding parseParent renderParent
-parent-row-back row b n m f = go (isUsed row) refl
-  where
-    go : (t : Bool) → isUsed row ≡ t → renderParent (cond t (parent (decodeParent row)) (noParent (drop 1 row))) ≡ row
-    go true u = ap (λ (l : List ℕ). 1 ∷ l) (parent-written-back row b (f u)) ∙ ap (λ (m : ℕ). m ∷ drop 1 row) (sym (marked row u)) ∙ with-mark row (omega arith)
-    go false u = ap (λ (m : ℕ). m ∷ drop 1 row) (sym (unmarked row m u)) ∙ with-mark row (omega arith)
+parent-row-back row b n m f = row-back decodeParent row encodeParent (omega arith) m (λ u. parent-written-back row b (f u))
 
 pub object-row-back : (row : List ℕ) → Bytes row → length row ≡ objectSize → getD row 0 0 ≤ 1 → (isUsed row ≡ true → ObjectFacts row) →
     renderObject (parseObject row) ≡ row
 unfolding parseObject renderObject
-object-row-back row b n m f = go (isUsed row) refl
-  where
-    go : (t : Bool) → isUsed row ≡ t → renderObject (cond t (object (decodeObject row)) (noObject (drop 1 row))) ≡ row
-    go true u = ap (λ (l : List ℕ). 1 ∷ l) (object-written-back row b (f u)) ∙ ap (λ (m : ℕ). m ∷ drop 1 row) (sym (marked row u)) ∙ with-mark row (omega arith)
-    go false u = ap (λ (m : ℕ). m ∷ drop 1 row) (sym (unmarked row m u)) ∙ with-mark row (omega arith)
+object-row-back row b n m f = row-back decodeObject row encodeObject (omega arith) m (λ u. object-written-back row b (f u))
 
 -- ## Tables
 

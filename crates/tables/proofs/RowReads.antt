@@ -10,7 +10,7 @@ use lib.Seq.{drop-drop, length-take-le}
 use Rattle.wire.specs.Numbers.{le}
 use Rattle.fid.specs.Fid.{decodeFid, sameFid, zeroFid}
 use Rattle.fid.specs.declared.Fid.{Fid}
-use Rattle.tables.specs.Bytes.{parentSize, layoutRoom, layoutLength, layoutBytes, decodeOwner, claimFrom, decodeObject}
+use Rattle.tables.specs.Bytes.{parentSize, layoutRoom, layoutLength, layoutBytes, decodeOwner, claimFrom, decodeObject, selfFid, claimedFid}
 use Rattle.tables.specs.declared.Owner.{Owner}
 use Rattle.tables.specs.declared.Claim.{Claim}
 use Rattle.tables.specs.declared.Claim.the-variants.{Unclaimed, Claims}
@@ -26,14 +26,14 @@ module _ (f : Fid) where
   unfolding claimFrom
   claim-none h = rw h
 
-  pub claim-some : sameFid f zeroFid ≡ false → Claims (record { 0 = record { seq = f .seq; oid = f .oid; ver = 0 } }) (f .ver) ≡ claimFrom f
+  pub claim-some : sameFid f zeroFid ≡ false → Claims (record { file = record { 0 = record { seq = f .seq; oid = f .oid; ver = 0 } }; index = f .ver }) ≡ claimFrom f
   unfolding claimFrom
   claim-some h = rw h
 
 pub object-is : (row : List ℕ) (f g : Fid) (o : ℕ) (w : Owner) (k : Claim) → f ≡ decodeFid (drop 1 row) → o ≡ le 4 (drop 17 row) →
     w ≡ decodeOwner (drop 21 row) → g ≡ decodeFid (drop 29 row) → k ≡ claimFrom g →
     _≡_ {A = Object} (record { fid = record { 0 = f }; ost = o; owner = w; claim = k; fresh = eqb (getD row 45 0) 1 }) (decodeObject row)
-unfolding decodeObject
+unfolding decodeObject decodeFid selfFid claimedFid
 object-is row f g o w k p q r s t =
     let z : k ≡ claimFrom (decodeFid (drop 29 row)) = t ∙ ap claimFrom s in
     λ i. record { fid = record { 0 = p i }; ost = q i; owner = r i; claim = z i; fresh = eqb (getD row 45 0) 1 }

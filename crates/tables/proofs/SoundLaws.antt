@@ -13,8 +13,8 @@ use Rattle.fid.specs.Fid.{goodFid, sameFid, zeroFid}
 use Rattle.layout.specs.Slot.{maxIndex}
 use Rattle.layout.specs.Layout.{acceptedLayout}
 use Rattle.layout.proofs.LayoutLaws.{LayoutFacts, accepted-facts}
-use Rattle.tables.specs.Bytes.{parentSize, objectSize, layoutRoom, isUsed, layoutLength, layoutBytes, parentRows, objectRows, reserveEntries}
-use Rattle.tables.specs.Check.{all, whenUsed, maxParents, maxObjects, wholeRows, isMark, usedMark, freshMark, parentsWhole, objectsWhole, reserveWhole, tablesWhole, goodLayout, goodLayouts, selfFid, goodSelf, goodIndex, claimed, goodClaim, freshClaims, goodObject, goodEntry, goodFids, noneTwice, allDifferent, Sound}
+use Rattle.tables.specs.Bytes.{parentSize, objectSize, layoutRoom, isUsed, layoutLength, layoutBytes, parentRows, objectRows, reserveEntries, claimedFid, selfFid}
+use Rattle.tables.specs.Check.{all, whenUsed, maxParents, maxObjects, wholeRows, isMark, usedMark, freshMark, parentsWhole, objectsWhole, reserveWhole, tablesWhole, goodLayout, goodLayouts, goodSelf, goodIndex, goodClaim, freshClaims, goodObject, goodEntry, goodFids, noneTwice, allDifferent, Sound}
 use Rattle.tables.proofs.AllLaws.{part-length, all-at}
 use Rattle.tables.proofs.RowReads.{layout-bytes}
 use Rattle.tables.proofs.CheckLaws.{sound-pass}
@@ -115,9 +115,9 @@ layout-of-row row n h u =
     }
 
 -- a fresh object has a claim
-fresh-claimed : (row : List ℕ) → freshClaims row ≡ true → getD row 45 0 ≡ 1 → sameFid (claimed row) zeroFid ≡ false
+fresh-claimed : (row : List ℕ) → freshClaims row ≡ true → getD row 45 0 ≡ 1 → sameFid (claimedFid row) zeroFid ≡ false
 unfolding freshClaims
-fresh-claimed row h k = not-is (sameFid (claimed row) zeroFid) (rw (eq-eqb _ _ k) at h)
+fresh-claimed row h k = not-is (sameFid (claimedFid row) zeroFid) (rw (eq-eqb _ _ k) at h)
   where
     not-is : (b : Bool) → not b ≡ true → b ≡ false
     not-is true e = sym e
@@ -140,7 +140,7 @@ pub record ObjectFacts (row : List ℕ) : Type 0 where
   pub self : goodFid (selfFid row) ≡ true
   pub index : le 4 (drop 17 row) ≤ maxIndex
   pub claim : goodClaim row ≡ true
-  pub fresh : getD row 45 0 ≡ 1 → sameFid (claimed row) zeroFid ≡ false
+  pub fresh : getD row 45 0 ≡ 1 → sameFid (claimedFid row) zeroFid ≡ false
 
 module _ (p o : List ℕ) (h : Sound p o) (r : ℕ) (row : List ℕ) where
   -- a parent row, used or not: its mark and its length

@@ -12,8 +12,8 @@ use Rattle.fid.specs.Fid.{decodeFid, goodFid, goodNumber, sameFid, zeroFid}
 use Rattle.fid.specs.declared.Fid.{Fid}
 use Rattle.layout.specs.Slot.{maxIndex}
 use Rattle.layout.specs.Layout.{acceptedLayout}
-use Rattle.tables.specs.Bytes.{parentSize, objectSize, layoutRoom, layoutLength, layoutBytes, isUsed, parentRows, objectRows}
-use Rattle.tables.specs.Check.{all, whenUsed, goodLayout, maxParents, maxObjects, wholeRows, parentsWhole, objectsWhole, allDifferent, noneTwice, isMark, usedMark, freshMark, selfFid, goodSelf, goodIndex, claimed, goodClaim, freshClaims, goodObject}
+use Rattle.tables.specs.Bytes.{parentSize, objectSize, layoutRoom, layoutLength, layoutBytes, isUsed, parentRows, objectRows, selfFid, claimedFid}
+use Rattle.tables.specs.Check.{all, whenUsed, goodLayout, maxParents, maxObjects, wholeRows, parentsWhole, objectsWhole, allDifferent, noneTwice, isMark, usedMark, freshMark, goodSelf, goodIndex, goodClaim, freshClaims, goodObject}
 
 module _ (test : List ℕ → Bool) (row : List ℕ) where
   pub when-unused : isUsed row ≡ false → true ≡ whenUsed test row
@@ -88,11 +88,11 @@ module _ (row : List ℕ) where
 
 module _ (row : List ℕ) (f : Fid) (e : f ≡ decodeFid (drop 29 row)) where
   pub claim-zero : sameFid f zeroFid ≡ true → true ≡ goodClaim row
-  unfolding goodClaim claimed
+  unfolding goodClaim claimedFid
   claim-zero h = rw (← e, h)
 
   pub claim-number : sameFid f zeroFid ≡ false → goodNumber f ≡ goodClaim row
-  unfolding goodClaim claimed
+  unfolding goodClaim claimedFid
   claim-number h = rw (← e, h)
 
 module _ (row : List ℕ) where
@@ -101,7 +101,7 @@ module _ (row : List ℕ) where
   fresh-not h = rw (ne-eqb _ _ h)
 
   pub fresh-is : getD row 45 0 ≡ 1 → (f : Fid) → f ≡ decodeFid (drop 29 row) → not (sameFid f zeroFid) ≡ freshClaims row
-  unfolding freshClaims claimed
+  unfolding freshClaims claimedFid
   fresh-is h f e = rw (eq-eqb _ _ h, e)
 
   pub object-self : goodFid (selfFid row) ≡ false → false ≡ goodObject row

@@ -8,8 +8,8 @@ use Rattle.wire.specs.Rows.{rows}
 use Rattle.wire.proofs.RowLaws.{rows-start, rows-step, rows-end}
 use Rattle.fid.specs.Fid.{sameFid}
 use Rattle.fid.specs.declared.Fid.{Fid}
-use Rattle.tables.specs.Bytes.{isUsed}
-use Rattle.tables.specs.Check.{selfFid, hasSelf, noneTwice}
+use Rattle.tables.specs.Bytes.{isUsed, selfFid}
+use Rattle.tables.specs.Check.{hasSelf, noneTwice}
 
 -- whether the FID is that of a used row, from row r of n on
 pub hasFrom : Fid → ℕ → List ℕ → ℕ → ℕ → Bool

@@ -10,7 +10,7 @@ use Rattle.fid.specs.Fid.{decodeFid, goodFid, goodNumber, sameFid, zeroFid}
 use Rattle.fid.specs.declared.Fid.{Fid}
 use Rattle.layout.specs.Slot.{maxIndex}
 use Rattle.layout.specs.Layout.{acceptedLayout}
-use Rattle.tables.specs.Bytes.{parentSize, objectSize, entrySize, layoutRoom, isUsed, layoutLength, layoutBytes, parentRows, objectRows, reserveEntries, parse}
+use Rattle.tables.specs.Bytes.{parentSize, objectSize, entrySize, ostAt, freshAt, layoutRoom, isUsed, selfFid, layoutLength, layoutBytes, claimedFid, parentRows, objectRows, reserveEntries, parse}
 use Rattle.tables.specs.Positions.{isPosition}
 use Rattle.tables.specs.declared.Position.{Position}
 
@@ -45,7 +45,7 @@ unfoldable pub usedMark : List ℕ → Bool
 usedMark row = isMark (getD row 0 0)
 
 unfoldable pub freshMark : List ℕ → Bool
-freshMark row = isMark (getD row 45 0)
+freshMark row = isMark (getD row freshAt 0)
 
 unfoldable pub parentsWhole : List ℕ → Bool
 parentsWhole l = wholeRows parentSize maxParents l && all usedMark (parentRows l)
@@ -75,27 +75,20 @@ goodLayouts parents = all (whenUsed goodLayout) (parentRows parents)
 
 -- ## 14: "bad FID, object index or claim, or fresh without claim"
 
--- the self FID stands after the mark in both kinds of row
-unfoldable pub selfFid : List ℕ → Fid
-selfFid row = decodeFid (drop 1 row)
-
 unfoldable pub goodSelf : List ℕ → Bool
 goodSelf row = goodFid (selfFid row)
 
 -- "OST index 4 (at most 65,535)"
 unfoldable pub goodIndex : List ℕ → Bool
-goodIndex row = leb (le 4 (drop 17 row)) maxIndex
-
-unfoldable pub claimed : List ℕ → Fid
-claimed row = decodeFid (drop 29 row)
+goodIndex row = leb (le 4 (drop ostAt row)) maxIndex
 
 -- "16 zero bytes mean no claim. Otherwise sequence and id must be good; any index is allowed"
 unfoldable pub goodClaim : List ℕ → Bool
-goodClaim row = sameFid (claimed row) zeroFid || goodNumber (claimed row)
+goodClaim row = sameFid (claimedFid row) zeroFid || goodNumber (claimedFid row)
 
 -- "A fresh object must have a claim"
 unfoldable pub freshClaims : List ℕ → Bool
-freshClaims row = cond (eqb (getD row 45 0) 1) (not (sameFid (claimed row) zeroFid)) true
+freshClaims row = cond (eqb (getD row freshAt 0) 1) (not (sameFid (claimedFid row) zeroFid)) true
 
 unfoldable pub goodObject : List ℕ → Bool
 goodObject row = goodSelf row && goodIndex row && goodClaim row && freshClaims row
@@ -122,22 +115,39 @@ noneTwice (row ∷ rest) = cond (isUsed row) (not (hasSelf (selfFid row) rest)) 
 unfoldable pub allDifferent : List ℕ → List ℕ → Bool
 allDifferent parents objects = noneTwice (parentRows parents) && noneTwice (objectRows objects)
 
--- ## The numbers
+-- ## The tests in their order
 
--- what start, step count and class give, which take no policy and no reserve
+-- a test of the input, and the number that is given where it fails
+pub record Test : Type 0 where
+  pub number : ℕ
+  pub passes : Bool
+
+abbrev pub test : ℕ → Bool → Test
+test number passes = record { number = number; passes = passes }
+
+-- "the lowest .. that applies is given", "none is given otherwise": the number of the first test that fails, 0 where none does
+unfoldable pub firstFailing : List Test → ℕ
+firstFailing [] = 0
+firstFailing (t ∷ ts) = cond (t .passes) (firstFailing ts) (t .number)
+
+-- of the tables alone: start, step count and class take no policy and no reserve
+unfoldable pub tablesTests : List ℕ → List ℕ → List Test
+tablesTests parents objects =
+    test 11 (tablesWhole parents objects []) ∷ test 13 (goodLayouts parents) ∷ test 14 (goodFids parents objects [])
+    ∷ test 15 (allDifferent parents objects) ∷ []
+
 unfoldable pub tablesNumber : List ℕ → List ℕ → ℕ
-tablesNumber parents objects =
-    cond (tablesWhole parents objects [])
-    (cond (goodLayouts parents) (cond (goodFids parents objects []) (cond (allDifferent parents objects) 0 15) 14) 13) 11
+tablesNumber parents objects = firstFailing (tablesTests parents objects)
 
--- "Input is checked first, over all tables, and the lowest .. that applies is given"; 16 is "no such position"
+-- "Input is checked first, over all tables"; 16 is "no such position"
+unfoldable pub inputTests : List ℕ → List ℕ → List ℕ → ℕ → Position → List Test
+inputTests parents objects reserve policy position =
+    test 11 (tablesWhole parents objects reserve) ∷ test 12 (goodPolicy policy) ∷ test 13 (goodLayouts parents)
+    ∷ test 14 (goodFids parents objects reserve) ∷ test 15 (allDifferent parents objects)
+    ∷ test 16 (isPosition (parse parents objects) position) ∷ []
+
 unfoldable pub checkNumber : List ℕ → List ℕ → List ℕ → ℕ → Position → ℕ
-checkNumber parents objects reserve policy position =
-    cond (tablesWhole parents objects reserve)
-    (cond (goodPolicy policy)
-    (cond (goodLayouts parents)
-    (cond (goodFids parents objects reserve)
-    (cond (allDifferent parents objects) (cond (isPosition (parse parents objects) position) 0 16) 15) 14) 13) 12) 11
+checkNumber parents objects reserve policy position = firstFailing (inputTests parents objects reserve policy position)
 
 -- the tables that pass: every later fact about them is drawn from this
 unfoldable pub Sound : List ℕ → List ℕ → Type 0

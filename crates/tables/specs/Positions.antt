@@ -5,17 +5,17 @@ use mathlib.Core.Bool.{Bool, cond, _&&_, _||_}
 use lib.ListN.{length, getD}
 use lib.Dec.{leb, ltb, eqb}
 use Rattle.layout.specs.declared.Slot.{Slot}
-use Rattle.tables.specs.Records.{ParentRow, noParent, parent, Tables}
+use Rattle.tables.specs.Records.{ParentRow, unused, used, Tables}
 use Rattle.tables.specs.declared.Position.{Position}
 
 -- the slots of a row: none where it is unused
 unfoldable pub slotsOf : ParentRow → List Slot
-slotsOf (noParent b) = []
-slotsOf (parent p) = p .layout .slots
+slotsOf (unused b) = []
+slotsOf (used p) = p .layout .slots
 
 -- a row that isn't there is unused
 unfoldable pub rowAt : Tables → ℕ → ParentRow
-rowAt T r = getD (T .parents) r (noParent [])
+rowAt T r = getD (T .parents) r (unused [])
 
 -- the number of slots of row r
 unfoldable pub width : Tables → ℕ → ℕ

@@ -13,14 +13,16 @@ pub record Parent : Type 0 where
   pub layout : Layout
   pub tail : List ℕ
 
--- an unused row is its bytes after the mark: "Fields of an unused row are not examined"
-pub data ParentRow : Type 0 where
-  noParent : List ℕ → ParentRow
-  parent : Parent → ParentRow
+-- a row of a table: an unused one is its bytes after the mark, "Fields of an unused row are not examined"; else what it says
+pub data TableRow (A : Type 0) : Type 0 where
+  unused : List ℕ → TableRow A
+  used : A → TableRow A
 
-pub data ObjectRow : Type 0 where
-  noObject : List ℕ → ObjectRow
-  object : Object → ObjectRow
+abbrev pub ParentRow : Type 0
+ParentRow = TableRow Parent
+
+abbrev pub ObjectRow : Type 0
+ObjectRow = TableRow Object
 
 pub record Tables : Type 0 where
   pub parents : List ParentRow

@@ -1,19 +1,22 @@
 // 14: "bad FID, object index or claim, or fresh without claim".
 use super::rows;
+use super::rows::CLAIM_AT;
 use super::rows::ENTRY_SIZE;
+use super::rows::FRESH_AT;
 use super::rows::OBJECT_SIZE;
+use super::rows::OST_AT;
 use super::rows::PARENT_SIZE;
 use layout::MAX_INDEX;
 ghost use mathlib.Core.Path.{_≡_};
 ghost use mathlib.Core.Bool.{_&&_};
 ghost use lib.ListN.{length};
 ghost use Prim.Native.Nat.{_≤_};
-ghost use Rattle.tables.specs.Bytes.{objectSize, parentRows, objectRows, reserveEntries};
+ghost use Rattle.tables.specs.Bytes.{objectSize, parentRows, objectRows, reserveEntries, ownerAt};
 ghost use Rattle.tables.specs.Check.{all, whenUsed, goodSelf, goodClaim, freshClaims, goodObject, goodEntry};
 
 // Whether the self FID of a parent row is good, where it is examined.
 pub fn good_parent(row: &[u8]) -> bool
-    requires { ⌜ 17 ≤ length (now row) ⌝ }
+    requires { ⌜ ownerAt ≤ length (now row) ⌝ }
     ensures { λ r. ⌜ r ≡ whenUsed goodSelf (now (row .entry)) ⌝ }
 {
     if !rows::is_used(row) {
@@ -39,7 +42,7 @@ pub fn good_claim(row: &[u8]) -> bool
     requires { ⌜ length (now row) ≡ objectSize ⌝ }
     ensures { λ r. ⌜ r ≡ goodClaim (now (row .entry)) ⌝ }
 {
-    let f = fid::read_fid(row, 29);
+    let f = fid::read_fid(row, CLAIM_AT);
     if rows::is_zero(f) {
         return true;
     }
@@ -51,10 +54,10 @@ pub fn fresh_claims(row: &[u8]) -> bool
     requires { ⌜ length (now row) ≡ objectSize ⌝ }
     ensures { λ r. ⌜ r ≡ freshClaims (now (row .entry)) ⌝ }
 {
-    if row[45] != 1 {
+    if row[FRESH_AT] != 1 {
         return true;
     }
-    !rows::is_zero(fid::read_fid(row, 29))
+    !rows::is_zero(fid::read_fid(row, CLAIM_AT))
 }
 
 // Whether an object row's self FID, index and claim are good, where they are examined.
@@ -68,7 +71,7 @@ pub fn good_object(row: &[u8]) -> bool
     if !fid::is_good(rows::self_fid(row)) {
         return false;
     }
-    if MAX_INDEX < wire::le32(row, 17) {
+    if MAX_INDEX < wire::le32(row, OST_AT) {
         return false;
     }
     if !good_claim(row) {

@@ -18,10 +18,16 @@ pub struct Owner {
     pub gid: u32,
 }
 
-// What an object says of its place: nothing, or a file and a stripe index.
+// Where a slot stands: its file and its stripe index.
+pub struct Place {
+    pub file: MdtFid,
+    pub index: u32,
+}
+
+// What an object says of its place: nothing, or a place.
 pub enum Claim {
     Unclaimed,
-    Claims(MdtFid, u32),
+    Claims(Place),
 }
 
 // What a used object row says.

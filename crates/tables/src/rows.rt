@@ -2,6 +2,8 @@
 use super::Claim;
 use super::Object;
 use super::Owner;
+use super::Place;
+use fid::FID_SIZE;
 use fid::Fid;
 use fid::MdtFid;
 use fid::OstFid;
@@ -9,20 +11,42 @@ ghost use mathlib.Core.Path.{_≡_};
 ghost use Prim.Native.Nat.{_+_, _*_, _≤_};
 ghost use lib.ListN.{length, take, drop};
 ghost use Rattle.fid.specs.Fid.{zeroFid, sameFid};
-ghost use Rattle.tables.specs.Bytes.{objectSize, parentSize, layoutRoom, layoutBytes, isUsed, decodeOwner, claimFrom, decodeObject, decodeParent, layoutLength};
-ghost use Rattle.tables.specs.Check.{selfFid};
+ghost use Rattle.tables.specs.Bytes.{ownerAt, lengthAt, roomAt, selfFid, objectSize, parentSize, layoutRoom, layoutBytes, isUsed, decodeOwner, claimFrom, decodeObject, decodeParent, layoutLength};
 
-// The room for a layout, and where it starts: after mark, self FID, uid, gid and layout length.
+// Where the self FID stands in both kinds of row: after the mark.
+pub const SELF_AT: usize = 1;
+
+// The bytes of uid and gid.
+pub const OWNER_SIZE: usize = 8;
+
+// The room for a layout.
 pub const LAYOUT_ROOM: usize = 3888;
 
-pub const LAYOUT_START: usize = 27;
+// A parent row: mark, self FID, uid and gid, layout length, and the room.
+pub const OWNER_AT: usize = SELF_AT + FID_SIZE;
 
-// The bytes of a parent row, of an object row and of an entry of the reserve.
-pub const PARENT_SIZE: usize = LAYOUT_START + LAYOUT_ROOM;
+pub const LENGTH_AT: usize = OWNER_AT + OWNER_SIZE;
 
-pub const OBJECT_SIZE: usize = 46;
+pub const ROOM_AT: usize = LENGTH_AT + 2;
 
-pub const ENTRY_SIZE: usize = 16;
+pub const PARENT_SIZE: usize = ROOM_AT + LAYOUT_ROOM;
+
+// The bytes of a claim.
+pub const CLAIM_SIZE: usize = FID_SIZE;
+
+// An object row: mark, self FID, OST index, uid and gid, claim, fresh mark.
+pub const OST_AT: usize = SELF_AT + FID_SIZE;
+
+pub const OBJECT_OWNER_AT: usize = OST_AT + 4;
+
+pub const CLAIM_AT: usize = OBJECT_OWNER_AT + OWNER_SIZE;
+
+pub const FRESH_AT: usize = CLAIM_AT + CLAIM_SIZE;
+
+pub const OBJECT_SIZE: usize = FRESH_AT + 1;
+
+// An entry of the reserve.
+pub const ENTRY_SIZE: usize = FID_SIZE;
 
 // Row r of a table.
 pub fn row_at(table: &[u8], size: usize, r: usize) -> &[u8]
@@ -44,10 +68,10 @@ pub fn is_used(row: &[u8]) -> bool
 
 // The self FID, which stands after the mark in both kinds of row.
 pub fn self_fid(row: &[u8]) -> Fid
-    requires { ⌜ 17 ≤ length (now row) ⌝ }
+    requires { ⌜ ownerAt ≤ length (now row) ⌝ }
     ensures { λ r. ⌜ r ≡ selfFid (now (row .entry)) ⌝ }
 {
-    fid::read_fid(row, 1)
+    fid::read_fid(row, SELF_AT)
 }
 
 // The uid and gid at a place of the row.
@@ -85,7 +109,11 @@ pub fn claim_from(f: Fid) -> Claim
         oid: f.oid,
         ver: 0,
     };
-    Claim::Claims(MdtFid(file), f.ver)
+    let place = Place {
+        file: MdtFid(file),
+        index: f.ver,
+    };
+    Claim::Claims(place)
 }
 
 // What an object row says.
@@ -93,11 +121,11 @@ pub fn decode_object(row: &[u8]) -> Object
     requires { ⌜ length (now row) ≡ objectSize ⌝ }
     ensures { λ r. ⌜ r ≡ decodeObject (now (row .entry)) ⌝ }
 {
-    let name = fid::read_fid(row, 1);
-    let ost = wire::le32(row, 17);
-    let owner = owner_at(row, 21);
-    let claim = claim_from(fid::read_fid(row, 29));
-    let fresh = row[45] == 1;
+    let name = fid::read_fid(row, SELF_AT);
+    let ost = wire::le32(row, OST_AT);
+    let owner = owner_at(row, OBJECT_OWNER_AT);
+    let claim = claim_from(fid::read_fid(row, CLAIM_AT));
+    let fresh = row[FRESH_AT] == 1;
     Object {
         fid: OstFid(name),
         ost: ost,
@@ -109,26 +137,26 @@ pub fn decode_object(row: &[u8]) -> Object
 
 // The file that a parent row is of.
 pub fn self_of(row: &[u8]) -> MdtFid
-    requires { ⌜ 17 ≤ length (now row) ⌝ }
+    requires { ⌜ ownerAt ≤ length (now row) ⌝ }
     ensures { λ r. ⌜ r ≡ decodeParent (now (row .entry)) .self ⌝ }
 {
-    MdtFid(fid::read_fid(row, 1))
+    MdtFid(fid::read_fid(row, SELF_AT))
 }
 
 // The file's owner.
 pub fn owner_of(row: &[u8]) -> Owner
-    requires { ⌜ 25 ≤ length (now row) ⌝ }
+    requires { ⌜ lengthAt ≤ length (now row) ⌝ }
     ensures { λ r. ⌜ r ≡ decodeParent (now (row .entry)) .owner ⌝ }
 {
-    owner_at(row, 17)
+    owner_at(row, OWNER_AT)
 }
 
 // The length of a parent row's layout.
 pub fn layout_len(row: &[u8]) -> u16
-    requires { ⌜ 27 ≤ length (now row) ⌝ }
+    requires { ⌜ roomAt ≤ length (now row) ⌝ }
     ensures { λ r. ⌜ r ≡ layoutLength (now (row .entry)) ⌝ }
 {
-    wire::le16(row, 25)
+    wire::le16(row, LENGTH_AT)
 }
 
 // A parent row's layout.
@@ -136,7 +164,7 @@ pub fn layout_of(row: &[u8]) -> &[u8]
     requires { ⌜ (length (now row) ≡ parentSize) × (layoutLength (now row) ≤ layoutRoom) ⌝ }
     ensures { λ l. ⌜ (now l ≡ layoutBytes (now (row .entry))) × (length (now l) ≡ layoutLength (now (row .entry))) ⌝ }
 {
-    let start = LAYOUT_START;
+    let start = ROOM_AT;
     let end = start + layout_len(row) as usize;
     &row[start..end]
 }

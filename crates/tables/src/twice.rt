@@ -9,12 +9,12 @@ ghost use Prim.Native.Nat.{_-_, _*_, _/_, _≤_};
 ghost use lib.ListN.{length, drop};
 ghost use Rattle.wire.specs.Rows.{rows};
 ghost use Rattle.fid.specs.Fid.{sameFid};
-ghost use Rattle.tables.specs.Bytes.{isUsed};
-ghost use Rattle.tables.specs.Check.{selfFid, hasSelf, noneTwice, allDifferent};
+ghost use Rattle.tables.specs.Bytes.{isUsed, ownerAt, selfFid};
+ghost use Rattle.tables.specs.Check.{hasSelf, noneTwice, allDifferent};
 
 // Whether a row is used and has this self FID. The object id comes first, in which most rows differ.
 pub fn has_fid(row: &[u8], f: Fid) -> bool
-    requires { ⌜ 17 ≤ length (now row) ⌝ }
+    requires { ⌜ ownerAt ≤ length (now row) ⌝ }
     ensures { λ r. ⌜ r ≡ (isUsed (now (row .entry)) && sameFid (selfFid (now (row .entry))) f) ⌝ }
 {
     if wire::le32(row, 9) != f.oid {
@@ -31,7 +31,7 @@ pub fn has_fid(row: &[u8], f: Fid) -> bool
 
 // Whether a used row from row `from` on has this self FID.
 pub fn has_self(table: &[u8], size: usize, from: usize, f: Fid) -> bool
-    requires { ⌜ 17 ≤ size ⌝ }
+    requires { ⌜ ownerAt ≤ size ⌝ }
     ensures { λ r. ⌜ r ≡ hasSelf f (rows size (length (now (table .entry)) / size - from) (drop (size * from) (now (table .entry)))) ⌝ }
 {
     let n = table.len() / size;
@@ -45,7 +45,7 @@ pub fn has_self(table: &[u8], size: usize, from: usize, f: Fid) -> bool
 
 // Whether no two used rows have the same self FID.
 pub fn none_twice(table: &[u8], size: usize) -> bool
-    requires { ⌜ 17 ≤ size ⌝ }
+    requires { ⌜ ownerAt ≤ size ⌝ }
     ensures { λ r. ⌜ r ≡ noneTwice (rows size (length (now (table .entry)) / size) (now (table .entry))) ⌝ }
 {
     let n = table.len() / size;

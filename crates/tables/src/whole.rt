@@ -1,6 +1,7 @@
 // 11: "table not whole rows, too long, or a mark not 0 or 1".
 use super::rows;
 use super::rows::ENTRY_SIZE;
+use super::rows::FRESH_AT;
 use super::rows::OBJECT_SIZE;
 use super::rows::PARENT_SIZE;
 ghost use mathlib.Core.Path.{_≡_};
@@ -53,7 +54,7 @@ pub fn fresh_mark(row: &[u8]) -> bool
     if !rows::is_used(row) {
         return true;
     }
-    row[45] <= 1
+    row[FRESH_AT] <= 1
 }
 
 // Whether it is in every used object row.

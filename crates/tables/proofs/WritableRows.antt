@@ -2,7 +2,7 @@
 use mathlib.Core.Path.{_≡_, refl, sym, ap, _∙_}
 use mathlib.Core.List.{List, [], _∷_, _++_, append-assoc, append-nil}
 use mathlib.Core.Bool.{Bool, true, false}
-use Prim.Native.Nat.{ℕ, suc, _+_, _-_, _≤_, _<_, _^_}
+use Prim.Native.Nat.{ℕ, _+_, _-_, _≤_, _<_, _^_}
 use native.Mathlib.Nat.{mod-eq-of-lt}
 use native.Mathlib.Omega.{arith}
 use borrow.Author.Tests.{eqb-true, ne-eqb}
@@ -19,13 +19,13 @@ use Rattle.layout.specs.Slot.{maxIndex}
 use Rattle.layout.specs.Layout.{decodeLayout, encodeLayout}
 use Rattle.layout.proofs.HeaderLaws.{field}
 use Rattle.layout.proofs.LayoutLaws.{Writable, read-back}
-use Rattle.tables.specs.Records.{Parent, ParentRow, noParent, parent, ObjectRow, noObject, object}
-use Rattle.tables.specs.Bytes.{parentSize, objectSize, layoutRoom, isUsed, decodeOwner, encodeOwner, layoutLength, layoutBytes, decodeParent, encodeParent, parseParent, renderParent, claimFrom, claimFid, decodeObject, mark, encodeObject, parseObject, renderObject}
-use Rattle.tables.specs.Check.{selfFid, claimed}
+use Rattle.tables.specs.Records.{Parent, ParentRow, used, ObjectRow}
+use Rattle.tables.specs.Bytes.{parentSize, objectSize, layoutRoom, decodeOwner, encodeOwner, layoutLength, layoutBytes, decodeParent, encodeParent, parseParent, renderParent, claimFrom, claimFid, decodeObject, mark, encodeObject, parseObject, renderObject, selfFid, claimedFid, ostAt, freshAt}
 use Rattle.tables.specs.declared.Owner.{Owner}
 use Rattle.tables.specs.declared.Claim.{Claim}
 use Rattle.tables.specs.declared.Claim.the-variants.{Unclaimed, Claims}
 use Rattle.tables.specs.declared.Object.{Object}
+use Rattle.tables.proofs.EitherRow.{FitRow, row-read-back, row-length}
 
 -- ## What fits
 
@@ -42,16 +42,15 @@ pub record FitFile (a : Parent) : Type 0 where
   pub room : length (encodeLayout (a .layout)) + length (a .tail) ≡ layoutRoom
 
 unfoldable pub FitParent : ParentRow → Type 0
-FitParent (noParent b) = suc (length b) ≡ parentSize
-FitParent (parent a) = FitFile a
+FitParent w = FitRow FitFile parentSize w
 
 unfoldable pub FitClaim : Claim → Type 0
 FitClaim Unclaimed = Unit {0}
-FitClaim (Claims f i) = Fits (f .0) × (goodFid (f .0) ≡ true) × (i < 2 ^ 32)
+FitClaim (Claims p) = Fits (p .file .0) × (goodFid (p .file .0) ≡ true) × (p .index < 2 ^ 32)
 
 unfoldable pub hasClaim : Claim → Bool
 hasClaim Unclaimed = false
-hasClaim (Claims f i) = true
+hasClaim (Claims p) = true
 
 -- what a used object row says: a good FID, an index, an owner, a claim, and a claim where it is fresh
 pub record FitThing (x : Object) : Type 0 where
@@ -63,8 +62,7 @@ pub record FitThing (x : Object) : Type 0 where
   pub fresh : x .fresh ≡ true → hasClaim (x .claim) ≡ true
 
 unfoldable pub FitObject : ObjectRow → Type 0
-FitObject (noObject b) = suc (length b) ≡ objectSize
-FitObject (object x) = FitThing x
+FitObject w = FitRow FitThing objectSize w
 
 -- ## Read back
 
@@ -139,8 +137,8 @@ module _ (a : Parent) where
     tail-back : drop (27 + layoutLength row) row ≡ a .tail
     tail-back = rw (length-back, ← drop-drop (length L) 27 row, after-length, drop-at L (a .tail) (length L) refl)
 
-    self-back : decodeFid (drop 1 row) ≡ a .self .0
-    unfolding F
+    self-back : selfFid row ≡ a .self .0
+    unfolding selfFid F
     self-back = rw (after-mark, decode-encode (a .self .0) (O ++ (N ++ (L ++ a .tail))) (f .fits))
 
     owner-back : decodeOwner (drop 17 row) ≡ a .owner
@@ -161,14 +159,12 @@ module _ (a : Parent) where
         simp (length-append, length-bytes, length-encode, length-owner) (omega (arith, f .room))
 
 pub parent-read-back : (w : ParentRow) → FitParent w → parseParent (renderParent w) ≡ w
-unfolding FitParent parseParent renderParent isUsed row
-parent-read-back (noParent b) f = refl
-parent-read-back (parent a) f = ap parent (file-back a f)
+unfolding FitParent parseParent renderParent row
+parent-read-back w f = row-read-back encodeParent FitFile parentSize decodeParent file-back w f
 
 pub parent-length : (w : ParentRow) → FitParent w → length (renderParent w) ≡ parentSize
 unfolding FitParent renderParent row
-parent-length (noParent b) f = f
-parent-length (parent a) f = file-length a f
+parent-length w f = row-length encodeParent FitFile parentSize file-length w f
 
 -- ## Object rows
 
@@ -176,16 +172,17 @@ parent-length (parent a) f = file-length a f
 pub claim-read-back : (k : Claim) → FitClaim k → claimFrom (claimFid k) ≡ k
 unfolding FitClaim claimFrom claimFid sameFid zeroFid
 claim-read-back Unclaimed f = refl
-claim-read-back (Claims g i) f =
-    let p : 0 < g .0 .seq = good-positive (g .0) (f .1) in
-    let v : 0 ≡ g .0 .ver = sym (good-version-zero (g .0) (f .1)) in
-    let n : eqb (g .0 .seq) 0 ≡ false = ne-eqb (g .0 .seq) 0 (λ e. omega arith) in
-    rw n (λ j. Claims (record { 0 = record { seq = g .0 .seq; oid = g .0 .oid; ver = v j } }) i)
+claim-read-back (Claims p) f =
+    let g : Fid = p .file .0 in
+    let s : 0 < g .seq = good-positive g (f .1) in
+    let v : 0 ≡ g .ver = sym (good-version-zero g (f .1)) in
+    let n : eqb (g .seq) 0 ≡ false = ne-eqb (g .seq) 0 (λ e. omega arith) in
+    rw n (λ j. Claims (record { file = record { 0 = record { seq = g .seq; oid = g .oid; ver = v j } }; index = p .index }))
 
 claim-fits : (k : Claim) → FitClaim k → Fits (claimFid k)
 unfolding FitClaim claimFid zeroFid
 claim-fits Unclaimed f = record { seq = omega arith; oid = omega arith; ver = omega arith }
-claim-fits (Claims g i) f = record { seq = f .0 .seq; oid = f .0 .oid; ver = f .2 }
+claim-fits (Claims p) f = record { seq = f .0 .seq; oid = f .0 .oid; ver = f .2 }
 
 mark-bit : (b : Bool) → eqb (mark b) 1 ≡ b
 unfolding mark
@@ -243,8 +240,8 @@ module _ (x : Object) where
         let k : x .ost < 256 ^ 4 = omega (arith, f .ost) in
         rw (from-index, le-bytes 4 (x .ost) (W ++ (C ++ M)), mod-eq-of-lt k)
 
-    fid-back : decodeFid (drop 1 line) ≡ x .fid .0
-    unfolding A
+    fid-back : selfFid line ≡ x .fid .0
+    unfolding selfFid A
     fid-back = rw (from-fid, decode-encode (x .fid .0) (I ++ (W ++ (C ++ M))) (f .fits))
 
     possessor-back : decodeOwner (drop 21 line) ≡ x .owner
@@ -260,7 +257,7 @@ module _ (x : Object) where
     fresh-back = rw fresh-byte (mark-bit (x .fresh))
 
     thing-back : decodeObject line ≡ x
-    unfolding decodeObject
+    unfolding decodeObject claimedFid
     thing-back =
         λ i. record { fid = record { 0 = fid-back i }; ost = ost-back i; owner = possessor-back i; claim = claim-back i; fresh = fresh-back i }
 
@@ -269,43 +266,49 @@ module _ (x : Object) where
   thing-length = simp (length-append, length-bytes, length-encode, length-owner)
 
 pub object-read-back : (w : ObjectRow) → FitObject w → parseObject (renderObject w) ≡ w
-unfolding FitObject parseObject renderObject isUsed line
-object-read-back (noObject b) f = refl
-object-read-back (object x) f = ap object (thing-back x f)
+unfolding FitObject parseObject renderObject line
+object-read-back w f = row-read-back encodeObject FitThing objectSize decodeObject thing-back w f
 
 pub object-length : (w : ObjectRow) → FitObject w → length (renderObject w) ≡ objectSize
 unfolding FitObject renderObject line
-object-length (noObject b) f = f
-object-length (object x) f = thing-length x
+object-length w f = row-length encodeObject FitThing objectSize (λ x _. thing-length x) w f
 
 -- ## What a written row says
 
 module _ (a : Parent) (f : FitFile a) where
-  pub file-self : selfFid (renderParent (parent a)) ≡ a .self .0
-  unfolding selfFid renderParent row
+  pub file-self : selfFid (1 ∷ encodeParent a) ≡ a .self .0
+  unfolding row
   file-self = self-back a f
 
-  pub file-room : layoutLength (renderParent (parent a)) ≤ layoutRoom
-  unfolding renderParent row L
+  pub file-long : length (1 ∷ encodeParent a) ≡ parentSize
+  unfolding row
+  file-long = file-length a f
+
+  pub file-room : layoutLength (1 ∷ encodeParent a) ≤ layoutRoom
+  unfolding row L
   file-room = omega (arith, length-back a f, f .room)
 
-  pub file-layout : layoutBytes (renderParent (parent a)) ≡ encodeLayout (a .layout)
-  unfolding renderParent row L
+  pub file-layout : layoutBytes (1 ∷ encodeParent a) ≡ encodeLayout (a .layout)
+  unfolding row L
   file-layout = bytes-back a f
 
 module _ (x : Object) (f : FitThing x) where
-  pub thing-self : selfFid (renderObject (object x)) ≡ x .fid .0
-  unfolding selfFid renderObject line
+  pub thing-self : selfFid (1 ∷ encodeObject x) ≡ x .fid .0
+  unfolding line
   thing-self = fid-back x f
 
-  pub thing-index : le 4 (drop 17 (renderObject (object x))) ≡ x .ost
-  unfolding renderObject line
+  pub thing-long : length (1 ∷ encodeObject x) ≡ objectSize
+  unfolding line
+  thing-long = thing-length x
+
+  pub thing-index : le 4 (drop ostAt (1 ∷ encodeObject x)) ≡ x .ost
+  unfolding line
   thing-index = ost-back x f
 
-  pub thing-claim : claimed (renderObject (object x)) ≡ claimFid (x .claim)
-  unfolding claimed renderObject line C
+  pub thing-claim : claimedFid (1 ∷ encodeObject x) ≡ claimFid (x .claim)
+  unfolding claimedFid line C
   thing-claim = rw (from-claim x, decode-encode (claimFid (x .claim)) (M x) (claim-fits (x .claim) (f .claim)))
 
-  pub thing-fresh : getD (renderObject (object x)) 45 0 ≡ mark (x .fresh)
-  unfolding renderObject line
+  pub thing-fresh : getD (1 ∷ encodeObject x) freshAt 0 ≡ mark (x .fresh)
+  unfolding line
   thing-fresh = fresh-byte x

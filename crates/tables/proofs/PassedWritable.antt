@@ -20,15 +20,16 @@ use Rattle.layout.specs.declared.Slot.the-variants.{Hole, Names}
 use Rattle.layout.proofs.SlotLaws.{FitSlot, FitSlots}
 use Rattle.layout.proofs.HeaderLaws.{FitHeader}
 use Rattle.layout.proofs.LayoutLaws.{Writable, written-back, accepted-facts}
-use Rattle.tables.specs.Records.{noParent, parent, noObject, object, Tables}
-use Rattle.tables.specs.Bytes.{parentSize, objectSize, isUsed, decodeOwner, layoutLength, layoutBytes, decodeParent, parseParent, claimFrom, decodeObject, parseObject, parse}
+use Rattle.tables.specs.Records.{Tables}
+use Rattle.tables.specs.Bytes.{parentSize, objectSize, isUsed, decodeOwner, layoutLength, layoutBytes, decodeParent, parseParent, claimFrom, decodeObject, parseObject, parse, selfFid, claimedFid}
 use Rattle.tables.specs.Positions.{rowAt}
-use Rattle.tables.specs.Check.{selfFid, claimed, goodClaim, Sound}
+use Rattle.tables.specs.Check.{goodClaim, Sound}
 use Rattle.tables.specs.declared.Claim.the-variants.{Unclaimed, Claims}
 use Rattle.tables.proofs.PositionLaws.{parsed-parents, parsed-objects, parsed-row, parsed-object}
 use Rattle.tables.proofs.SoundLaws.{ParentFacts, ObjectFacts, parent-size, parent-facts, object-size, object-facts}
-use Rattle.tables.proofs.FitLaws.{FitOwner, FitFile, FitParent, FitClaim, hasClaim, FitThing, FitObject}
+use Rattle.tables.proofs.WritableRows.{FitOwner, FitFile, FitParent, FitClaim, hasClaim, FitThing, FitObject}
 use Rattle.tables.proofs.ParseLaws.{FitTables}
+use Rattle.tables.proofs.EitherRow.{parsed-fits}
 
 -- ## What is read from bytes fits its fields
 
@@ -107,11 +108,7 @@ file-fits row b f =
 
 pub parent-fits : (row : List ℕ) → Bytes row → length row ≡ parentSize → (isUsed row ≡ true → ParentFacts row) → FitParent (parseParent row)
 unfolding parseParent FitParent
-parent-fits row b n f = go (isUsed row) refl
-  where
-    go : (t : Bool) → isUsed row ≡ t → FitParent (cond t (parent (decodeParent row)) (noParent (drop 1 row)))
-    go true u = file-fits row b (f u)
-    go false u = rw (length-drop 1 row, n) (omega arith)
+parent-fits row b n f = parsed-fits decodeParent row FitFile parentSize (omega arith) n (λ u. file-fits row b (f u))
 
 -- the claim of a FID that is zero, or of a good sequence and id
 module _ (g : Fid) (b : Fits g) where
@@ -120,7 +117,7 @@ module _ (g : Fid) (b : Fits g) where
   claim-fits h = go (sameFid g zeroFid) h
     where
       go : (t : Bool) → (t || goodNumber g) ≡ true →
-          FitClaim (cond t Unclaimed (Claims (record { 0 = record { seq = g .seq; oid = g .oid; ver = 0 } }) (g .ver)))
+          FitClaim (cond t Unclaimed (Claims (record { file = record { 0 = record { seq = g .seq; oid = g .oid; ver = 0 } }; index = g .ver })))
       go true e = tt
       go false e = (record { seq = b .seq; oid = b .oid; ver = omega arith }, and-both (goodNumber g) true e refl, b .ver)
 
@@ -129,7 +126,7 @@ module _ (g : Fid) (b : Fits g) where
   claim-there h = rw h
 
 thing-fits : (row : List ℕ) → Bytes row → ObjectFacts row → FitThing (decodeObject row)
-unfolding decodeObject selfFid claimed goodClaim
+unfolding decodeObject selfFid claimedFid goodClaim
 thing-fits row b f =
     let g : Fits (decodeFid (drop 29 row)) = fid-fits (drop 29 row) (bytes-drop 29 row b) in
     record {
@@ -143,11 +140,7 @@ thing-fits row b f =
 
 pub object-fits : (row : List ℕ) → Bytes row → length row ≡ objectSize → (isUsed row ≡ true → ObjectFacts row) → FitObject (parseObject row)
 unfolding parseObject FitObject
-object-fits row b n f = go (isUsed row) refl
-  where
-    go : (t : Bool) → isUsed row ≡ t → FitObject (cond t (object (decodeObject row)) (noObject (drop 1 row)))
-    go true u = thing-fits row b (f u)
-    go false u = rw (length-drop 1 row, n) (omega arith)
+object-fits row b n f = parsed-fits decodeObject row FitThing objectSize (omega arith) n (λ u. thing-fits row b (f u))
 
 -- ## Tables
 
