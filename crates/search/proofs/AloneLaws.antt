@@ -6,7 +6,7 @@ use Rattle.fid.specs.declared.MdtFid.{MdtFid}
 use Rattle.fid.specs.declared.OstFid.{OstFid}
 use Rattle.tables.specs.Bytes.{parse}
 use Rattle.tables.specs.Positions.{rowAt, width}
-use Rattle.rules.specs.Rows.{parentRow, freeParent, slotAt, namesAt, scan, named, namesElse, namedElse, objectAt, objectRow, freeObject, objectOf}
+use Rattle.rules.specs.Rows.{firstRow, parentRow, freeParent, slotAt, namesAt, scan, named, namesElse, namedElse, objectAt, objectRow, freeObject, objectOf}
 use Rattle.rules.specs.Keeper.{inClaimed, atClaimed, keeperBy}
 use Rattle.tables.specs.declared.Claim.{Claim}
 
@@ -16,11 +16,11 @@ module _ (p o : List ℕ) where
   row-alone r = refl
 
   pub parent-alone : (f : MdtFid) → parentRow (parse p []) f ≡ parentRow (parse p o) f
-  unfolding parse parentRow rowAt
+  unfolding parse parentRow firstRow
   parent-alone f = refl
 
   pub free-parent-alone : freeParent (parse p []) ≡ freeParent (parse p o)
-  unfolding parse freeParent rowAt
+  unfolding parse freeParent firstRow
   free-parent-alone = refl
 
   pub slot-alone : (r j : ℕ) → slotAt (parse p []) r j ≡ slotAt (parse p o) r j
@@ -44,13 +44,13 @@ module _ (p o : List ℕ) where
   object-alone i = refl
 
   pub object-row-alone : (f : OstFid) → objectRow (parse [] o) f ≡ objectRow (parse p o) f
-  unfolding parse objectRow objectAt
+  unfolding parse objectRow firstRow
   object-row-alone f = refl
 
   pub free-object-alone : freeObject (parse [] o) ≡ freeObject (parse p o)
-  unfolding parse freeObject objectAt
+  unfolding parse freeObject firstRow
   free-object-alone = refl
 
   pub object-of-alone : (f : OstFid) → objectOf (parse [] o) f ≡ objectOf (parse p o) f
-  unfolding parse objectOf objectRow objectAt
+  unfolding parse objectOf objectRow firstRow
   object-of-alone f = refl

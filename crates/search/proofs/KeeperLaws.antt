@@ -3,7 +3,6 @@ use mathlib.Core.Path.{_≡_, refl, sym, ap, _∙_}
 use mathlib.Core.Bool.{Bool, true, false}
 use Prim.Native.Nat.{ℕ}
 use native.Mathlib.Omega.{arith}
-use Rattle.fid.specs.declared.MdtFid.{MdtFid}
 use Rattle.fid.specs.declared.OstFid.{OstFid}
 use Rattle.tables.specs.Records.{Tables}
 use Rattle.tables.specs.Positions.{width}
@@ -18,24 +17,25 @@ use Rattle.rules.specs.declared.Found.the-variants.{At, Nowhere}
 use Rattle.rules.proofs.Tests.{clash}
 use Rattle.rules.proofs.Searches.{OneParent, FirstPlace, nowhere, first, scan-first, keeper-names}
 use Rattle.rules.proofs.Looks.{lookAt, lookIn, keeper-looks}
+use Rattle.tables.specs.declared.Place.{Place}
 
-module _ (T : Tables) (f : OstFid) (g : MdtFid) (i : ℕ) (one : OneParent T) where
+module _ (T : Tables) (f : OstFid) (home : Place) (one : OneParent T) where
   -- the claimed parent is absent
-  pub keeper-absent : parentRow T g ≡ NoRow → scan T (namesAt T f) ≡ keeperBy T f (Claims g i)
+  pub keeper-absent : parentRow T (home .file) ≡ NoRow → scan T (namesAt T f) ≡ keeperBy T f (Claims home)
   unfolding lookAt lookIn orElse
-  keeper-absent e = rw (keeper-looks T f g i one, e)
+  keeper-absent e = rw (keeper-looks T f home one, e)
 
-  module _ (m : ℕ) (e : parentRow T g ≡ RowIs m) where
+  module _ (m : ℕ) (e : parentRow T (home .file) ≡ RowIs m) where
     -- "the claimed slot if that one names it"
-    pub keeper-claimed : namesAt T f m i ≡ true → At m i ≡ keeperBy T f (Claims g i)
+    pub keeper-claimed : namesAt T f m (home .index) ≡ true → At m (home .index) ≡ keeperBy T f (Claims home)
     unfolding lookAt lookIn orElse
-    keeper-claimed t = rw (keeper-looks T f g i one, e, t)
+    keeper-claimed t = rw (keeper-looks T f home one, e, t)
 
     -- "else the first slot naming it in the claimed parent; else the first in scan order"
-    pub keeper-near : namesAt T f m i ≡ false → (a : Found) → a ≡ orElse (slotFrom m (width T m) 0 (namesAt T f)) (scan T (namesAt T f)) →
-        a ≡ keeperBy T f (Claims g i)
+    pub keeper-near : namesAt T f m (home .index) ≡ false → (a : Found) → a ≡ orElse (slotFrom m (width T m) 0 (namesAt T f)) (scan T (namesAt T f)) →
+        a ≡ keeperBy T f (Claims home)
     unfolding lookAt lookIn orElse
-    keeper-near t a q = rw (keeper-looks T f g i one, e, t) q
+    keeper-near t a q = rw (keeper-looks T f home one, e, t) q
 
 -- the first of two searches that finds something
 pub or-found : (a b : Found) (r j : ℕ) → At r j ≡ a → At r j ≡ orElse a b

@@ -1,8 +1,11 @@
+-- The searches from a row or a slot on
 pub mod RowSearch
 pub mod PlaceSearch
+-- The rows of parsed tables, read off the bytes
 pub mod ParsedRows
 pub mod FoundRows
 pub mod AloneLaws
+-- Slots and the keeper
 pub mod SlotArea
 pub mod NamingLaws
 pub mod KeeperLaws

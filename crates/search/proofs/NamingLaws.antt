@@ -3,7 +3,6 @@ use mathlib.Core.Path.{_≡_, refl, sym, ap, _∙_}
 use mathlib.Core.List.{List, []}
 use mathlib.Core.Bool.{Bool, true, false, not, _&&_}
 use Prim.Native.Nat.{ℕ, _/_, _<_}
-use native.Mathlib.Omega.{arith}
 use borrow.Author.Tests.{eq-eqb, ne-eqb}
 use lib.Dec.{eqb}
 use lib.ListN.{length}
@@ -17,7 +16,7 @@ use Rattle.tables.proofs.PositionLaws.{parsed-parents}
 use Rattle.rules.specs.Search.{slotFrom, isSomewhere}
 use Rattle.rules.specs.Rows.{namesAt, scan, named, namesElse, namedElse}
 use Rattle.rules.specs.declared.Found.{Found}
-use Rattle.search.proofs.PlaceSearch.{slotsLeft, placesLeft, slot-start, place-start, place-same}
+use Rattle.search.proofs.PlaceSearch.{slotsLeft, placesLeft, slot-start, place-start}
 use Rattle.search.proofs.SlotArea.{area-width, area-slot}
 
 -- a scan begins at row 0 of the bytes
@@ -52,19 +51,6 @@ module _ (f : OstFid) (s : Slot) (k i r j : ℕ) where
 
   pub else-slot : slotNames f s ≡ true → k ≡ r → not (eqb i j) ≡ (slotNames f s && not (eqb k r && eqb i j))
   else-slot h q = rw (h, eq-eqb k r q)
-
--- ## No slot left out
-
--- a slot of a row that isn't there leaves none out
-pub else-nowhere : (p : List ℕ) (f : OstFid) (n : ℕ) → n ≡ length p / parentSize → scan (parse p []) (namesElse (parse p []) f n 0) ≡ scan (parse p []) (namesAt (parse p []) f)
-unfolding scan namesElse
-else-nowhere p f n e =
-    place-same (namesElse (parse p []) f n 0) (namesAt (parse p []) f) (width (parse p [])) (length (parse p [] .parents)) 0
-    (λ k i a b. rw (ne-eqb k n (λ q. absurd (omega (arith, parsed-parents p [])))) (same (namesAt (parse p []) f k i)))
-  where
-    same : (b : Bool) → (b && true) ≡ b
-    same true = refl
-    same false = refl
 
 -- ## Named at all
 

@@ -1,7 +1,7 @@
 -- The search for the first place in scan order that passes a test, from a row and from a slot on. Assumes nothing.
-use mathlib.Core.Path.{_≡_, refl, sym, ap, _∙_}
-use mathlib.Core.Bool.{Bool, true, false, true≢false}
-use Prim.Native.Nat.{ℕ, zero, suc, _+_, _-_, _≤_, _<_}
+use mathlib.Core.Path.{_≡_, refl}
+use mathlib.Core.Bool.{Bool, true, false}
+use Prim.Native.Nat.{ℕ, suc, _+_, _-_, _≤_, _<_}
 use native.Mathlib.Nat.{sub-zero}
 use native.Mathlib.Numerals.{add-one}
 use native.Mathlib.Omega.{arith}
@@ -79,28 +79,3 @@ module _ (width : ℕ → ℕ) (passes : ℕ → ℕ → Bool) (n : ℕ) where
       pub stop : j < w → passes r j ≡ true → At r j ≡ x
       unfolding orElse
       stop h t = rw (e, ← slot-hit passes r w j (slotsLeft passes r w j) refl h t)
-
--- ## Tests that agree
-
-module _ (p q : ℕ → ℕ → Bool) where
-  pick-same : (r j : ℕ) (a b : Bool) (x y : Found) → a ≡ b → x ≡ y → _≡_ {A = Found} (elim a [ true ↦ At r j | false ↦ x ]) (elim b [ true ↦ At r j | false ↦ y ])
-  pick-same r j true true x y e h = refl
-  pick-same r j false false x y e h = h
-  pick-same r j true false x y e h = absurd (true≢false e)
-  pick-same r j false true x y e h = absurd (true≢false (sym e))
-
-  slot-same : (r n j : ℕ) → ((i : ℕ) → p r i ≡ q r i) → slotFrom r n j p ≡ slotFrom r n j q
-  unfolding slotFrom
-  slot-same r zero j h = refl
-  slot-same r (suc n) j h = pick-same r j (p r j) (q r j) (slotFrom r n (suc j) p) (slotFrom r n (suc j) q) (h j) (slot-same r n (suc j) h)
-
-  -- in the rows that are searched
-  pub place-same : (width : ℕ → ℕ) (n r : ℕ) → ((k i : ℕ) → r ≤ k → k < r + n → p k i ≡ q k i) → placeFrom n r width p ≡ placeFrom n r width q
-  unfolding placeFrom
-  place-same width zero r h = refl
-  place-same width (suc n) r h =
-      let s = slot-same r (width r) 0 (λ i. h r i (omega arith) (omega arith)) in
-      let t = place-same width n (suc r) (λ k i a b. h k i (omega arith) (omega arith)) in
-      or-is (slotFrom r (width r) 0 p) (placeFrom n (suc r) width p)
-      ∙ ap (λ (a : Found). orElse a (placeFrom n (suc r) width p)) s ∙ ap (orElse (slotFrom r (width r) 0 q)) t
-      ∙ sym (or-is (slotFrom r (width r) 0 q) (placeFrom n (suc r) width q))

@@ -13,7 +13,7 @@ use Rattle.layout.specs.declared.Slot.the-variants.{Hole}
 use Rattle.layout.proofs.SlotLaws.{length-slots, slots-at}
 use Rattle.layout.proofs.LayoutLaws.{slots-are, accepted-size}
 use Rattle.tables.specs.Records.{Tables}
-use Rattle.tables.specs.Bytes.{parentSize, isUsed, layoutBytes, decodeParent, parseParent, parse}
+use Rattle.tables.specs.Bytes.{parentSize, isUsed, layoutBytes, decodeParent, parseParent, parse, parseRow}
 use Rattle.tables.specs.Positions.{slotsOf, rowAt, width}
 use Rattle.tables.proofs.PositionLaws.{parsed-row}
 use Rattle.rules.specs.Rows.{slotAt}
@@ -23,12 +23,12 @@ abbrev pub Area : List ℕ → List ℕ → Type 0
 Area row area = (slotsOf (parseParent row) ≡ decodeSlots (length area / 24) area) × (24 * (length area / 24) ≡ length area)
 
 pub area-unused : (row : List ℕ) → isUsed row ≡ false → Area row []
-unfolding parseParent slotsOf decodeSlots
+unfolding parseParent slotsOf decodeSlots parseRow
 area-unused row h = (rw h, refl)
 
 pub area-used : (row l : List ℕ) (start : ℕ) → isUsed row ≡ true → l ≡ layoutBytes row → acceptedLayout l ≡ true → start ≡ slotStart l →
     Area row (take (length l - start) (drop start l))
-unfolding parseParent slotsOf decodeParent
+unfolding parseParent slotsOf decodeParent parseRow decodeSlots stripeCount
 area-used row l start u e a s =
     let n : ℕ = stripeCount l in
     let z : length l ≡ start + 24 * n = accepted-size l start n a s refl in

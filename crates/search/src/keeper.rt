@@ -8,6 +8,7 @@ use rules::Found;
 use rules::Lookup;
 use rules::Row;
 use tables::Claim;
+use tables::Place;
 ghost use mathlib.Core.Path.{_≡_};
 ghost use mathlib.Core.List.{[]};
 ghost use mathlib.Core.Bool.{true};
@@ -15,6 +16,7 @@ ghost use Prim.Native.Nat.{_/_, _<_};
 ghost use lib.ListN.{length};
 ghost use Rattle.tables.specs.Bytes.{parentSize, parentRows, parse};
 ghost use Rattle.tables.specs.Positions.{width};
+ghost use Rattle.tables.specs.declared.Claim.the-variants.{Claims};
 ghost use Rattle.tables.specs.Check.{goodLayouts, noneTwice};
 ghost use Rattle.rules.specs.Search.{slotFrom, orElse};
 ghost use Rattle.rules.specs.Rows.{namesAt, scan};
@@ -42,26 +44,33 @@ fn keeper_in(parents: &[u8], f: OstFid, r: usize) -> Found
     }
 }
 
-// The keeper of an object with this claim: the claimed slot if that one names it; else the first slot naming it in the
+// The keeper of an object that claims a place: the claimed slot if that one names it; else the first slot naming it in the
 // claimed parent; else the first in scan order.
+fn keeper_at(parents: &[u8], f: OstFid, place: Place) -> Found
+    requires { ⌜ (goodLayouts (now parents) ≡ true) × (noneTwice (parentRows (now parents)) ≡ true) ⌝ }
+    ensures { λ a. ⌜ a ≡ keeperBy (parse (now (parents .entry)) []) f (Claims place) ⌝ }
+{
+    let file = place.file;
+    let row = parents::parent_row(parents, file);
+    match row {
+        Row::NoRow => naming::first_naming(parents, f),
+        Row::RowIs(r) => {
+            let j = place.index as usize;
+            if slots::names_at(parents, f, r, j) {
+                return Found::At(r, j);
+            }
+            keeper_in(parents, f, r)
+        }
+    }
+}
+
+// The keeper of an object with this claim.
 pub fn keeper_by(parents: &[u8], f: OstFid, claim: Claim) -> Found
     requires { ⌜ (goodLayouts (now parents) ≡ true) × (noneTwice (parentRows (now parents)) ≡ true) ⌝ }
     ensures { λ a. ⌜ a ≡ keeperBy (parse (now (parents .entry)) []) f claim ⌝ }
 {
     match claim {
         Claim::Unclaimed => naming::first_naming(parents, f),
-        Claim::Claims(file, index) => {
-            let row = parents::parent_row(parents, file);
-            match row {
-                Row::NoRow => naming::first_naming(parents, f),
-                Row::RowIs(r) => {
-                    let i = index as usize;
-                    if slots::names_at(parents, f, r, i) {
-                        return Found::At(r, i);
-                    }
-                    keeper_in(parents, f, r)
-                }
-            }
-        }
+        Claim::Claims(place) => keeper_at(parents, f, place),
     }
 }

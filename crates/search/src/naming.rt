@@ -39,7 +39,27 @@ fn names_else(s: Slot, f: OstFid, k: usize, i: usize, r: usize, j: usize) -> boo
     i != j
 }
 
-// The first slot in scan order that names an object, other than slot j of row r. The search stops at the first parent and slot that name it.
+// The first slot in scan order that names an object. The search stops at the first parent and slot that name it.
+pub fn first_naming(parents: &[u8], f: OstFid) -> Found
+    requires { ⌜ goodLayouts (now parents) ≡ true ⌝ }
+    ensures { λ a. ⌜ a ≡ scan (parse (now (parents .entry)) []) (namesAt (parse (now (parents .entry)) []) f) ⌝ }
+{
+    let n = parents.len() / PARENT_SIZE;
+    let mut found = Found::Nowhere;
+    'rows: for r in 0..n {
+        let area = slots::slot_area(rows::row_at(parents, PARENT_SIZE, r));
+        let count = area.len() / SLOT_SIZE;
+        for j in 0..count {
+            if layout::names(layout::slot_at(area, j), f) {
+                found = Found::At(r, j);
+                break 'rows;
+            }
+        }
+    }
+    found
+}
+
+// The first slot in scan order that names an object, other than slot j of row r.
 fn first_else(parents: &[u8], f: OstFid, r: usize, j: usize) -> Found
     requires { ⌜ goodLayouts (now parents) ≡ true ⌝ }
     ensures { λ a. ⌜ a ≡ scan (parse (now (parents .entry)) []) (namesElse (parse (now (parents .entry)) []) f r j) ⌝ }
@@ -57,15 +77,6 @@ fn first_else(parents: &[u8], f: OstFid, r: usize, j: usize) -> Found
         }
     }
     found
-}
-
-// The first slot in scan order that names an object: none is left out where the row isn't there.
-pub fn first_naming(parents: &[u8], f: OstFid) -> Found
-    requires { ⌜ goodLayouts (now parents) ≡ true ⌝ }
-    ensures { λ a. ⌜ a ≡ scan (parse (now (parents .entry)) []) (namesAt (parse (now (parents .entry)) []) f) ⌝ }
-{
-    let n = parents.len() / PARENT_SIZE;
-    first_else(parents, f, n, 0)
 }
 
 // Whether a slot names an object.

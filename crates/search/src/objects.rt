@@ -1,10 +1,10 @@
 // The object table: the row of a FID, what it says, and the first unused row.
+use super::first;
 use fid::OstFid;
 use rules::Lookup;
 use rules::Row;
 use tables::rows;
 use tables::rows::OBJECT_SIZE;
-use tables::twice;
 ghost use mathlib.Core.Path.{_≡_};
 ghost use mathlib.Core.List.{[]};
 ghost use Rattle.tables.specs.Bytes.{parse};
@@ -15,13 +15,7 @@ pub fn object_row(objects: &[u8], f: OstFid) -> Row
     ensures { λ r. ⌜ r ≡ objectRow (parse [] (now (objects .entry))) f ⌝ }
 {
     let name = f.0;
-    let n = objects.len() / OBJECT_SIZE;
-    for o in 0..n {
-        if twice::has_fid(rows::row_at(objects, OBJECT_SIZE, o), name) {
-            return Row::RowIs(o);
-        }
-    }
-    Row::NoRow
+    first::row_of(objects, OBJECT_SIZE, name)
 }
 
 // The object of a FID, present or not.
@@ -42,11 +36,5 @@ pub fn lookup(objects: &[u8], f: OstFid) -> Lookup
 pub fn free_object(objects: &[u8]) -> Row
     ensures { λ r. ⌜ r ≡ freeObject (parse [] (now (objects .entry))) ⌝ }
 {
-    let n = objects.len() / OBJECT_SIZE;
-    for o in 0..n {
-        if !rows::is_used(rows::row_at(objects, OBJECT_SIZE, o)) {
-            return Row::RowIs(o);
-        }
-    }
-    Row::NoRow
+    first::free_row(objects, OBJECT_SIZE)
 }

@@ -13,7 +13,7 @@ use Rattle.fid.specs.declared.Fid.{Fid}
 use Rattle.layout.specs.Slot.{maxIndex}
 use Rattle.layout.specs.Layout.{acceptedLayout}
 use Rattle.tables.specs.Bytes.{parentSize, objectSize, layoutRoom, layoutLength, layoutBytes, isUsed, parentRows, objectRows, selfFid, claimedFid}
-use Rattle.tables.specs.Check.{all, whenUsed, goodLayout, maxParents, maxObjects, wholeRows, parentsWhole, objectsWhole, allDifferent, noneTwice, isMark, usedMark, freshMark, goodSelf, goodIndex, goodClaim, freshClaims, goodObject}
+use Rattle.tables.specs.Check.{all, whenUsed, goodLayout, maxParents, maxObjects, wholeRows, parentsWhole, objectsWhole, allDifferent, noneTwice, isMark, usedMark, freshMark, goodSelf, goodIndex, goodClaim, freshClaims, goodObject, isRowOf}
 
 module _ (test : List ℕ → Bool) (row : List ℕ) where
   pub when-unused : isUsed row ≡ false → true ≡ whenUsed test row
@@ -143,21 +143,21 @@ all-on false = refl
 
 -- the test of mark and self FID, the object id first
 module _ (row : List ℕ) (f : Fid) where
-  pub has-oid : (le 4 (drop 9 row) ≡ f .oid → ⊥) → false ≡ (isUsed row && sameFid (selfFid row) f)
-  unfolding sameFid selfFid decodeFid
+  pub has-oid : (le 4 (drop 9 row) ≡ f .oid → ⊥) → false ≡ isRowOf f row
+  unfolding sameFid selfFid decodeFid isRowOf
   has-oid h = rw (drop-drop 8 1 row, drop-drop 12 1 row, ne-eqb _ _ h) (oid-off (isUsed row) (eqb (le 8 (drop 1 row)) (f .seq)) (eqb (le 4 (drop 13 row)) (f .ver)))
 
-  pub has-seq : (le 8 (drop 1 row) ≡ f .seq → ⊥) → false ≡ (isUsed row && sameFid (selfFid row) f)
-  unfolding sameFid selfFid decodeFid
+  pub has-seq : (le 8 (drop 1 row) ≡ f .seq → ⊥) → false ≡ isRowOf f row
+  unfolding sameFid selfFid decodeFid isRowOf
   has-seq h = rw (ne-eqb _ _ h) (seq-off (isUsed row) (eqb (le 4 (drop 8 (drop 1 row))) (f .oid)) (eqb (le 4 (drop 12 (drop 1 row))) (f .ver)))
 
-  pub has-ver : (le 4 (drop 13 row) ≡ f .ver → ⊥) → false ≡ (isUsed row && sameFid (selfFid row) f)
-  unfolding sameFid selfFid decodeFid
+  pub has-ver : (le 4 (drop 13 row) ≡ f .ver → ⊥) → false ≡ isRowOf f row
+  unfolding sameFid selfFid decodeFid isRowOf
   has-ver h = rw (drop-drop 8 1 row, drop-drop 12 1 row, ne-eqb _ _ h) (ver-off (isUsed row) (eqb (le 8 (drop 1 row)) (f .seq)) (eqb (le 4 (drop 9 row)) (f .oid)))
 
   pub has-used : le 4 (drop 9 row) ≡ f .oid → le 8 (drop 1 row) ≡ f .seq → le 4 (drop 13 row) ≡ f .ver →
-      eqb (getD row 0 0) 1 ≡ (isUsed row && sameFid (selfFid row) f)
-  unfolding isUsed sameFid selfFid decodeFid
+      eqb (getD row 0 0) 1 ≡ isRowOf f row
+  unfolding isUsed sameFid selfFid decodeFid isRowOf
   has-used p q r =
       rw (drop-drop 8 1 row, drop-drop 12 1 row, eq-eqb _ _ p, eq-eqb _ _ q, eq-eqb _ _ r) (all-on (eqb (getD row 0 0) 1))
 

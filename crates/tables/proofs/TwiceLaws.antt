@@ -9,7 +9,7 @@ use Rattle.wire.proofs.RowLaws.{rows-start, rows-step, rows-end}
 use Rattle.fid.specs.Fid.{sameFid}
 use Rattle.fid.specs.declared.Fid.{Fid}
 use Rattle.tables.specs.Bytes.{isUsed, selfFid}
-use Rattle.tables.specs.Check.{hasSelf, noneTwice}
+use Rattle.tables.specs.Check.{hasSelf, noneTwice, isRowOf}
 
 -- whether the FID is that of a used row, from row r of n on
 pub hasFrom : Fid → ℕ → List ℕ → ℕ → ℕ → Bool
@@ -29,11 +29,11 @@ module _ (f : Fid) (size : ℕ) (l : List ℕ) (n : ℕ) where
   has-none r x e h = rw (e, rows-end size n r l h)
 
   module _ (r : ℕ) (x : Bool) (row : List ℕ) (e : x ≡ hasFrom f size l n r) (h : r < n) (at : row ≡ take size (drop (size * r) l)) where
-    pub has-hit : (isUsed row && sameFid (selfFid row) f) ≡ true → true ≡ x
+    pub has-hit : isRowOf f row ≡ true → true ≡ x
     unfolding hasFrom hasSelf
     has-hit t = rw (e, rows-step size n r l h, ← at, t)
 
-    pub has-pass : (isUsed row && sameFid (selfFid row) f) ≡ false → x ≡ hasFrom f size l n (r + 1)
+    pub has-pass : isRowOf f row ≡ false → x ≡ hasFrom f size l n (r + 1)
     unfolding hasFrom hasSelf
     has-pass t = rw (e, rows-step size n r l h, ← at, t)
 

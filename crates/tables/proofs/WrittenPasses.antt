@@ -19,7 +19,7 @@ use Rattle.layout.specs.Layout.{acceptedLayout}
 use Rattle.layout.proofs.LayoutLaws.{written-accepted}
 use Rattle.tables.specs.Records.{Parent, unused, used, Tables, TableRow}
 use Rattle.tables.specs.Bytes.{parentSize, objectSize, layoutRoom, isUsed, layoutLength, layoutBytes, renderParent, claimFid, mark, renderObject, parentRows, objectRows, renderParents, renderObjects, selfFid, claimedFid, renderRow, encodeParent, encodeObject, ostAt, freshAt, join}
-use Rattle.tables.specs.Check.{all, whenUsed, maxParents, maxObjects, wholeRows, isMark, usedMark, freshMark, parentsWhole, objectsWhole, goodLayout, goodLayouts, goodSelf, goodIndex, goodClaim, freshClaims, goodObject, hasSelf, noneTwice, allDifferent, Sound}
+use Rattle.tables.specs.Check.{all, whenUsed, maxParents, maxObjects, wholeRows, isMark, usedMark, freshMark, parentsWhole, objectsWhole, goodLayout, goodLayouts, goodSelf, goodIndex, goodClaim, freshClaims, goodObject, hasSelf, noneTwice, allDifferent, Sound, isRowOf}
 use Rattle.tables.specs.declared.Claim.{Claim}
 use Rattle.tables.specs.declared.Claim.the-variants.{Unclaimed, Claims}
 use Rattle.tables.specs.declared.Object.{Object}
@@ -106,11 +106,11 @@ module _ {R : Type 0} (write : R → List ℕ) (d : R) where
   -- a FID that no used row has
   has-not : (f : Fid) (ws : List R) → ((r : ℕ) → r < length ws → isUsed (write (getD ws r d)) ≡ true → selfFid (write (getD ws r d)) ≡ f → ⊥) →
       hasSelf f (map write ws) ≡ false
-  unfolding hasSelf
+  unfolding hasSelf isUsed isRowOf
   has-not f [] h = refl
-  has-not f (w ∷ ws) h = go (isUsed (write w) && sameFid (selfFid (write w)) f) refl (has-not f ws (λ r k. h (suc r) (omega arith)))
+  has-not f (w ∷ ws) h = go (isRowOf f (write w)) refl (has-not f ws (λ r k. h (suc r) (omega arith)))
     where
-      go : (b : Bool) → (isUsed (write w) && sameFid (selfFid (write w)) f) ≡ b → hasSelf f (map write ws) ≡ false → (b || hasSelf f (map write ws)) ≡ false
+      go : (b : Bool) → isRowOf f (write w) ≡ b → hasSelf f (map write ws) ≡ false → (b || hasSelf f (map write ws)) ≡ false
       go true e k =
           absurd (h 0 (omega arith) (and-first (isUsed (write w)) (sameFid (selfFid (write w)) f) e)
           (same-is (selfFid (write w)) f (and-second (isUsed (write w)) (sameFid (selfFid (write w)) f) e)))

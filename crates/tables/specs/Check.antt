@@ -103,10 +103,14 @@ goodFids parents objects reserve =
 
 -- ## 15: "a FID twice among used parents, or twice among used objects"
 
--- a used row with this self FID is among the rows
+-- a used row with this self FID
+unfoldable pub isRowOf : Fid → List ℕ → Bool
+isRowOf f row = isUsed row && sameFid (selfFid row) f
+
+-- one of them is among the rows
 unfoldable pub hasSelf : Fid → List (List ℕ) → Bool
 hasSelf f [] = false
-hasSelf f (row ∷ rest) = isUsed row && sameFid (selfFid row) f || hasSelf f rest
+hasSelf f (row ∷ rest) = isRowOf f row || hasSelf f rest
 
 unfoldable pub noneTwice : List (List ℕ) → Bool
 noneTwice [] = true

@@ -10,12 +10,12 @@ ghost use lib.ListN.{length, drop};
 ghost use Rattle.wire.specs.Rows.{rows};
 ghost use Rattle.fid.specs.Fid.{sameFid};
 ghost use Rattle.tables.specs.Bytes.{isUsed, ownerAt, selfFid};
-ghost use Rattle.tables.specs.Check.{hasSelf, noneTwice, allDifferent};
+ghost use Rattle.tables.specs.Check.{hasSelf, noneTwice, allDifferent, isRowOf};
 
 // Whether a row is used and has this self FID. The object id comes first, in which most rows differ.
 pub fn has_fid(row: &[u8], f: Fid) -> bool
     requires { ⌜ ownerAt ≤ length (now row) ⌝ }
-    ensures { λ r. ⌜ r ≡ (isUsed (now (row .entry)) && sameFid (selfFid (now (row .entry))) f) ⌝ }
+    ensures { λ r. ⌜ r ≡ isRowOf f (now (row .entry)) ⌝ }
 {
     if wire::le32(row, 9) != f.oid {
         return false;

@@ -1,11 +1,113 @@
-use mathlib.Core.Path.{refl, _∙_}
+use mathlib.Core.List.{[]}
+use mathlib.Core.Path.{_≡_, refl, _∙_}
+use native.Mathlib.Omega.{arith}
+use denote.Ref.{now}
+use Prim.Native.Nat.{_+_, _-_, _/_}
+use lib.ListN.{length}
 use borrow.Author.Needs.{needs}
-use Rattle.search.proofs.NamingLaws.{else-nowhere}
+use Rattle.layout.specs.Slot.{decodeSlots}
+use Rattle.tables.specs.Bytes.{parse}
+use Rattle.tables.specs.Positions.{slotsOf, rowAt, width}
+use Rattle.tables.proofs.SoundLaws.{layout-at}
+use Rattle.rules.specs.Search.{orElse}
+use Rattle.rules.specs.Rows.{namesAt, scan}
+use Rattle.rules.specs.declared.Found.the-variants.{Nowhere}
+use Rattle.search.proofs.PlaceSearch.{slotsLeft, placesLeft, place-none, enter, leave, again, stop}
+use Rattle.search.proofs.SlotArea.{area-width, area-of}
+use Rattle.search.proofs.NamingLaws.{scan-start, area-names}
 use Rattle.search.proofs.naming.first_naming.Statement.{statement}
 use Rattle.search.proofs.naming.first_naming.Tie as tie
 
-returns : tie.Need-returns
-returns c = c .first-else .ensures ∙ else-nowhere _ _ _ refl
+abbrev Inv-loop : tie.InvT-loop
+Inv-loop parents f n found₀ r area count j₀ found j =
+    (found ≡ Nowhere) × (scan (parse parents []) (namesAt (parse parents []) f) ≡ orElse (slotsLeft (namesAt (parse parents []) f) r count j) (placesLeft (width (parse parents [])) (namesAt (parse parents []) f) n (r + 1)))
+
+abbrev μ-loop : tie.MeasureT-loop
+μ-loop parents f n found₀ r area count j₀ found j = count - j
+
+abbrev Inv-rows : tie.InvT-rows
+Inv-rows parents f n found₀ r₀ found r = (found ≡ Nowhere) × (scan (parse parents []) (namesAt (parse parents []) f) ≡ placesLeft (width (parse parents [])) (namesAt (parse parents []) f) n r)
+
+abbrev μ-rows : tie.MeasureT-rows
+μ-rows parents f n found₀ r₀ found r = n - r
+
+rows-holds : tie.Need-rows-holds Inv-loop μ-loop Inv-rows μ-rows
+rows-holds c = (refl, scan-start _ _)
+
+row-at-requires : tie.Need-row-at-requires Inv-loop μ-loop Inv-rows μ-rows
+row-at-requires c κs = omega arith
+
+slot-area-requires : tie.Need-slot-area-requires Inv-loop μ-loop Inv-rows μ-rows
+slot-area-requires c κs = (c .row-at .ensures .1, layout-at (now (c .before .before .before .before .args .parents)) _ (c .before .before .rows .r) (c .before .before .before .before .pre) (omega arith) (c .row-at .ensures .0))
+
+-- the slots of row r lie in the area
+area : (c : tie.After-slot-area Inv-loop μ-loop Inv-rows μ-rows) →
+    let l = now (c .slot-area .result) in
+    slotsOf (rowAt (parse (now (c .before .before .before .before .before .args .parents)) []) (c .before .before .before .rows .r)) ≡ decodeSlots (length l / 24) l
+area c = area-of _ _ _ (now (c .slot-area .result)) (omega arith) (c .before .row-at .ensures .0) (c .slot-area .ensures)
+
+loop-holds : tie.Need-loop-holds Inv-loop μ-loop Inv-rows μ-rows
+loop-holds c =
+    let i = c .before .before .before .rows .inv in
+    (i .0, enter _ _ _ _ _ _ (i .1) (omega arith) (area-width _ _ _ _ (area c)))
+
+slot-at-requires : tie.Need-slot-at-requires Inv-loop μ-loop Inv-rows μ-rows
+slot-at-requires c κs = omega arith
+
+names-requires : tie.Need-names-requires Inv-loop μ-loop Inv-rows μ-rows
+names-requires c κs = search needs
+
+add-j : tie.Need-add-j Inv-loop μ-loop Inv-rows μ-rows
+add-j c = omega arith
+
+loop-less : tie.Need-loop-less Inv-loop μ-loop Inv-rows μ-rows
+loop-less c = omega arith
+
+loop-again : tie.Need-loop-again Inv-loop μ-loop Inv-rows μ-rows
+loop-again c =
+    let i = c .before .before .before .before .loop .inv in
+    (i .0, again _ _ _ _ _ _ _ (i .1) (omega arith) (area-names _ _ _ _ (area (c .before .before .before .before .before)) _ _ _ _ (omega arith) (c .before .before .slot-at .ensures) (c .before .names .ensures) ∙ c .if1 .left))
+
+add-r : tie.Need-add-r Inv-loop μ-loop Inv-rows μ-rows
+add-r c = omega arith
+
+rows-less : tie.Need-rows-less Inv-loop μ-loop Inv-rows μ-rows
+rows-less c = omega arith
+
+rows-again : tie.Need-rows-again Inv-loop μ-loop Inv-rows μ-rows
+rows-again c =
+    let i = c .before .loop .inv in
+    (i .0, leave _ _ _ _ _ _ _ (i .1) (omega arith))
+
+returns : tie.Need-returns Inv-loop μ-loop Inv-rows μ-rows
+returns c =
+    let i = c .before .rows .inv in
+    i .0 ∙ place-none _ _ _ _ _ (i .1) (omega arith)
+
+returns-2 : tie.Need-returns-2 Inv-loop μ-loop Inv-rows μ-rows
+returns-2 c =
+    let i = c .before .before .before .before .loop .inv in
+    stop _ _ _ _ _ _ _ (i .1) (omega arith) (area-names _ _ _ _ (area (c .before .before .before .before .before)) _ _ _ _ (omega arith) (c .before .before .slot-at .ensures) (c .before .names .ensures) ∙ c .if1 .taken)
 
 pub first-naming-spec : {M : Type 1} → statement M
-first-naming-spec = tie.close (tie.spec (λ c κs. search needs) returns)
+first-naming-spec =
+    tie.close
+    (tie.spec
+    Inv-loop
+    μ-loop
+    Inv-rows
+    μ-rows
+    rows-holds
+    row-at-requires
+    slot-area-requires
+    loop-holds
+    slot-at-requires
+    names-requires
+    add-j
+    loop-less
+    loop-again
+    add-r
+    rows-less
+    rows-again
+    returns
+    returns-2)
