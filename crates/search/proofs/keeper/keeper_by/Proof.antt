@@ -23,7 +23,7 @@ returns c =
 returns-2 : tie.Need-returns-2
 returns-2 c =
     let a = c .before .before .before .before .before .args in
-    c .keeper-at .ensures ∙ ap (keeperBy (parse (now (a .parents)) []) (a .f)) (sym (c .before .claim .given .1))
+    c .keeper-at .ensures ∙ ap (keeperBy (parse (now (a .parents)) []) (a .f)) (sym (c .before .before .claim .given .1))
 
 pub keeper-by-spec : {M : Type 1} → statement M
 keeper-by-spec =
