@@ -9,16 +9,16 @@ use Rattle.wire.specs.Numbers.{bytes}
 use Rattle.wire.proofs.NumberLaws.{length-bytes}
 use Rattle.wire.proofs.Splice.{sets-at, sets-whole}
 use Rattle.fid.specs.Fid.{encodeFid, zeroFid}
-use Rattle.fid.specs.declared.MdtFid.{MdtFid}
 use Rattle.fid.specs.declared.Fid.{Fid}
 use Rattle.fid.proofs.FidLaws.{length-encode}
 use Rattle.tables.specs.Records.{used}
-use Rattle.tables.specs.Bytes.{objectSize, encodeOwner, claimFid, mark, encodeObject, renderObject}
+use Rattle.tables.specs.Bytes.{objectSize, encodeOwner, claimFid, mark, encodeObject, renderObject, renderRow}
 use Rattle.tables.specs.declared.Claim.{Claim}
 use Rattle.tables.specs.declared.Claim.the-variants.{Unclaimed, Claims}
 use Rattle.tables.specs.declared.Object.{Object}
 use Rattle.rules.specs.Repairs.{destroyed}
 use Rattle.stores.proofs.StoreLaws.{length-owner}
+use Rattle.tables.specs.declared.Place.{Place}
 
 pub mark-one : (b : Bool) → b ≡ true → 1 ≡ mark b
 unfolding mark
@@ -29,13 +29,13 @@ unfolding mark
 mark-zero b e = rw e
 
 pub length-object : (x : Object) → length (renderObject (used x)) ≡ objectSize
-unfolding renderObject encodeObject
+unfolding renderObject encodeObject renderRow
 length-object x = simp (length-append, length-encode, length-bytes, length-owner)
 
 pub object-stores : (a b c d e f g : List ℕ) (x : Object) (n : Fid) (m : ℕ) → length a ≡ objectSize → n ≡ claimFid (x .claim) → m ≡ mark (x .fresh) →
     b ≡ set a 0 1 → c ≡ sets b 1 (encodeFid (x .fid .0)) → d ≡ sets c 17 (bytes 4 (x .ost)) → e ≡ sets d 21 (encodeOwner (x .owner)) →
     f ≡ sets e 29 (encodeFid n) → g ≡ set f 45 m → g ≡ renderObject (used x)
-unfolding renderObject encodeObject
+unfolding renderObject renderRow encodeObject
 object-stores a b c d e f g x n m h p q s1 s2 s3 s4 s5 s6 =
     let F : List ℕ = encodeFid (x .fid .0) in
     let O : List ℕ = bytes 4 (x .ost) in
@@ -51,11 +51,11 @@ object-stores a b c d e f g x n m h p q s1 s2 s3 s4 s5 s6 =
 
 pub zero-stores : (a b c d e f g h : List ℕ) → length a ≡ objectSize → b ≡ sets a 0 (bytes 8 0) → c ≡ sets b 8 (bytes 8 0) → d ≡ sets c 16 (bytes 8 0) →
     e ≡ sets d 24 (bytes 8 0) → f ≡ sets e 32 (bytes 8 0) → g ≡ sets f 40 (bytes 4 0) → h ≡ sets g 44 (bytes 2 0) → h ≡ renderObject destroyed
-unfolding bytes renderObject destroyed
+unfolding bytes renderObject destroyed renderRow
 zero-stores a b c d e f g h n s1 s2 s3 s4 s5 s6 s7 = rw (s7, s6, s5, s4, s3, s2, s1) (sets-whole (replicate 46 0) a n)
 
 pub length-destroyed : length (renderObject destroyed) ≡ objectSize
-unfolding renderObject destroyed
+unfolding renderObject destroyed renderRow
 length-destroyed = refl
 
 -- the same as runs of stores, one in the other
@@ -71,6 +71,7 @@ pub claim-none : (k : Claim) → k ≡ Unclaimed → _≡_ {A = Fid} (record { s
 unfolding claimFid zeroFid
 claim-none k e = rw e
 
-pub claim-some : (k : Claim) (f : MdtFid) (i : ℕ) → k ≡ Claims f i → _≡_ {A = Fid} (record { seq = f .0 .seq; oid = f .0 .oid; ver = i }) (claimFid k)
+pub claim-some : (k : Claim) (p : Place) → k ≡ Claims p →
+    _≡_ {A = Fid} (record { seq = p .file .0 .seq; oid = p .file .0 .oid; ver = p .index }) (claimFid k)
 unfolding claimFid
-claim-some k f i e = rw e
+claim-some k p e = rw e

@@ -20,7 +20,7 @@ use Rattle.layout.specs.Layout.{Layout, headerSize, magicOne, encodeHeader, enc
 use Rattle.layout.proofs.SlotLaws.{length-slot, length-encode-slots}
 use Rattle.layout.proofs.HeaderLaws.{length-header}
 use Rattle.tables.specs.Records.{Parent, ParentRow, used}
-use Rattle.tables.specs.Bytes.{encodeOwner, encodeParent, renderParent}
+use Rattle.tables.specs.Bytes.{encodeOwner, encodeParent, renderParent, renderRow}
 use Rattle.tables.specs.Positions.{slotsOf}
 use Rattle.tables.specs.declared.Owner.{Owner}
 use Rattle.rules.specs.Rows.{tailOf}
@@ -48,7 +48,7 @@ layout-length L = rw (length-append, length-append, length-header (L .header) (l
 
 -- a row spread out: front, header, pool name, slots, tail
 spread : (p : Parent) → renderParent (used p) ≡ front p (length (encodeLayout (p .layout))) ++ (encodeHeader (p .layout .header) (length (p .layout .slots)) ++ (p .layout .pool ++ (encodeSlots (p .layout .slots) ++ p .tail)))
-unfolding renderParent encodeParent encodeLayout lead
+unfolding renderParent renderRow encodeParent encodeLayout lead
 spread p = simp append-assoc
 
 -- the front's last two bytes apart

@@ -3,7 +3,12 @@ use super::pieces;
 use fid::Fid;
 use tables::Claim;
 use tables::Object;
+use tables::rows::CLAIM_AT;
+use tables::rows::FRESH_AT;
+use tables::rows::OBJECT_OWNER_AT;
 use tables::rows::OBJECT_SIZE;
+use tables::rows::OST_AT;
+use tables::rows::SELF_AT;
 ghost use mathlib.Core.Path.{_≡_};
 ghost use Prim.Native.Nat.{_+_, _*_, _≤_};
 ghost use lib.ListN.{length};
@@ -22,12 +27,12 @@ pub fn claim_fid(claim: Claim) -> Fid
             oid: 0,
             ver: 0,
         },
-        Claim::Claims(file, index) => {
-            let f = file.0;
+        Claim::Claims(place) => {
+            let f = place.file.0;
             Fid {
                 seq: f.seq,
                 oid: f.oid,
-                ver: index,
+                ver: place.index,
             }
         }
     }
@@ -49,11 +54,11 @@ pub fn put_row(row: &mut [u8], x: Object)
     let owner = x.owner;
     let claim = x.claim;
     pieces::put_byte(row, 0, 1);
-    fid::write_fid(row, 1, name);
-    wire::put_le32(row, 17, x.ost);
-    pieces::put_owner(row, 21, owner);
-    fid::write_fid(row, 29, claim_fid(claim));
-    pieces::put_byte(row, 45, mark_of(x.fresh));
+    fid::write_fid(row, SELF_AT, name);
+    wire::put_le32(row, OST_AT, x.ost);
+    pieces::put_owner(row, OBJECT_OWNER_AT, owner);
+    fid::write_fid(row, CLAIM_AT, claim_fid(claim));
+    pieces::put_byte(row, FRESH_AT, mark_of(x.fresh));
 }
 
 // Makes a row zero throughout.

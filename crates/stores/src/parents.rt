@@ -5,7 +5,10 @@ use layout::Header;
 use layout::Slot;
 use tables::Owner;
 use tables::rows;
-use tables::rows::LAYOUT_START;
+use tables::rows::LENGTH_AT;
+use tables::rows::OWNER_AT;
+use tables::rows::ROOM_AT;
+use tables::rows::SELF_AT;
 ghost use mathlib.Core.Path.{_≡_};
 ghost use Prim.Native.Nat.{_≤_, _<_};
 ghost use lib.ListN.{length, set, drop};
@@ -13,7 +16,7 @@ ghost use lib.Seq.{sets};
 ghost use Rattle.wire.specs.Numbers.{bytes};
 ghost use Rattle.fid.specs.Fid.{encodeFid};
 ghost use Rattle.layout.specs.Layout.{maxSlots, stripeCount};
-ghost use Rattle.tables.specs.Bytes.{parentSize, encodeOwner, layoutBytes, parseParent, renderParent};
+ghost use Rattle.tables.specs.Bytes.{parentSize, encodeOwner, layoutBytes, parseParent, renderParent, roomAt, selfAt, ownerAt, lengthAt};
 ghost use Rattle.rules.specs.Repairs.{withOwn, withSlot, grown, made, ownHeader};
 ghost use Rattle.stores.specs.Made.{madeHeader};
 ghost use Rattle.stores.specs.UsedRow.{UsedRow};
@@ -42,7 +45,7 @@ pub fn put_own(row: &mut [u8])
     let l = rows::layout_of(row);
     let h = layout::read_header(l);
     let n = layout::stripe_count(l);
-    pieces::put_header(row, LAYOUT_START, own_header(h, f), n);
+    pieces::put_header(row, ROOM_AT, own_header(h, f), n);
 }
 
 // Writes slot j.
@@ -51,7 +54,7 @@ pub fn put_slot(row: &mut [u8], j: usize, s: Slot)
     ensures { λ _. ⌜ now (row .exit) ≡ renderParent (withSlot (parseParent (now (row .entry))) j s) ⌝ }
 {
     let start = layout::slot_start(rows::layout_of(row));
-    pieces::put_slot(row, LAYOUT_START + start + 24 * j, s);
+    pieces::put_slot(row, ROOM_AT + start + 24 * j, s);
 }
 
 // Grows the layout to i + 1 slots, the last of which is s and the others new are holes.
@@ -64,11 +67,14 @@ pub fn grow(row: &mut [u8], i: usize, s: Slot)
     let start = layout::slot_start(l);
     let n = layout::stripe_count(l) as usize;
     let size = start + 24 * (i + 1);
-    wire::put_le16(row, 25, size as u16);
-    pieces::put_header(row, LAYOUT_START, h, (i + 1) as u16);
-    pieces::put_holes(row, LAYOUT_START + start + 24 * n, i + 1 - n);
-    pieces::put_slot(row, LAYOUT_START + start + 24 * i, s);
+    wire::put_le16(row, LENGTH_AT, size as u16);
+    pieces::put_header(row, ROOM_AT, h, (i + 1) as u16);
+    pieces::put_holes(row, ROOM_AT + start + 24 * n, i + 1 - n);
+    pieces::put_slot(row, ROOM_AT + start + 24 * i, s);
 }
+
+// Where the slots of a layout of version 1 stand in its row.
+const SLOTS_AT: usize = ROOM_AT + 32;
 
 // The header of a parent that is made.
 fn made_header(f: MdtFid) -> Header
@@ -87,14 +93,14 @@ fn made_header(f: MdtFid) -> Header
 
 // What stands in front of a layout of this size: the mark, the file and its owner.
 fn put_front(row: &mut [u8], f: MdtFid, w: Owner, size: u16)
-    requires { ⌜ 27 ≤ length (now row) ⌝ }
-    ensures { λ _. ⌜ now (row .exit) ≡ sets (sets (sets (set (now (row .entry)) 0 1) 1 (encodeFid (f .0))) 17 (encodeOwner w)) 25 (bytes 2 size) ⌝ }
+    requires { ⌜ roomAt ≤ length (now row) ⌝ }
+    ensures { λ _. ⌜ now (row .exit) ≡ sets (sets (sets (set (now (row .entry)) 0 1) selfAt (encodeFid (f .0))) ownerAt (encodeOwner w)) lengthAt (bytes 2 size) ⌝ }
 {
     let name = f.0;
     pieces::put_byte(row, 0, 1);
-    fid::write_fid(row, 1, name);
-    pieces::put_owner(row, 17, w);
-    wire::put_le16(row, 25, size);
+    fid::write_fid(row, SELF_AT, name);
+    pieces::put_owner(row, OWNER_AT, w);
+    wire::put_le16(row, LENGTH_AT, size);
 }
 
 // Makes a parent of i + 1 slots, the last of which is s and the others are holes.
@@ -104,7 +110,7 @@ pub fn make(row: &mut [u8], f: MdtFid, i: usize, w: Owner, s: Slot)
 {
     let size = 32 + 24 * (i + 1);
     put_front(row, f, w, size as u16);
-    pieces::put_header(row, LAYOUT_START, made_header(f), (i + 1) as u16);
-    pieces::put_holes(row, 59, i + 1);
-    pieces::put_slot(row, 59 + 24 * i, s);
+    pieces::put_header(row, ROOM_AT, made_header(f), (i + 1) as u16);
+    pieces::put_holes(row, SLOTS_AT, i + 1);
+    pieces::put_slot(row, SLOTS_AT + 24 * i, s);
 }

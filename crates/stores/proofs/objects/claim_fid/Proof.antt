@@ -7,7 +7,7 @@ returns : tie.Need-returns
 returns c = claim-none _ (cc)
 
 returns-2 : tie.Need-returns-2
-returns-2 c = let v = c .before .before .claim .given .0 in claim-some _ (v .0) (v .1 .0) (cc)
+returns-2 c = claim-some _ (c .before .before .claim .given .0 .0) (cc)
 
 pub claim-fid-spec : {M : Type 1} → statement M
 claim-fid-spec = tie.close (tie.spec (λ c. search needs) (λ c. search needs) returns returns-2)
