@@ -5,20 +5,20 @@ use Prim.Native.Nat.{ℕ}
 use borrow.Author.Tests.{eq-eqb, ne-eqb}
 use lib.Dec.{eqb}
 use Rattle.fid.specs.Fid.{sameFid}
-use Rattle.fid.specs.declared.MdtFid.{MdtFid}
 use Rattle.tables.specs.declared.Owner.{Owner}
 use Rattle.tables.specs.declared.Object.{Object}
 use Rattle.tables.specs.declared.Claim.{Claim}
 use Rattle.tables.specs.declared.Claim.the-variants.{Claims}
 use Rattle.rules.specs.Rows.{sameOwner}
 use Rattle.rules.specs.Keeper.{isPlace}
-use Rattle.rules.specs.Places.{claimIs}
 use Rattle.rules.specs.Classes.{claimClass, keeperClass}
 use Rattle.rules.specs.declared.Found.the-variants.{At}
 use Rattle.rules.specs.declared.Lookup.{Lookup}
 use Rattle.rules.specs.declared.Lookup.the-variants.{Present}
 use Rattle.rules.specs.declared.SlotClass.{SlotClass}
 use Rattle.rules.specs.declared.SlotClass.the-variants.{UNMATCHED, OWNER, CLEAN}
+use Rattle.tables.specs.declared.Place.{Place}
+use Rattle.rules.specs.Places.{claims, samePlace}
 
 module _ (k i r j : ℕ) where
   pub place-row : (k ≡ r → ⊥) → false ≡ isPlace (At k i) r j
@@ -38,30 +38,30 @@ module _ (a b : Owner) where
   unfolding sameOwner
   owner-gid e = rw (eq-eqb (a .uid) (b .uid) e)
 
-module _ (g : MdtFid) (k : ℕ) (f : MdtFid) (i : ℕ) where
-  pub claim-file : sameFid (g .0) (f .0) ≡ false → false ≡ claimIs (Claims g k) f i
-  unfolding claimIs
+module _ (q home : Place) where
+  pub claim-file : sameFid (q .file .0) (home .file .0) ≡ false → false ≡ claims (Claims q) home
+  unfolding claims samePlace
   claim-file h = rw h
 
-  pub claim-index : sameFid (g .0) (f .0) ≡ true → eqb k i ≡ claimIs (Claims g k) f i
-  unfolding claimIs
+  pub claim-index : sameFid (q .file .0) (home .file .0) ≡ true → eqb (q .index) (home .index) ≡ claims (Claims q) home
+  unfolding claims samePlace
   claim-index h = rw h
 
--- "the first row that applies is the class": of a keeper whose object claims (f, i)
-module _ (file : MdtFid) (j : ℕ) (owned : Bool) (claim : Claim) (f : MdtFid) (i : ℕ) (e : claim ≡ Claims f i) where
-  pub class-unmatched : claimIs (Claims f i) file j ≡ false → UNMATCHED f i ≡ claimClass file j owned claim
+-- "the first row that applies is the class": of a keeper at home whose object claims q
+module _ (home : Place) (owned : Bool) (claim : Claim) (q : Place) (e : claim ≡ Claims q) where
+  pub class-unmatched : claims (Claims q) home ≡ false → UNMATCHED (q .file) (q .index) ≡ claimClass home owned claim
   unfolding claimClass
   class-unmatched t = rw (e, t)
 
-  pub class-clean : claimIs (Claims f i) file j ≡ true → owned ≡ true → CLEAN ≡ claimClass file j owned claim
+  pub class-clean : claims (Claims q) home ≡ true → owned ≡ true → CLEAN ≡ claimClass home owned claim
   unfolding claimClass
   class-clean t k = rw (e, t, k)
 
-  pub class-owner : claimIs (Claims f i) file j ≡ true → owned ≡ false → OWNER ≡ claimClass file j owned claim
+  pub class-owner : claims (Claims q) home ≡ true → owned ≡ false → OWNER ≡ claimClass home owned claim
   unfolding claimClass
   class-owner t k = rw (e, t, k)
 
-pub class-present : (file : MdtFid) (owner : Owner) (j : ℕ) (found : Lookup) (x : Object) (b : Bool) (c : SlotClass) → found ≡ Present x →
-    b ≡ sameOwner (x .owner) owner → c ≡ claimClass file j b (x .claim) → c ≡ keeperClass file owner j found
+pub class-present : (home : Place) (owner : Owner) (found : Lookup) (x : Object) (b : Bool) (c : SlotClass) → found ≡ Present x →
+    b ≡ sameOwner (x .owner) owner → c ≡ claimClass home b (x .claim) → c ≡ keeperClass home owner found
 unfolding keeperClass
-class-present file owner j found x b c e t q = rw (e, ← t) q
+class-present home owner found x b c e t q = rw (e, ← t) q

@@ -4,7 +4,6 @@ use mathlib.Core.List.{List, []}
 use mathlib.Core.Bool.{Bool, true, false}
 use Prim.Native.Nat.{ℕ, _*_, _/_, _<_}
 use lib.ListN.{length, take, drop}
-use Rattle.fid.specs.declared.MdtFid.{MdtFid}
 use Rattle.tables.specs.Records.{ObjectRow, unused, used, Tables}
 use Rattle.tables.specs.Bytes.{objectSize, isUsed, decodeObject, parseObject, parse}
 use Rattle.tables.specs.declared.Object.{Object}
@@ -22,16 +21,17 @@ use Rattle.rules.specs.declared.ObjectClass.the-variants.{UNUSED, KEPT, EMPTY, 
 use Rattle.search.proofs.ParsedRows.{parsed-object, object-used, object-unused}
 use Rattle.search.proofs.AloneLaws.{keeper-alone}
 use Rattle.search.proofs.KeeperLaws.{named-kept}
+use Rattle.tables.specs.declared.Place.{Place}
 
 -- ## Named by no slot
 
-module _ (T : Tables) (fresh : Bool) (claim : Claim) (f : MdtFid) (i : ℕ) (e : claim ≡ Claims f i) where
+module _ (T : Tables) (fresh : Bool) (claim : Claim) (home : Place) (e : claim ≡ Claims home) where
   pub class-empty : fresh ≡ true → EMPTY ≡ unnamedClass T fresh claim
   unfolding unnamedClass
   class-empty h = rw (e, h)
 
-  module _ (h : fresh ≡ false) (w : Way) (q : w ≡ way T f i) (b : Bool) (t : b ≡ isWay w) where
-    way-is : isWay (way T f i) ≡ b
+  module _ (h : fresh ≡ false) (w : Way) (q : w ≡ way T home) (b : Bool) (t : b ≡ isWay w) where
+    way-is : isWay (way T home) ≡ b
     way-is = sym (t ∙ ap isWay q)
 
     pub class-orphan : b ≡ true → ORPHAN ≡ unnamedClass T fresh claim

@@ -25,6 +25,7 @@ use Rattle.rules.specs.declared.SlotClass.the-variants.{HOLE, MULTIPLE}
 use Rattle.search.proofs.ParsedRows.{parent-used, parent-unused}
 use Rattle.search.proofs.AloneLaws.{slot-alone, keeper-alone, object-of-alone}
 use Rattle.search.proofs.KeeperLaws.{keeper-is}
+use Rattle.rules.specs.Places.{placeAt}
 
 -- a row with a slot that names an object is used
 pub names-used : (p row : List ℕ) (r j : ℕ) (f : OstFid) (n i : ℕ) → r < length p / parentSize → row ≡ take parentSize (drop (parentSize * r) p) →
@@ -65,7 +66,7 @@ module _ (p o : List ℕ) (r j : ℕ) (s : Slot) (e : s ≡ slotAt (parse p []) 
 
     pub class-keeper : b ≡ true → (row : List ℕ) (own : MdtFid) (owner : Owner) (a : SlotClass) → r < length p / parentSize →
         row ≡ take parentSize (drop (parentSize * r) p) → own ≡ decodeParent row .self → owner ≡ decodeParent row .owner →
-        a ≡ keeperClass own owner j found → a ≡ slotClass (parse p o) r j
+        a ≡ keeperClass (placeAt own j) owner found → a ≡ slotClass (parse p o) r j
     unfolding slotClass slotClassOf selfOf ownerOf
     class-keeper z row own owner a l at x y w =
         let u : isUsed row ≡ true = names-used p row r j f n i l at (sym h ∙ e) in

@@ -21,11 +21,11 @@ fn unnamed_class(parents: &[u8], objects: &[u8], fresh: bool, claim: Claim) -> O
 {
     match claim {
         Claim::Unclaimed => ObjectClass::SPARE,
-        Claim::Claims(f, i) => {
+        Claim::Claims(place) => {
             if fresh {
                 return ObjectClass::EMPTY;
             }
-            if places::is_way(places::way(parents, objects, f, i as usize)) {
+            if places::is_way(places::way(parents, objects, place)) {
                 ObjectClass::ORPHAN
             } else {
                 ObjectClass::CONFLICT

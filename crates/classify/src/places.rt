@@ -9,6 +9,7 @@ use rules::Row;
 use rules::Way;
 use search::naming;
 use tables::Claim;
+use tables::Place;
 use tables::positions;
 ghost use mathlib.Core.Path.{_≡_};
 ghost use mathlib.Core.Bool.{true};
@@ -17,28 +18,29 @@ ghost use lib.ListN.{length};
 ghost use Rattle.tables.specs.Bytes.{parentSize, parse};
 ghost use Rattle.tables.specs.Check.{goodLayouts};
 ghost use Rattle.rules.specs.Rows.{objectOf};
-ghost use Rattle.rules.specs.Places.{claimIs, takeable, slotWay, rowWay, way, isWay};
+ghost use Rattle.rules.specs.Places.{placeAt, claims, takeable, slotWay, rowWay, way, isWay};
 ghost use Rattle.rules.specs.declared.Row.the-variants.{RowIs};
 
 // Whether a claim is this very slot.
 pub fn claim_is(claim: Claim, f: MdtFid, i: usize) -> bool
-    ensures { λ b. ⌜ b ≡ claimIs claim f i ⌝ }
+    ensures { λ b. ⌜ b ≡ claims claim (placeAt f i) ⌝ }
 {
     match claim {
         Claim::Unclaimed => false,
-        Claim::Claims(g, k) => {
-            if !fid::same_mdt(g, f) {
+        Claim::Claims(place) => {
+            let file = place.file;
+            if !fid::same_mdt(file, f) {
                 return false;
             }
-            k as usize == i
+            place.index as usize == i
         }
     }
 }
 
-// Whether object g, named by slot i of row r, is present and fresh, claims this very slot and is named by no other.
-fn takeable(parents: &[u8], objects: &[u8], f: MdtFid, g: OstFid, r: usize, i: usize) -> bool
+// Whether object g, named by slot j of row r, is present and fresh, claims this very place and is named by no other slot.
+fn takeable(parents: &[u8], objects: &[u8], place: Place, g: OstFid, r: usize, j: usize) -> bool
     requires { ⌜ goodLayouts (now parents) ≡ true ⌝ }
-    ensures { λ b. ⌜ b ≡ takeable (parse (now (parents .entry)) (now (objects .entry))) f g r i (objectOf (parse (now (parents .entry)) (now (objects .entry))) g) ⌝ }
+    ensures { λ b. ⌜ b ≡ takeable (parse (now (parents .entry)) (now (objects .entry))) place g r j (objectOf (parse (now (parents .entry)) (now (objects .entry))) g) ⌝ }
 {
     let found = search::objects::lookup(objects, g);
     match found {
@@ -48,23 +50,24 @@ fn takeable(parents: &[u8], objects: &[u8], f: MdtFid, g: OstFid, r: usize, i: u
                 return false;
             }
             let claim = x.claim;
-            if !claim_is(claim, f, i) {
+            let file = place.file;
+            if !claim_is(claim, file, place.index as usize) {
                 return false;
             }
-            !naming::named_else(parents, g, r, i)
+            !naming::named_else(parents, g, r, j)
         }
     }
 }
 
-// How slot i of row r, which is s, can be had: a hole is filled, a fresh object's slot taken.
-fn slot_way(parents: &[u8], objects: &[u8], f: MdtFid, r: usize, i: usize, s: Slot) -> Way
+// How slot j of row r, which is s and the place, can be had: a hole is filled, a fresh object's slot taken.
+fn slot_way(parents: &[u8], objects: &[u8], place: Place, r: usize, j: usize, s: Slot) -> Way
     requires { ⌜ goodLayouts (now parents) ≡ true ⌝ }
-    ensures { λ w. ⌜ w ≡ slotWay (parse (now (parents .entry)) (now (objects .entry))) f r i s ⌝ }
+    ensures { λ w. ⌜ w ≡ slotWay (parse (now (parents .entry)) (now (objects .entry))) place r j s ⌝ }
 {
     match s {
         Slot::Hole => Way::Fill(r),
         Slot::Names(g, _, _) => {
-            if takeable(parents, objects, f, g, r, i) {
+            if takeable(parents, objects, place, g, r, j) {
                 Way::Take(r)
             } else {
                 Way::NoWay
@@ -73,14 +76,15 @@ fn slot_way(parents: &[u8], objects: &[u8], f: MdtFid, r: usize, i: usize, s: Sl
     }
 }
 
-// How slot i of file f, which is row r, can be had: past the count only a layout with the hole pattern grows.
-fn row_way(parents: &[u8], objects: &[u8], f: MdtFid, i: usize, r: usize) -> Way
+// How a place in row r can be had: past the count only a layout with the hole pattern grows.
+fn row_way(parents: &[u8], objects: &[u8], place: Place, r: usize) -> Way
     requires { ⌜ (goodLayouts (now parents) ≡ true) × (r < length (now parents) / parentSize) ⌝ }
-    ensures { λ w. ⌜ w ≡ rowWay (parse (now (parents .entry)) (now (objects .entry))) f i (RowIs r) ⌝ }
+    ensures { λ w. ⌜ w ≡ rowWay (parse (now (parents .entry)) (now (objects .entry))) place (RowIs r) ⌝ }
 {
-    if i < positions::width(parents, r) as usize {
-        let s = search::slots::slot_of(parents, r, i);
-        return slot_way(parents, objects, f, r, i, s);
+    let j = place.index as usize;
+    if j < positions::width(parents, r) as usize {
+        let s = search::slots::slot_of(parents, r, j);
+        return slot_way(parents, objects, place, r, j, s);
     }
     if headers::holes_in(parents, r) {
         Way::Grow(r)
@@ -89,18 +93,19 @@ fn row_way(parents: &[u8], objects: &[u8], f: MdtFid, i: usize, r: usize) -> Way
     }
 }
 
-// How slot i of file f can be had.
-pub fn way(parents: &[u8], objects: &[u8], f: MdtFid, i: usize) -> Way
+// How a place can be had.
+pub fn way(parents: &[u8], objects: &[u8], place: Place) -> Way
     requires { ⌜ goodLayouts (now parents) ≡ true ⌝ }
-    ensures { λ w. ⌜ w ≡ way (parse (now (parents .entry)) (now (objects .entry))) f i ⌝ }
+    ensures { λ w. ⌜ w ≡ way (parse (now (parents .entry)) (now (objects .entry))) place ⌝ }
 {
-    if MAX_SLOTS <= i {
+    if MAX_SLOTS <= place.index as usize {
         return Way::NoWay;
     }
-    let row = search::parents::parent_row(parents, f);
+    let file = place.file;
+    let row = search::parents::parent_row(parents, file);
     match row {
         Row::NoRow => Way::NewParent,
-        Row::RowIs(r) => row_way(parents, objects, f, i, r),
+        Row::RowIs(r) => row_way(parents, objects, place, r),
     }
 }
 

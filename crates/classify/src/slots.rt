@@ -19,6 +19,7 @@ ghost use Rattle.tables.specs.Check.{Sound};
 ghost use Rattle.rules.specs.Rows.{sameOwner};
 ghost use Rattle.rules.specs.Keeper.{isPlace};
 ghost use Rattle.rules.specs.Classes.{claimClass, keeperClass, slotClass};
+ghost use Rattle.rules.specs.Places.{placeAt};
 
 // Whether what a search found is slot j of row r.
 pub fn is_place(found: Found, r: usize, j: usize) -> bool
@@ -47,13 +48,14 @@ pub fn same_owner(a: Owner, b: Owner) -> bool
 
 // The class of slot j of this file, the keeper of an object with this claim: BLANK, UNMATCHED, OWNER, CLEAN.
 fn claim_class(file: MdtFid, j: usize, owned: bool, claim: Claim) -> SlotClass
-    ensures { λ c. ⌜ c ≡ claimClass file j owned claim ⌝ }
+    ensures { λ c. ⌜ c ≡ claimClass (placeAt file j) owned claim ⌝ }
 {
     match claim {
         Claim::Unclaimed => SlotClass::BLANK,
-        Claim::Claims(f, i) => {
+        Claim::Claims(place) => {
             if !places::claim_is(claim, file, j) {
-                return SlotClass::UNMATCHED(f, i);
+                let f = place.file;
+                return SlotClass::UNMATCHED(f, place.index);
             }
             if owned {
                 SlotClass::CLEAN
@@ -66,7 +68,7 @@ fn claim_class(file: MdtFid, j: usize, owned: bool, claim: Claim) -> SlotClass
 
 // The class of slot j of this file, with this owner, the keeper of what was found: DANGLING where it is absent.
 fn keeper_class(file: MdtFid, owner: Owner, j: usize, found: Lookup) -> SlotClass
-    ensures { λ c. ⌜ c ≡ keeperClass file owner j found ⌝ }
+    ensures { λ c. ⌜ c ≡ keeperClass (placeAt file j) owner found ⌝ }
 {
     match found {
         Lookup::Missing => SlotClass::DANGLING,

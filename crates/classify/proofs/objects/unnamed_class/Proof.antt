@@ -9,8 +9,7 @@ use Rattle.classify.proofs.objects.unnamed_class.Tie as tie
 returns : tie.Need-returns
 returns c =
     let a = c .before .before .before .before .before .before .args in
-    let v = c .before .before .claim .given .0 in
-    class-empty (parse (now (a .parents)) (now (a .objects))) (a .fresh) (a .claim) (v .0) (v .1 .0) (cc) (c .if1 .taken)
+    class-empty (parse (now (a .parents)) (now (a .objects))) (a .fresh) (a .claim) (c .before .before .claim .given .0 .0) (cc) (c .if1 .taken)
 
 returns-2 : tie.Need-returns-2
 unfolding unnamedClass
@@ -19,14 +18,12 @@ returns-2 c = cc
 returns-3 : tie.Need-returns-3
 returns-3 c =
     let a = c .before .before .before .before .before .before .before .before .before .args in
-    let v = c .before .before .before .before .before .claim .given .0 in
-    class-orphan (parse (now (a .parents)) (now (a .objects))) (a .fresh) (a .claim) (v .0) (v .1 .0) (cc) (c .before .before .before .if1 .left) _ (c .before .before .way .ensures) _ (c .before .is-way .ensures) (c .if2 .taken)
+    class-orphan (parse (now (a .parents)) (now (a .objects))) (a .fresh) (a .claim) (c .before .before .before .before .before .claim .given .0 .0) (cc) (c .before .before .before .if1 .left) _ (c .before .before .way .ensures) _ (c .before .is-way .ensures) (c .if2 .taken)
 
 returns-4 : tie.Need-returns-4
 returns-4 c =
     let a = c .before .before .before .before .before .before .before .before .before .args in
-    let v = c .before .before .before .before .before .claim .given .0 in
-    class-conflict (parse (now (a .parents)) (now (a .objects))) (a .fresh) (a .claim) (v .0) (v .1 .0) (cc) (c .before .before .before .if1 .left) _ (c .before .before .way .ensures) _ (c .before .is-way .ensures) (c .if2 .left)
+    class-conflict (parse (now (a .parents)) (now (a .objects))) (a .fresh) (a .claim) (c .before .before .before .before .before .claim .given .0 .0) (cc) (c .before .before .before .if1 .left) _ (c .before .before .way .ensures) _ (c .before .is-way .ensures) (c .if2 .left)
 
 pub unnamed-class-spec : {M : Type 1} → statement M
 unnamed-class-spec =
@@ -35,7 +32,6 @@ unnamed-class-spec =
     (λ c. search needs)
     (λ c. search needs)
     returns
-    (λ c. search needs)
     (λ c κs. search needs)
     (λ c κs. search needs)
     returns-2

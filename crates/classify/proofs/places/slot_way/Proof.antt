@@ -14,13 +14,13 @@ returns-2 : tie.Need-returns-2
 returns-2 c =
     let a = c .before .before .before .before .before .before .before .args in
     let v = c .before .before .before .s .given .0 in
-    slot-taken (parse (now (a .parents)) (now (a .objects))) (a .f) (a .r) (a .i) (a .s) (v .0) (v .1 .0) (v .1 .1 .0) (c .before .before .before .s .given .1) _ (c .before .takeable .ensures) (c .if1 .taken)
+    slot-taken (parse (now (a .parents)) (now (a .objects))) (a .place) (a .r) (a .j) (a .s) (v .0) (v .1 .0) (v .1 .1 .0) (c .before .before .before .s .given .1) _ (c .before .takeable .ensures) (c .if1 .taken)
 
 returns-3 : tie.Need-returns-3
 returns-3 c =
     let a = c .before .before .before .before .before .before .before .args in
     let v = c .before .before .before .s .given .0 in
-    slot-held (parse (now (a .parents)) (now (a .objects))) (a .f) (a .r) (a .i) (a .s) (v .0) (v .1 .0) (v .1 .1 .0) (c .before .before .before .s .given .1) _ (c .before .takeable .ensures) (c .if1 .left)
+    slot-held (parse (now (a .parents)) (now (a .objects))) (a .place) (a .r) (a .j) (a .s) (v .0) (v .1 .0) (v .1 .1 .0) (c .before .before .before .s .given .1) _ (c .before .takeable .ensures) (c .if1 .left)
 
 pub slot-way-spec : {M : Type 1} → statement M
 slot-way-spec =

@@ -5,12 +5,12 @@ use Rattle.classify.proofs.ClaimLaws.{class-unmatched, class-clean, cla
 use borrow.Author.Needs.{needs}
 use Rattle.classify.proofs.slots.claim_class.Statement.{statement}
 use Rattle.classify.proofs.slots.claim_class.Tie as tie
+use Rattle.rules.specs.Places.{placeAt}
 
 returns : tie.Need-returns
 returns c =
-    let a = c .before .before .before .before .before .args in
-    let v = c .before .before .before .claim .given .0 in
-    class-unmatched (a .file) (a .j) (a .owned) (a .claim) (v .0) (v .1 .0) (cc) (sym (c .before .claim-is .ensures) ∙ not-true _ (c .if1 .taken))
+    let a = c .before .before .before .before .before .before .args in
+    class-unmatched (placeAt (a .file) (a .j)) (a .owned) (a .claim) (c .before .before .before .before .claim .given .0 .0) (cc) (sym (c .before .before .claim-is .ensures) ∙ not-true _ (c .before .if1 .taken))
 
 returns-2 : tie.Need-returns-2
 unfolding claimClass
@@ -19,14 +19,12 @@ returns-2 c = cc
 returns-3 : tie.Need-returns-3
 returns-3 c =
     let a = c .before .before .before .before .before .before .args in
-    let v = c .before .before .before .before .claim .given .0 in
-    class-clean (a .file) (a .j) (a .owned) (a .claim) (v .0) (v .1 .0) (cc) (sym (c .before .before .claim-is .ensures) ∙ not-false _ (c .before .if1 .left)) (c .if2 .taken)
+    class-clean (placeAt (a .file) (a .j)) (a .owned) (a .claim) (c .before .before .before .before .claim .given .0 .0) (cc) (sym (c .before .before .claim-is .ensures) ∙ not-false _ (c .before .if1 .left)) (c .if2 .taken)
 
 returns-4 : tie.Need-returns-4
 returns-4 c =
     let a = c .before .before .before .before .before .before .args in
-    let v = c .before .before .before .before .claim .given .0 in
-    class-owner (a .file) (a .j) (a .owned) (a .claim) (v .0) (v .1 .0) (cc) (sym (c .before .before .claim-is .ensures) ∙ not-false _ (c .before .if1 .left)) (c .if2 .left)
+    class-owner (placeAt (a .file) (a .j)) (a .owned) (a .claim) (c .before .before .before .before .claim .given .0 .0) (cc) (sym (c .before .before .claim-is .ensures) ∙ not-false _ (c .before .if1 .left)) (c .if2 .left)
 
 pub claim-class-spec : {M : Type 1} → statement M
 claim-class-spec =

@@ -3,6 +3,7 @@ use Rattle.classify.proofs.ClaimLaws.{class-present}
 use borrow.Author.Needs.{needs}
 use Rattle.classify.proofs.slots.keeper_class.Statement.{statement}
 use Rattle.classify.proofs.slots.keeper_class.Tie as tie
+use Rattle.rules.specs.Places.{placeAt}
 
 returns : tie.Need-returns
 unfolding keeperClass
@@ -11,7 +12,7 @@ returns c = cc
 returns-2 : tie.Need-returns-2
 returns-2 c =
     let a = c .before .before .before .before .before .before .args in
-    class-present (a .file) (a .owner) (a .j) (a .found) (c .before .before .before .before .found .given .0 .0) _ _ (cc) (c .before .same-owner .ensures) (c .claim-class .ensures)
+    class-present (placeAt (a .file) (a .j)) (a .owner) (a .found) (c .before .before .before .before .found .given .0 .0) _ _ (cc) (c .before .same-owner .ensures) (c .claim-class .ensures)
 
 pub keeper-class-spec : {M : Type 1} → statement M
 keeper-class-spec =
