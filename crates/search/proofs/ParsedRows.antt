@@ -56,7 +56,7 @@ first-parsed {A} decode size n l test byte-test same =
     ∙ row-same _ _ n 0 (λ r a b.
     ap test (List·getD-map (parseRow decode) (rows size n l) r []) ∙ same (getD (rows size n l) r []) ∙ ap byte-test (rows-at size n r l (rw zero-add at b)))
 
-free-test : {A : Type 0} (decode : List ℕ → A) (row : List ℕ) → isUnused (parseRow decode row) ≡ not (isUsed row)
+pub free-test : {A : Type 0} (decode : List ℕ → A) (row : List ℕ) → isUnused (parseRow decode row) ≡ not (isUsed row)
 unfolding parseRow isUnused
 free-test {A} decode row = go (isUsed row)
   where
