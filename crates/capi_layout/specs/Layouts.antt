@@ -5,7 +5,7 @@ use mathlib.Core.Bool.{cond}
 use lib.Dec.{eqb}
 use lib.ListN.{length}
 use Rattle.layout.specs.Layout.{magicThree, headerSize}
-use Rattle.layout.specs.Answers.{givenAt, rewriteAnswer, rewriteBytes}
+use Rattle.layout.specs.Answers.{slotNumbers, givenAt, rewriteAnswer, rewriteBytes}
 use Rattle.layout.specs.declared.Header.{Header}
 use Rattle.layout.specs.declared.Slot.{Slot}
 use Rattle.layout.specs.declared.Slot.the-variants.{Hole, Names}
@@ -21,6 +21,10 @@ use Rattle.layout.specs.declared.Given.the-variants.{NotSlot, GivenSlot}
 -- "version 1 or 3"
 unfoldable pub versionOf : ℕ → ℕ
 versionOf magic = cond (eqb magic magicThree) 3 1
+
+-- a header is handed out as eight numbers
+abbrev pub headerNumbers : ℕ
+headerNumbers = 8
 
 -- "version, pattern, own id, own sequence, stripe size, stripe count, generation, where the slots start"
 unfoldable pub headerFields : Header → ℕ → List ℕ
@@ -52,7 +56,7 @@ givenLeft l j NotSlot = l
 givenLeft l j (GivenSlot s) = rewriteBytes l j s
 
 unfoldable pub rewriteNumber : List ℕ → ℕ → List ℕ → ℕ
-rewriteNumber l j slot = cond (eqb (length slot) 5) (rewriteGiven l j (givenAt slot 0)) 13
+rewriteNumber l j slot = cond (eqb (length slot) slotNumbers) (rewriteGiven l j (givenAt slot 0)) 13
 
 unfoldable pub rewriteLeft : List ℕ → ℕ → List ℕ → List ℕ
-rewriteLeft l j slot = cond (eqb (length slot) 5) (givenLeft l j (givenAt slot 0)) l
+rewriteLeft l j slot = cond (eqb (length slot) slotNumbers) (givenLeft l j (givenAt slot 0)) l

@@ -1,9 +1,16 @@
 // A layout written from numbers.
 use layout::Header;
+use layout::MAX_WORD;
 use layout::Written;
 ghost use mathlib.Core.Path.{_≡_};
 ghost use Rattle.capi_out.specs.Out.{outNumbers};
 ghost use Rattle.capi_write.specs.Write.{magicOf, isVersion, fieldsFit, headerGiven, headerAnswer, headerDest, headerOut, writeNumber, writeValues, writeAnswer, writeDest};
+
+// The numbers of a header that is handed in.
+const HEADER_NUMBERS: usize = 7;
+
+// The greatest number of 16 bits.
+const MAX_HALF: u64 = 0xffff;
 
 // A header that is handed in as numbers.
 pub enum HeaderGiven {
@@ -25,19 +32,19 @@ fn is_version(version: u64) -> bool
 fn fields_fit(fields: &[u64]) -> bool
     ensures { λ r. ⌜ r ≡ fieldsFit (now (fields .entry)) ⌝ }
 {
-    if fields.len() != 7 {
+    if fields.len() != HEADER_NUMBERS {
         return false;
     }
     if !is_version(fields[0]) {
         return false;
     }
-    if 0xffff_ffff < fields[1] {
+    if MAX_WORD < fields[1] {
         return false;
     }
-    if 0xffff_ffff < fields[4] {
+    if MAX_WORD < fields[4] {
         return false;
     }
-    fields[6] <= 0xffff
+    fields[6] <= MAX_HALF
 }
 
 fn magic_of(version: u64) -> u32

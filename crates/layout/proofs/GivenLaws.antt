@@ -14,7 +14,7 @@ use Rattle.layout.specs.declared.Slot.the-variants.{Hole, Names}
 use Rattle.layout.specs.declared.Given.{Given}
 use Rattle.layout.specs.declared.Given.the-variants.{NotSlot, GivenSlot}
 use Rattle.layout.specs.Slot.{allowedSlot, allowedSlots, encodeSlot}
-use Rattle.layout.specs.Answers.{zeroGiven, namesGiven, givenFrom, givenAt, isSlot, slotGiven, givenSlots, allGiven}
+use Rattle.layout.specs.Answers.{maxWord, zeroGiven, namesGiven, givenFrom, givenAt, isSlot, slotGiven, givenSlots, allGiven}
 
 module _ (k s o g i : ℕ) where
   pub zero-kind : (k ≡ 0 → ⊥) → false ≡ zeroGiven k s o g i
@@ -49,22 +49,22 @@ module _ (k s o g i : ℕ) where
   unfolding namesGiven
   not-kind h e = not-names h (rw (ne-eqb k 1 e))
 
-  pub not-id : zeroGiven k s o g i ≡ false → k ≡ 1 → 0xffffffff < o → NotSlot ≡ givenFrom k s o g i
+  pub not-id : zeroGiven k s o g i ≡ false → k ≡ 1 → maxWord < o → NotSlot ≡ givenFrom k s o g i
   unfolding namesGiven
-  not-id h e a = not-names h (rw (eq-eqb k 1 e, lt-leb o 0xffffffff a))
+  not-id h e a = not-names h (rw (eq-eqb k 1 e, lt-leb o maxWord a))
 
-  pub not-age : zeroGiven k s o g i ≡ false → k ≡ 1 → o ≤ 0xffffffff → 0xffffffff < g → NotSlot ≡ givenFrom k s o g i
+  pub not-age : zeroGiven k s o g i ≡ false → k ≡ 1 → o ≤ maxWord → maxWord < g → NotSlot ≡ givenFrom k s o g i
   unfolding namesGiven
-  not-age h e a b = not-names h (rw (eq-eqb k 1 e, le-leb o 0xffffffff a, lt-leb g 0xffffffff b))
+  not-age h e a b = not-names h (rw (eq-eqb k 1 e, le-leb o maxWord a, lt-leb g maxWord b))
 
-  pub not-index : zeroGiven k s o g i ≡ false → k ≡ 1 → o ≤ 0xffffffff → g ≤ 0xffffffff → 0xffffffff < i → NotSlot ≡ givenFrom k s o g i
+  pub not-index : zeroGiven k s o g i ≡ false → k ≡ 1 → o ≤ maxWord → g ≤ maxWord → maxWord < i → NotSlot ≡ givenFrom k s o g i
   unfolding namesGiven
-  not-index h e a b d = not-names h (rw (eq-eqb k 1 e, le-leb o 0xffffffff a, le-leb g 0xffffffff b, lt-leb i 0xffffffff d))
+  not-index h e a b d = not-names h (rw (eq-eqb k 1 e, le-leb o maxWord a, le-leb g maxWord b, lt-leb i maxWord d))
 
-  pub given-names : zeroGiven k s o g i ≡ false → k ≡ 1 → o ≤ 0xffffffff → g ≤ 0xffffffff → i ≤ 0xffffffff →
+  pub given-names : zeroGiven k s o g i ≡ false → k ≡ 1 → o ≤ maxWord → g ≤ maxWord → i ≤ maxWord →
       GivenSlot (Names (record { 0 = record { seq = s; oid = o; ver = 0 } }) g i) ≡ givenFrom k s o g i
   unfolding givenFrom namesGiven
-  given-names h e a b d = rw (h, eq-eqb k 1 e, le-leb o 0xffffffff a, le-leb g 0xffffffff b, le-leb i 0xffffffff d)
+  given-names h e a b d = rw (h, eq-eqb k 1 e, le-leb o maxWord a, le-leb g maxWord b, le-leb i maxWord d)
 
 pub given-none : (holes : Bool) (g : Given) → g ≡ NotSlot → false ≡ (isSlot g && allowedSlot holes (slotGiven g))
 unfolding isSlot

@@ -17,8 +17,8 @@ use Rattle.layout.specs.declared.Slot.{Slot}
 use Rattle.layout.specs.declared.Slot.the-variants.{Hole}
 use Rattle.layout.specs.declared.Reading.the-variants.{Refused, Accepted}
 use Rattle.layout.specs.declared.SlotRead.the-variants.{BadLayout, NoSlot, SlotIs}
-use Rattle.layout.specs.Slot.{slotOf, encodeSlot, decodeSlots, encodeSlots, allowedSlot, allowedSlots}
-use Rattle.layout.specs.Layout.{Layout, headerSize, decodeHeader, encodeHeader, stripeCount, slotStart, decodeLayout, encodeLayout, knownVersion, knownPattern, withHoles, maxSlots, fewSlots, layoutSize, exactLength, layoutRules, acceptedLayout}
+use Rattle.layout.specs.Slot.{slotSize, slotOf, encodeSlot, decodeSlots, encodeSlots, allowedSlot, allowedSlots}
+use Rattle.layout.specs.Layout.{Layout, patternAt, ownIdAt, ownSequenceAt, stripeSizeAt, stripeCountAt, generationAt, plainHeader, poolHeader, headerSize, decodeHeader, encodeHeader, stripeCount, slotStart, decodeLayout, encodeLayout, knownVersion, knownPattern, withHoles, maxSlots, fewSlots, layoutSize, exactLength, layoutRules, acceptedLayout}
 use Rattle.layout.specs.Answers.{readLayout, readSlot, rewriteAnswer, rewriteBytes}
 use Rattle.layout.proofs.SlotLaws.{FitSlot, FitSlots, length-slots, length-encode-slots, slots-at, slots-set, slots-written-back, slots-read-back}
 use Rattle.layout.proofs.HeaderLaws.{FitHeader, size-least, size-most, length-header, header-written-back, header-read-back, count-read-back}
@@ -26,21 +26,21 @@ use Rattle.layout.proofs.HeaderLaws.{FitHeader, size-least, size-most, 
 -- ## What is accepted
 
 module _ (l : List ℕ) where
-  pub start-least : {h : ℕ} → h ≡ slotStart l → 32 ≤ h
+  pub start-least : {h : ℕ} → h ≡ slotStart l → plainHeader ≤ h
   unfolding slotStart
   start-least e = rw e (size-least (le 4 l))
 
-  pub start-most : {h : ℕ} → h ≡ slotStart l → h ≤ 48
+  pub start-most : {h : ℕ} → h ≡ slotStart l → h ≤ poolHeader
   unfolding slotStart
   start-most e = rw e (size-most (le 4 l))
 
-  pub exact-short : length l < 32 → false ≡ exactLength l
+  pub exact-short : length l < plainHeader → false ≡ exactLength l
   unfolding exactLength layoutSize
   exact-short h =
-      let m : ℕ = headerSize (le 4 l) + 24 * stripeCount l in
+      let m : ℕ = headerSize (le 4 l) + slotSize * stripeCount l in
       rw (ne-eqb (length l) m (λ e. omega (arith, size-least (le 4 l))))
 
-  pub exact-is : (h n : ℕ) → h ≡ slotStart l → n ≡ stripeCount l → eqb (length l) (h + 24 * n) ≡ exactLength l
+  pub exact-is : (h n : ℕ) → h ≡ slotStart l → n ≡ stripeCount l → eqb (length l) (h + slotSize * n) ≡ exactLength l
   unfolding exactLength layoutSize slotStart
   exact-is h n p q = rw (p, q)
 
@@ -48,18 +48,18 @@ module _ (l : List ℕ) where
   unfolding acceptedLayout
   accepted-length h = rw h
 
-  pub exact-size : exactLength l ≡ true → length l ≡ slotStart l + 24 * stripeCount l
+  pub exact-size : exactLength l ≡ true → length l ≡ slotStart l + slotSize * stripeCount l
   unfolding exactLength layoutSize slotStart
-  exact-size x = eqb-true (length l) (headerSize (le 4 l) + 24 * stripeCount l) x
+  exact-size x = eqb-true (length l) (headerSize (le 4 l) + slotSize * stripeCount l) x
 
-  pub exact-long : exactLength l ≡ true → 32 ≤ length l
+  pub exact-long : exactLength l ≡ true → plainHeader ≤ length l
   exact-long x = omega (arith, exact-size x, start-least refl)
 
   -- the slot area has room for every slot
   pub area-long : (start n : ℕ) → exactLength l ≡ true → start ≡ slotStart l → n ≡ stripeCount l →
-      24 * n ≤ length (take (length l - start) (drop start l))
+      slotSize * n ≤ length (take (length l - start) (drop start l))
   area-long start n x b q =
-      let z : length l ≡ start + 24 * n = rw (b, q) (exact-size x) in
+      let z : length l ≡ start + slotSize * n = rw (b, q) (exact-size x) in
       rw (drop-take-all start l, length-drop) (omega arith)
 
   pub accepted-header : (h : Header) → h ≡ decodeHeader l → exactLength l ≡ true → (knownVersion h && knownPattern h) ≡ false → false ≡ acceptedLayout l
@@ -95,17 +95,17 @@ module _ (l : List ℕ) where
   magic-of h e = sym magic-read ∙ ap (λ (x : Header). x .magic) e
 
   -- the rules, each met, are all that is asked
-  pub accepted-from : length l ≡ slotStart l + 24 * stripeCount l → (knownVersion (decodeHeader l) && knownPattern (decodeHeader l)) ≡ true →
+  pub accepted-from : length l ≡ slotStart l + slotSize * stripeCount l → (knownVersion (decodeHeader l) && knownPattern (decodeHeader l)) ≡ true →
       stripeCount l ≤ maxSlots → allowedSlots (withHoles (decodeHeader l)) (decodeLayout l .slots) ≡ true → acceptedLayout l ≡ true
   accepted-from z k m t =
       sym (accepted-slots (decodeHeader l) (stripeCount l) (slotStart l) (withHoles (decodeHeader l)) refl refl refl refl
-      (sym (exact-is (slotStart l) (stripeCount l) refl refl) ∙ eq-eqb (length l) (slotStart l + 24 * stripeCount l) z) k m)
+      (sym (exact-is (slotStart l) (stripeCount l) refl refl) ∙ eq-eqb (length l) (slotStart l + slotSize * stripeCount l) z) k m)
       ∙ rw (drop-take-all (slotStart l) l, ← slots-are) t
 
 -- what an accepted layout is
 pub record LayoutFacts (l : List ℕ) : Type 0 where
-  pub size : length l ≡ slotStart l + 24 * stripeCount l
-  pub head : 32 ≤ slotStart l
+  pub size : length l ≡ slotStart l + slotSize * stripeCount l
+  pub head : plainHeader ≤ slotStart l
   pub few : stripeCount l ≤ maxSlots
   pub known : (knownVersion (decodeHeader l) && knownPattern (decodeHeader l)) ≡ true
   pub slots : allowedSlots (withHoles (decodeHeader l)) (decodeLayout l .slots) ≡ true
@@ -116,11 +116,11 @@ accepted-facts l h =
     let v : Bool = knownVersion (decodeHeader l) && knownPattern (decodeHeader l) in
     let n : ℕ = length (decodeLayout l .slots) in
     let s : Bool = allowedSlots (withHoles (decodeHeader l)) (decodeLayout l .slots) in
-    let x : Bool = eqb (length l) (headerSize (le 4 l) + 24 * stripeCount l) in
+    let x : Bool = eqb (length l) (headerSize (le 4 l) + slotSize * stripeCount l) in
     let r : (v && leb n maxSlots && s) ≡ true = and-second x (v && leb n maxSlots && s) h in
     let f : (v && leb n maxSlots) ≡ true = and-first (v && leb n maxSlots) s r in
     record {
-      size = eqb-true (length l) (headerSize (le 4 l) + 24 * stripeCount l) (and-first x (v && leb n maxSlots && s) h);
+      size = eqb-true (length l) (headerSize (le 4 l) + slotSize * stripeCount l) (and-first x (v && leb n maxSlots && s) h);
       head = size-least (le 4 l);
       few = rw (slots-many l) at (leb-true n maxSlots (and-second v (leb n maxSlots) f));
       known = and-first v (leb n maxSlots) f;
@@ -131,10 +131,10 @@ pub accepted-exact : (l : List ℕ) → acceptedLayout l ≡ true → exactLengt
 unfolding acceptedLayout
 accepted-exact l a = and-first (exactLength l) (layoutRules (decodeHeader l) (decodeLayout l .slots)) a
 
-pub accepted-long : (l : List ℕ) → acceptedLayout l ≡ true → 32 ≤ length l
+pub accepted-long : (l : List ℕ) → acceptedLayout l ≡ true → plainHeader ≤ length l
 accepted-long l a = exact-long l (accepted-exact l a)
 
-pub accepted-size : (l : List ℕ) (start n : ℕ) → acceptedLayout l ≡ true → start ≡ slotStart l → n ≡ stripeCount l → length l ≡ start + 24 * n
+pub accepted-size : (l : List ℕ) (start n : ℕ) → acceptedLayout l ≡ true → start ≡ slotStart l → n ≡ stripeCount l → length l ≡ start + slotSize * n
 accepted-size l start n a b q = rw (b, q) (exact-size l (accepted-exact l a))
 
 -- ## The reader's answers
@@ -173,7 +173,7 @@ module _ (l : List ℕ) where
   rewrite-past j n s h q k = (rw (h, ← q, le-ltb j n k), rw (h, ← q, le-ltb j n k))
 
   pub rewrite-done : (j n start : ℕ) (s : Slot) (m : List ℕ) → (acceptedLayout l && allowedSlot (withHoles (decodeHeader l)) s) ≡ true → n ≡ stripeCount l →
-      start ≡ slotStart l → j < n → m ≡ sets l (start + 24 * j) (encodeSlot s) →
+      start ≡ slotStart l → j < n → m ≡ sets l (start + slotSize * j) (encodeSlot s) →
       (0 ≡ rewriteAnswer l j s) × (m ≡ rewriteBytes l j s)
   unfolding rewriteAnswer rewriteBytes
   rewrite-done j n start s m h q b k e = (rw (h, ← q, lt-ltb j n k), rw (h, ← q, lt-ltb j n k, e, b))
@@ -197,14 +197,14 @@ written-back l b a =
     let f = accepted-facts l a in
     let h : ℕ = slotStart l in
     let n : ℕ = stripeCount l in
-    let e : 32 + (h - 32) ≡ h = omega arith in
+    let e : plainHeader + (h - plainHeader) ≡ h = omega arith in
     rw (
       length-slots n (drop h l),
       header-written-back l b (omega arith),
-      ← take-add 32 (h - 32) l,
+      ← take-add plainHeader (h - plainHeader) l,
       e,
       slots-written-back n (drop h l) (bytes-drop h l b) (rw length-drop (omega arith)),
-      take-all (24 * n) (drop h l) (rw length-drop (omega arith)),
+      take-all (slotSize * n) (drop h l) (rw length-drop (omega arith)),
       take-append-drop h l,
     )
 
@@ -212,7 +212,7 @@ written-back l b a =
 pub record Writable (L : Layout) : Type 0 where
   pub header : FitHeader (L .header)
   pub fits : FitSlots (L .slots)
-  pub pool : length (L .pool) ≡ headerSize (L .header .magic) - 32
+  pub pool : length (L .pool) ≡ headerSize (L .header .magic) - plainHeader
   pub rules : layoutRules (L .header) (L .slots) ≡ true
 
 pub rules-few : (h : Header) (ss : List Slot) → layoutRules h ss ≡ true → length ss ≤ maxSlots
@@ -261,17 +261,17 @@ module _ (L : Layout) (w : Writable L) (r : List ℕ) where
   read-back =
       let k : ℕ = headerSize (L .header .magic) in
       let hp : length (head ++ L .pool) ≡ k = rw (length-append, length-header (L .header) n, w .pool) (omega (arith, size-least (L .header .magic))) in
-      let pool : take (k - 32) (drop 32 (encodeLayout L ++ r)) ≡ L .pool =
-      rw (spread, drop-at head (L .pool ++ (area ++ r)) 32 (length-header (L .header) n), take-at (L .pool) (area ++ r) (k - 32) (w .pool)) in
+      let pool : take (k - plainHeader) (drop plainHeader (encodeLayout L ++ r)) ≡ L .pool =
+      rw (spread, drop-at head (L .pool ++ (area ++ r)) plainHeader (length-header (L .header) n), take-at (L .pool) (area ++ r) (k - plainHeader) (w .pool)) in
       let slots : decodeSlots n (drop k (encodeLayout L ++ r)) ≡ L .slots =
       rw (spread, ← append-assoc head (L .pool) (area ++ r), drop-at (head ++ L .pool) (area ++ r) k hp)
       (slots-read-back (withHoles (L .header)) (L .slots) r (w .fits) (rules-slots (L .header) (L .slots) (w .rules))) in
-      let pool′ : take (slotStart (encodeLayout L ++ r) - 32) (drop 32 (encodeLayout L ++ r)) ≡ L .pool = rw start-back pool in
+      let pool′ : take (slotStart (encodeLayout L ++ r) - plainHeader) (drop plainHeader (encodeLayout L ++ r)) ≡ L .pool = rw start-back pool in
       let slots′ : decodeSlots (stripeCount (encodeLayout L ++ r)) (drop (slotStart (encodeLayout L ++ r)) (encodeLayout L ++ r)) ≡ L .slots =
       rw (start-back, count-back) slots in
       λ i. record { header = header-back i; pool = pool′ i; slots = slots′ i }
 
-pub length-layout : (L : Layout) → length (L .pool) ≡ headerSize (L .header .magic) - 32 →
+pub length-layout : (L : Layout) → length (L .pool) ≡ headerSize (L .header .magic) - plainHeader →
     length (encodeLayout L) ≡ layoutSize (L .header .magic) (length (L .slots))
 unfolding encodeLayout layoutSize
 length-layout L p =
@@ -293,35 +293,35 @@ written-accepted L w =
 
 -- ## A rewritten slot
 
-pub decode-header-append : (p q : List ℕ) → 32 ≤ length p → decodeHeader (p ++ q) ≡ decodeHeader p
+pub decode-header-append : (p q : List ℕ) → plainHeader ≤ length p → decodeHeader (p ++ q) ≡ decodeHeader p
 unfolding decodeHeader
 decode-header-append p q h =
     rw (
       le-append 4 p q (omega arith),
-      part 4 4 (omega arith),
-      part 8 8 (omega arith),
-      part 8 16 (omega arith),
-      part 4 24 (omega arith),
-      part 2 30 (omega arith),
+      part 4 patternAt (omega arith),
+      part 8 ownIdAt (omega arith),
+      part 8 ownSequenceAt (omega arith),
+      part 4 stripeSizeAt (omega arith),
+      part 2 generationAt (omega arith),
     )
   where
-    part : (n k : ℕ) → k + n ≤ 32 → le n (drop k (p ++ q)) ≡ le n (drop k p)
+    part : (n k : ℕ) → k + n ≤ plainHeader → le n (drop k (p ++ q)) ≡ le n (drop k p)
     part n k f = rw (drop-append-le k p q (omega arith), le-append n (drop k p) q (rw length-drop (omega arith)))
 
-pub stripe-count-append : (p q : List ℕ) → 32 ≤ length p → stripeCount (p ++ q) ≡ stripeCount p
+pub stripe-count-append : (p q : List ℕ) → plainHeader ≤ length p → stripeCount (p ++ q) ≡ stripeCount p
 unfolding stripeCount
-stripe-count-append p q h = rw (drop-append-le 28 p q (omega arith), le-append 2 (drop 28 p) q (rw length-drop (omega arith)))
+stripe-count-append p q h = rw (drop-append-le stripeCountAt p q (omega arith), le-append 2 (drop stripeCountAt p) q (rw length-drop (omega arith)))
 
 -- stores past the header leave header and count
-module _ (l e : List ℕ) (k : ℕ) (h : 32 ≤ k) (long : 32 ≤ length l) where
-  same-head : take 32 (sets l k e) ≡ take 32 l
-  same-head = take-sets-le e l 32 k h
+module _ (l e : List ℕ) (k : ℕ) (h : plainHeader ≤ k) (long : plainHeader ≤ length l) where
+  same-head : take plainHeader (sets l k e) ≡ take plainHeader l
+  same-head = take-sets-le e l plainHeader k h
 
-  by-head : {A : Type 0} (f : List ℕ → A) → ((p q : List ℕ) → 32 ≤ length p → f (p ++ q) ≡ f p) → f (sets l k e) ≡ f l
+  by-head : {A : Type 0} (f : List ℕ → A) → ((p q : List ℕ) → plainHeader ≤ length p → f (p ++ q) ≡ f p) → f (sets l k e) ≡ f l
   by-head f local = via (sets l k e) (rw length-sets long) ∙ ap f same-head ∙ sym (via l long)
     where
-      via : (m : List ℕ) → 32 ≤ length m → f m ≡ f (take 32 m)
-      via m b = ap f (sym (take-append-drop 32 m)) ∙ local (take 32 m) (drop 32 m) (rw (length-take-le 32 m b) (omega arith))
+      via : (m : List ℕ) → plainHeader ≤ length m → f m ≡ f (take plainHeader m)
+      via m b = ap f (sym (take-append-drop plainHeader m)) ∙ local (take plainHeader m) (drop plainHeader m) (rw (length-take-le plainHeader m b) (omega arith))
 
   pub header-stays : decodeHeader (sets l k e) ≡ decodeHeader l
   header-stays = by-head decodeHeader decode-header-append
@@ -348,35 +348,35 @@ withSlot L j s = record { header = L .header; pool = L .pool; slots = set (L .sl
 
 -- a rewritten slot is `set` on the layout's slots, and changes nothing else
 pub rewritten : (l : List ℕ) (j : ℕ) (s : Slot) → acceptedLayout l ≡ true → FitSlot s → allowedSlot (withHoles (decodeHeader l)) s ≡ true →
-    j < stripeCount l → decodeLayout (sets l (slotStart l + 24 * j) (encodeSlot s)) ≡ withSlot (decodeLayout l) j s
+    j < stripeCount l → decodeLayout (sets l (slotStart l + slotSize * j) (encodeSlot s)) ≡ withSlot (decodeLayout l) j s
 unfolding decodeLayout withSlot
 rewritten l j s a f t h =
     let k = accepted-facts l a in
     let e : List ℕ = encodeSlot s in
     let b : ℕ = slotStart l in
     let n : ℕ = stripeCount l in
-    let m : List ℕ = sets l (b + 24 * j) e in
-    let hd : decodeHeader m ≡ decodeHeader l = header-stays l e (b + 24 * j) (omega arith) (omega arith) in
-    let ct : stripeCount m ≡ n = count-stays l e (b + 24 * j) (omega arith) (omega arith) in
-    let st : slotStart m ≡ b = start-stays l e (b + 24 * j) (omega arith) (omega arith) in
-    let z : b + 24 * j ≡ 32 + (b - 32 + 24 * j) = omega arith in
-    let pool : take (slotStart m - 32) (drop 32 m) ≡ take (b - 32) (drop 32 l) =
-    rw (st, z, drop-sets-add e l 32 (b - 32 + 24 * j)) (take-sets-le e (drop 32 l) (b - 32) (b - 32 + 24 * j) (omega arith)) in
+    let m : List ℕ = sets l (b + slotSize * j) e in
+    let hd : decodeHeader m ≡ decodeHeader l = header-stays l e (b + slotSize * j) (omega arith) (omega arith) in
+    let ct : stripeCount m ≡ n = count-stays l e (b + slotSize * j) (omega arith) (omega arith) in
+    let st : slotStart m ≡ b = start-stays l e (b + slotSize * j) (omega arith) (omega arith) in
+    let z : b + slotSize * j ≡ plainHeader + (b - plainHeader + slotSize * j) = omega arith in
+    let pool : take (slotStart m - plainHeader) (drop plainHeader m) ≡ take (b - plainHeader) (drop plainHeader l) =
+    rw (st, z, drop-sets-add e l plainHeader (b - plainHeader + slotSize * j)) (take-sets-le e (drop plainHeader l) (b - plainHeader) (b - plainHeader + slotSize * j) (omega arith)) in
     let slots : decodeSlots (stripeCount m) (drop (slotStart m) m) ≡ set (decodeSlots n (drop b l)) j s =
-    rw (ct, st, drop-sets-add e l b (24 * j)) (slots-set (withHoles (decodeHeader l)) n j (drop b l) s f t h (rw length-drop (omega arith))) in
+    rw (ct, st, drop-sets-add e l b (slotSize * j)) (slots-set (withHoles (decodeHeader l)) n j (drop b l) s f t h (rw length-drop (omega arith))) in
     λ i. record { header = hd i; pool = pool i; slots = slots i }
 
 -- and the rewritten bytes are accepted
 pub rewritten-accepted : (l : List ℕ) (j : ℕ) (s : Slot) → acceptedLayout l ≡ true → FitSlot s → allowedSlot (withHoles (decodeHeader l)) s ≡ true →
-    j < stripeCount l → acceptedLayout (sets l (slotStart l + 24 * j) (encodeSlot s)) ≡ true
+    j < stripeCount l → acceptedLayout (sets l (slotStart l + slotSize * j) (encodeSlot s)) ≡ true
 unfolding withSlot
 rewritten-accepted l j s a f t h =
     let k = accepted-facts l a in
     let e : List ℕ = encodeSlot s in
-    let m : List ℕ = sets l (slotStart l + 24 * j) e in
-    let hd : decodeHeader m ≡ decodeHeader l = header-stays l e (slotStart l + 24 * j) (omega arith) (omega arith) in
-    let ct : stripeCount m ≡ stripeCount l = count-stays l e (slotStart l + 24 * j) (omega arith) (omega arith) in
-    let st : slotStart m ≡ slotStart l = start-stays l e (slotStart l + 24 * j) (omega arith) (omega arith) in
+    let m : List ℕ = sets l (slotStart l + slotSize * j) e in
+    let hd : decodeHeader m ≡ decodeHeader l = header-stays l e (slotStart l + slotSize * j) (omega arith) (omega arith) in
+    let ct : stripeCount m ≡ stripeCount l = count-stays l e (slotStart l + slotSize * j) (omega arith) (omega arith) in
+    let st : slotStart m ≡ slotStart l = start-stays l e (slotStart l + slotSize * j) (omega arith) (omega arith) in
     let ss : decodeLayout m .slots ≡ set (decodeLayout l .slots) j s = ap (λ (L : Layout). L .slots) (rewritten l j s a f t h) in
     accepted-from m (rw (length-sets, st, ct) (k .size)) (rw hd (k .known)) (rw ct (k .few))
     (rw (hd, ss) (allowed-set (withHoles (decodeHeader l)) (decodeLayout l .slots) j s (k .slots) t))

@@ -15,9 +15,9 @@ use borrow.Rule.Slice.PartMut.{putMid}
 use Rattle.layout.specs.declared.Header.{Header}
 use Rattle.layout.specs.declared.Slot.{Slot}
 use Rattle.layout.specs.declared.Written.the-variants.{BadFields, TooShort, Bytes}
-use Rattle.layout.specs.Slot.{allowedSlots, encodeSlot, encodeSlots}
-use Rattle.layout.specs.Layout.{headerSize, encodeHeader, encodeLayout, knownVersion, knownPattern, withHoles, maxSlots, fewSlots, layoutSize, layoutRules}
-use Rattle.layout.specs.Answers.{givenAt, slotGiven, givenSlots, allGiven, givenLayout, writable, writeLayout, leftBy, writeBytes}
+use Rattle.layout.specs.Slot.{slotSize, allowedSlots, encodeSlot, encodeSlots}
+use Rattle.layout.specs.Layout.{plainHeader, headerSize, encodeHeader, encodeLayout, knownVersion, knownPattern, withHoles, maxSlots, fewSlots, layoutSize, layoutRules}
+use Rattle.layout.specs.Answers.{slotNumbers, givenAt, slotGiven, givenSlots, allGiven, givenLayout, writable, writeLayout, leftBy, writeBytes}
 use Rattle.layout.proofs.SlotLaws.{length-slot, length-encode-slots}
 use Rattle.layout.proofs.HeaderLaws.{length-header, size-least}
 use Rattle.layout.proofs.LayoutLaws.{rules-few}
@@ -35,30 +35,30 @@ module _ (h : Header) (n : ℕ) (pool numbers : List ℕ) where
 
   pub write-many : maxSlots < n → false ≡ writable h n pool numbers
   unfolding writable layoutRules fewSlots
-  write-many k = rw (length-given numbers n 0, lt-leb n maxSlots k) (sym (many-false (eqb (length numbers) (5 * n)) (allGiven numbers n 0) (eqb (length pool) (headerSize (h .magic) - 32)) (knownVersion h && knownPattern h) (allowedSlots (withHoles h) (givenSlots numbers n 0))))
+  write-many k = rw (length-given numbers n 0, lt-leb n maxSlots k) (sym (many-false (eqb (length numbers) (slotNumbers * n)) (allGiven numbers n 0) (eqb (length pool) (headerSize (h .magic) - plainHeader)) (knownVersion h && knownPattern h) (allowedSlots (withHoles h) (givenSlots numbers n 0))))
 
-  pub write-uneven : (length numbers ≡ 5 * n → ⊥) → false ≡ writable h n pool numbers
+  pub write-uneven : (length numbers ≡ slotNumbers * n → ⊥) → false ≡ writable h n pool numbers
   unfolding writable
-  write-uneven k = rw (ne-eqb (length numbers) (5 * n) k)
+  write-uneven k = rw (ne-eqb (length numbers) (slotNumbers * n) k)
 
   third-false : (a : Bool) (x : Bool) → ((a && false) && x) ≡ false
   third-false true x = refl
   third-false false x = refl
 
-  pub write-pool : (b : ℕ) → b ≡ headerSize (h .magic) → length numbers ≡ 5 * n → (length pool ≡ b - 32 → ⊥) → false ≡ writable h n pool numbers
+  pub write-pool : (b : ℕ) → b ≡ headerSize (h .magic) → length numbers ≡ slotNumbers * n → (length pool ≡ b - plainHeader → ⊥) → false ≡ writable h n pool numbers
   unfolding writable
-  write-pool b q e k = rw (← q, eq-eqb (length numbers) (5 * n) e, ne-eqb (length pool) (b - 32) k) (sym (third-false (allGiven numbers n 0) (layoutRules h (givenSlots numbers n 0))))
+  write-pool b q e k = rw (← q, eq-eqb (length numbers) (slotNumbers * n) e, ne-eqb (length pool) (b - plainHeader) k) (sym (third-false (allGiven numbers n 0) (layoutRules h (givenSlots numbers n 0))))
 
   last-false : (a b x y : Bool) → ((a && b) && (false && x && y)) ≡ false
   last-false true true x y = refl
   last-false true false x y = refl
   last-false false b x y = refl
 
-  pub write-unknown : (b : ℕ) → b ≡ headerSize (h .magic) → length numbers ≡ 5 * n → length pool ≡ b - 32 → (knownVersion h && knownPattern h) ≡ false →
+  pub write-unknown : (b : ℕ) → b ≡ headerSize (h .magic) → length numbers ≡ slotNumbers * n → length pool ≡ b - plainHeader → (knownVersion h && knownPattern h) ≡ false →
       false ≡ writable h n pool numbers
   unfolding writable layoutRules
   write-unknown b q e p k =
-      rw (← q, eq-eqb (length numbers) (5 * n) e, eq-eqb (length pool) (b - 32) p, k)
+      rw (← q, eq-eqb (length numbers) (slotNumbers * n) e, eq-eqb (length pool) (b - plainHeader) p, k)
       (sym (last-false (allGiven numbers n 0) true (fewSlots (length (givenSlots numbers n 0))) (allowedSlots (withHoles h) (givenSlots numbers n 0))))
 
   and-true-in : (a x : Bool) → (a && x) ≡ ((a && true) && x)
@@ -66,35 +66,35 @@ module _ (h : Header) (n : ℕ) (pool numbers : List ℕ) where
   and-true-in false x = refl
 
   pub write-slots : (b : ℕ) (holes r : Bool) → b ≡ headerSize (h .magic) → holes ≡ withHoles h →
-      r ≡ (allGiven numbers n 0 && allowedSlots holes (givenSlots numbers n 0)) → length numbers ≡ 5 * n → length pool ≡ b - 32 →
+      r ≡ (allGiven numbers n 0 && allowedSlots holes (givenSlots numbers n 0)) → length numbers ≡ slotNumbers * n → length pool ≡ b - plainHeader →
       (knownVersion h && knownPattern h) ≡ true → n ≤ maxSlots → r ≡ writable h n pool numbers
   unfolding writable layoutRules fewSlots
   write-slots b holes r q w t e p k m =
-      rw (← q, eq-eqb (length numbers) (5 * n) e, eq-eqb (length pool) (b - 32) p, k, length-given numbers n 0, le-leb n maxSlots m, t, w)
+      rw (← q, eq-eqb (length numbers) (slotNumbers * n) e, eq-eqb (length pool) (b - plainHeader) p, k, length-given numbers n 0, le-leb n maxSlots m, t, w)
       (and-true-in (allGiven numbers n 0) (allowedSlots (withHoles h) (givenSlots numbers n 0)))
 
 -- what the writer takes, as facts
 pub record WriteFacts (h : Header) (n : ℕ) (pool numbers : List ℕ) : Type 0 where
-  pub even : length numbers ≡ 5 * n
+  pub even : length numbers ≡ slotNumbers * n
   pub given : allGiven numbers n 0 ≡ true
-  pub pool-fits : length pool ≡ headerSize (h .magic) - 32
+  pub pool-fits : length pool ≡ headerSize (h .magic) - plainHeader
   pub rules : layoutRules h (givenSlots numbers n 0) ≡ true
   pub few : n ≤ maxSlots
 
 pub write-facts : (h : Header) (n : ℕ) (pool numbers : List ℕ) → writable h n pool numbers ≡ true → WriteFacts h n pool numbers
 unfolding writable
 write-facts h n pool numbers w =
-    let a : Bool = eqb (length numbers) (5 * n) in
+    let a : Bool = eqb (length numbers) (slotNumbers * n) in
     let b : Bool = allGiven numbers n 0 in
-    let c : Bool = eqb (length pool) (headerSize (h .magic) - 32) in
+    let c : Bool = eqb (length pool) (headerSize (h .magic) - plainHeader) in
     let d : Bool = layoutRules h (givenSlots numbers n 0) in
     let abc : (a && b && c) ≡ true = and-first (a && b && c) d w in
     let ab : (a && b) ≡ true = and-first (a && b) c abc in
     let r : d ≡ true = and-second (a && b && c) d w in
     record {
-      even = eqb-true (length numbers) (5 * n) (and-first a b ab);
+      even = eqb-true (length numbers) (slotNumbers * n) (and-first a b ab);
       given = and-second a b ab;
-      pool-fits = eqb-true (length pool) (headerSize (h .magic) - 32) (and-second (a && b) c abc);
+      pool-fits = eqb-true (length pool) (headerSize (h .magic) - plainHeader) (and-second (a && b) c abc);
       rules = r;
       few = few-of r;
     }
@@ -106,7 +106,7 @@ write-facts h n pool numbers w =
 
 -- the destination with the first i bytes of the pool name
 pub poolDone : List ℕ → List ℕ → ℕ → List ℕ
-poolDone d pool i = sets d 32 (take i pool)
+poolDone d pool i = sets d plainHeader (take i pool)
 
 module _ (d pool : List ℕ) where
   pub pool-start : d ≡ poolDone d pool 0
@@ -114,12 +114,12 @@ module _ (d pool : List ℕ) where
   pool-start = refl
 
   pub pool-step : (i b : ℕ) (x : List ℕ) → x ≡ poolDone d pool i → i < length pool → b ≡ getD pool i 0 →
-      set x (32 + i) b ≡ poolDone d pool (i + 1)
+      set x (plainHeader + i) b ≡ poolDone d pool (i + 1)
   unfolding poolDone
   pool-step i b x q h e =
-      rw (q, add-one i, take-suc pool i 0 h, ← e) (sets-at (take i pool) (b ∷ []) d 32 i (length-take-le i pool (omega arith)))
+      rw (q, add-one i, take-suc pool i 0 h, ← e) (sets-at (take i pool) (b ∷ []) d plainHeader i (length-take-le i pool (omega arith)))
 
-  pub pool-end : (i : ℕ) (x : List ℕ) → x ≡ poolDone d pool i → length pool ≤ i → x ≡ sets d 32 pool
+  pub pool-end : (i : ℕ) (x : List ℕ) → x ≡ poolDone d pool i → length pool ≤ i → x ≡ sets d plainHeader pool
   unfolding poolDone
   pool-end i x q h = rw (q, take-all i pool h)
 
@@ -137,20 +137,20 @@ module _ (d numbers : List ℕ) (start : ℕ) where
   unfolding slotsDone givenSlots encodeSlots
   slots-start = refl
 
-  pub slots-step : (j : ℕ) (x y : List ℕ) → start + 24 * j + 24 ≤ length x → x ≡ slotsDone d numbers start j →
+  pub slots-step : (j : ℕ) (x y : List ℕ) → start + slotSize * j + slotSize ≤ length x → x ≡ slotsDone d numbers start j →
       y ≡ encodeSlot (slotGiven (givenAt numbers j)) →
-      putMid (start + 24 * j) (start + 24 * j + 24 - (start + 24 * j)) x y ≡ slotsDone d numbers start (j + 1)
+      putMid (start + slotSize * j) (start + slotSize * j + slotSize - (start + slotSize * j)) x y ≡ slotsDone d numbers start (j + 1)
   unfolding slotsDone encodeSlots
   slots-step j x y h e f =
       let s : List ℕ = encodeSlot (slotGiven (givenAt numbers j)) in
       let z : 0 + j ≡ j = omega arith in
-      let k : length (encodeSlots (givenSlots numbers j 0)) ≡ 24 * j = rw (length-encode-slots (givenSlots numbers j 0), length-given numbers j 0) in
+      let k : length (encodeSlots (givenSlots numbers j 0)) ≡ slotSize * j = rw (length-encode-slots (givenSlots numbers j 0), length-given numbers j 0) in
       let m : givenSlots numbers (j + 1) 0 ≡ givenSlots numbers j 0 ++ (slotGiven (givenAt numbers j) ∷ []) = rw (add-one j, given-more numbers j 0, z) in
       rw (
         f,
-        put-sets (start + 24 * j) (start + 24 * j + 24) x s (omega (arith, length-slot (slotGiven (givenAt numbers j)))) h,
+        put-sets (start + slotSize * j) (start + slotSize * j + slotSize) x s (omega (arith, length-slot (slotGiven (givenAt numbers j)))) h,
         e,
-        sets-at (encodeSlots (givenSlots numbers j 0)) s d start (24 * j) k,
+        sets-at (encodeSlots (givenSlots numbers j 0)) s d start (slotSize * j) k,
         m,
         encode-append (givenSlots numbers j 0) (slotGiven (givenAt numbers j) ∷ []),
         append-nil s,
@@ -171,23 +171,23 @@ module _ (h : Header) (n : ℕ) (pool numbers dest : List ℕ) where
   unfolding writeLayout writeBytes leftBy
   write-bad w = (rw w, rw w)
 
-  pub write-short : (b : ℕ) → writable h n pool numbers ≡ true → b ≡ headerSize (h .magic) → length dest < b + 24 * n →
+  pub write-short : (b : ℕ) → writable h n pool numbers ≡ true → b ≡ headerSize (h .magic) → length dest < b + slotSize * n →
       (TooShort ≡ writeLayout h n pool numbers dest) × (dest ≡ writeBytes h n pool numbers dest)
   unfolding writeLayout writeBytes leftBy layoutSize
   write-short b w e k =
-      let t : leb (headerSize (h .magic) + 24 * n) (length dest) ≡ false = lt-leb (headerSize (h .magic) + 24 * n) (length dest) (rw (← e) k) in
+      let t : leb (headerSize (h .magic) + slotSize * n) (length dest) ≡ false = lt-leb (headerSize (h .magic) + slotSize * n) (length dest) (rw (← e) k) in
       (rw (w, t), rw (w, t))
 
-  pub write-done : (b : ℕ) (x y z : List ℕ) → writable h n pool numbers ≡ true → b ≡ headerSize (h .magic) → b + 24 * n ≤ length dest →
-      x ≡ sets dest 0 (encodeHeader h n) → y ≡ sets x 32 pool → z ≡ sets y b (encodeSlots (givenSlots numbers n 0)) →
-      (Bytes (b + 24 * n) ≡ writeLayout h n pool numbers dest) × (z ≡ writeBytes h n pool numbers dest)
+  pub write-done : (b : ℕ) (x y z : List ℕ) → writable h n pool numbers ≡ true → b ≡ headerSize (h .magic) → b + slotSize * n ≤ length dest →
+      x ≡ sets dest 0 (encodeHeader h n) → y ≡ sets x plainHeader pool → z ≡ sets y b (encodeSlots (givenSlots numbers n 0)) →
+      (Bytes (b + slotSize * n) ≡ writeLayout h n pool numbers dest) × (z ≡ writeBytes h n pool numbers dest)
   unfolding writeLayout writeBytes leftBy layoutSize encodeLayout givenLayout
   write-done b x y z w e k p q r =
-      let t : leb (headerSize (h .magic) + 24 * n) (length dest) ≡ true = le-leb (headerSize (h .magic) + 24 * n) (length dest) (rw (← e) k) in
+      let t : leb (headerSize (h .magic) + slotSize * n) (length dest) ≡ true = le-leb (headerSize (h .magic) + slotSize * n) (length dest) (rw (← e) k) in
       let f = write-facts h n pool numbers w in
       let H : List ℕ = encodeHeader h n in
       let S : List ℕ = encodeSlots (givenSlots numbers n 0) in
       let l : length (H ++ pool) ≡ b = rw (length-append, length-header h n, f .pool-fits, e) (omega (arith, size-least (h .magic))) in
       let z0 : 0 + b ≡ b = omega arith in
       let u : sets (sets dest 0 (H ++ pool)) b S ≡ sets dest 0 ((H ++ pool) ++ S) = rw z0 at (sets-at (H ++ pool) S dest 0 b l) in
-      (rw (w, t, e), rw (w, t, r, q, p, sets-at H pool dest 0 32 (length-header h n), u, length-given numbers n 0))
+      (rw (w, t, e), rw (w, t, r, q, p, sets-at H pool dest 0 plainHeader (length-header h n), u, length-given numbers n 0))

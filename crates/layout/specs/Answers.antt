@@ -5,8 +5,8 @@ use mathlib.Core.Bool.{Bool, true, false, cond, _&&_}
 use lib.ListN.{length, getD}
 use lib.Seq.{sets}
 use lib.Dec.{leb, ltb, eqb}
-use Rattle.layout.specs.Slot.{allowedSlot, encodeSlot}
-use Rattle.layout.specs.Layout.{Layout, decodeHeader, decodeLayout, encodeLayout, acceptedLayout, stripeCount, slotStart, withHoles, headerSize, layoutSize, layoutRules}
+use Rattle.layout.specs.Slot.{slotSize, allowedSlot, encodeSlot}
+use Rattle.layout.specs.Layout.{Layout, plainHeader, decodeHeader, decodeLayout, encodeLayout, acceptedLayout, stripeCount, slotStart, withHoles, headerSize, layoutSize, layoutRules}
 use Rattle.layout.specs.declared.Header.{Header}
 use Rattle.layout.specs.declared.Slot.{Slot}
 use Rattle.layout.specs.declared.Slot.the-variants.{Hole, Names}
@@ -50,17 +50,25 @@ rewriteAnswer l j s =
 
 -- "Rewriting a slot touches only that slot's 24 bytes inside the lent layout"; a refusal changes nothing
 unfoldable pub rewriteBytes : List ℕ → ℕ → Slot → List ℕ
-rewriteBytes l j s = cond (eqb (rewriteAnswer l j s) 0) (sets l (slotStart l + 24 * j) (encodeSlot s)) l
+rewriteBytes l j s = cond (eqb (rewriteAnswer l j s) 0) (sets l (slotStart l + slotSize * j) (encodeSlot s)) l
 
 -- ## The writer
 
--- slots are handed in as five numbers each: a hole where all are 0
+-- slots are handed in as five numbers each
+abbrev pub slotNumbers : ℕ
+slotNumbers = 5
+
+-- a hole where all are 0
 unfoldable pub zeroGiven : ℕ → ℕ → ℕ → ℕ → ℕ → Bool
 zeroGiven k s o g i = eqb k 0 && eqb s 0 && eqb o 0 && eqb g 0 && eqb i 0
 
+-- the greatest number of 32 bits
+abbrev pub maxWord : ℕ
+maxWord = 0xffffffff
+
 -- else 1, sequence, id, generation and OST index, of which the last three fit 32 bits
 unfoldable pub namesGiven : ℕ → ℕ → ℕ → ℕ → Bool
-namesGiven k o g i = eqb k 1 && leb o 0xffffffff && leb g 0xffffffff && leb i 0xffffffff
+namesGiven k o g i = eqb k 1 && leb o maxWord && leb g maxWord && leb i maxWord
 
 -- any other first number, or one that doesn't fit its field, is no slot
 unfoldable pub givenFrom : ℕ → ℕ → ℕ → ℕ → ℕ → Given
@@ -69,7 +77,7 @@ givenFrom k s o g i =
     (cond (namesGiven k o g i) (GivenSlot (Names (record { 0 = record { seq = s; oid = o; ver = 0 } }) g i)) NotSlot)
 
 unfoldable pub givenAt : List ℕ → ℕ → Given
-givenAt l j = givenFrom (getD l (5 * j) 0) (getD l (5 * j + 1) 0) (getD l (5 * j + 2) 0) (getD l (5 * j + 3) 0) (getD l (5 * j + 4) 0)
+givenAt l j = givenFrom (getD l (slotNumbers * j) 0) (getD l (slotNumbers * j + 1) 0) (getD l (slotNumbers * j + 2) 0) (getD l (slotNumbers * j + 3) 0) (getD l (slotNumbers * j + 4) 0)
 
 unfoldable pub isSlot : Given → Bool
 isSlot NotSlot = false
@@ -96,7 +104,7 @@ givenLayout h n pool numbers = record { header = h; pool = pool; slots = givenSl
 -- a pool name with version 3 alone, and the rules of a layout
 unfoldable pub writable : Header → ℕ → List ℕ → List ℕ → Bool
 writable h n pool numbers =
-    eqb (length numbers) (5 * n) && allGiven numbers n 0 && eqb (length pool) (headerSize (h .magic) - 32)
+    eqb (length numbers) (slotNumbers * n) && allGiven numbers n 0 && eqb (length pool) (headerSize (h .magic) - plainHeader)
     && layoutRules h (givenSlots numbers n 0)
 
 -- "before it looks at the room (17)"

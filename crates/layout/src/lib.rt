@@ -1,4 +1,5 @@
 // Striping layouts, version 1 and 3: reader, slot reader, writer and slot rewrite.
+use fid::FID_SIZE;
 use fid::Fid;
 use fid::OstFid;
 ghost use mathlib.Core.Path.{_≡_};
@@ -6,9 +7,9 @@ ghost use mathlib.Core.Bool.{true, _&&_};
 ghost use Prim.Native.Nat.{_+_, _*_, _≤_};
 ghost use lib.ListN.{length};
 ghost use lib.Seq.{sets};
-ghost use Rattle.layout.specs.Slot.{zeroSlot, slotOf, encodeSlot, decodeSlots, encodeSlots, allowedSlot, allowedSlots, slotNames};
-ghost use Rattle.layout.specs.Layout.{headerSize, decodeHeader, encodeHeader, stripeCount, slotStart, knownVersion, knownPattern, withHoles, exactLength, acceptedLayout};
-ghost use Rattle.layout.specs.Answers.{readLayout, readSlot, rewriteAnswer, rewriteBytes, zeroGiven, givenFrom, givenAt, isSlot, slotGiven, givenSlots, allGiven, writable, writeLayout, writeBytes};
+ghost use Rattle.layout.specs.Slot.{slotSize, zeroSlot, slotOf, encodeSlot, decodeSlots, encodeSlots, allowedSlot, allowedSlots, slotNames};
+ghost use Rattle.layout.specs.Layout.{plainHeader, stripeCountAt, headerSize, decodeHeader, encodeHeader, stripeCount, slotStart, knownVersion, knownPattern, withHoles, exactLength, acceptedLayout};
+ghost use Rattle.layout.specs.Answers.{slotNumbers, readLayout, readSlot, rewriteAnswer, rewriteBytes, zeroGiven, givenFrom, givenAt, isSlot, slotGiven, givenSlots, allGiven, writable, writeLayout, writeBytes};
 
 // The greatest number of slots.
 pub const MAX_SLOTS: usize = 160;
@@ -19,6 +20,43 @@ pub const MAX_INDEX: u32 = 65535;
 pub const MAGIC_ONE: u32 = 0x0bd1_0bd0;
 
 pub const MAGIC_THREE: u32 = 0x0bd3_0bd0;
+
+// Where generation and OST index stand in a slot, after its FID.
+const SLOT_GENERATION_AT: usize = FID_SIZE;
+
+const SLOT_INDEX_AT: usize = SLOT_GENERATION_AT + 4;
+
+// The bytes of a slot.
+pub const SLOT_SIZE: usize = SLOT_INDEX_AT + 4;
+
+// Where the fields of a header stand, after the 4 bytes of the magic number.
+const PATTERN_AT: usize = 4;
+
+const OWN_ID_AT: usize = PATTERN_AT + 4;
+
+const OWN_SEQUENCE_AT: usize = OWN_ID_AT + 8;
+
+const STRIPE_SIZE_AT: usize = OWN_SEQUENCE_AT + 8;
+
+const STRIPE_COUNT_AT: usize = STRIPE_SIZE_AT + 4;
+
+const GENERATION_AT: usize = STRIPE_COUNT_AT + 2;
+
+// The bytes of a header, without and with a pool name.
+pub const PLAIN_HEADER: usize = GENERATION_AT + 2;
+
+const POOL_SIZE: usize = 16;
+
+pub const POOL_HEADER: usize = PLAIN_HEADER + POOL_SIZE;
+
+// The bytes of the longest layout.
+pub const MAX_LAYOUT: usize = POOL_HEADER + SLOT_SIZE * MAX_SLOTS;
+
+// The numbers of a slot that is handed in.
+pub const SLOT_NUMBERS: usize = 5;
+
+// The greatest number of 32 bits.
+pub const MAX_WORD: u64 = 0xffff_ffff;
 
 const PLAIN_PATTERN: u32 = 1;
 
@@ -87,13 +125,13 @@ fn is_zero_slot(f: Fid, g: u32, i: u32) -> bool
 
 // Slot j of the slot area, the part of a layout after its header.
 pub fn slot_at(area: &[u8], j: usize) -> Slot
-    requires { ⌜ 24 * j + 24 ≤ length (now area) ⌝ }
+    requires { ⌜ slotSize * j + slotSize ≤ length (now area) ⌝ }
     ensures { λ r. ⌜ r ≡ slotOf (now (area .entry)) j ⌝ }
 {
-    let at = 24 * j;
+    let at = SLOT_SIZE * j;
     let f = fid::read_fid(area, at);
-    let g = wire::le32(area, at + 16);
-    let i = wire::le32(area, at + 20);
+    let g = wire::le32(area, at + SLOT_GENERATION_AT);
+    let i = wire::le32(area, at + SLOT_INDEX_AT);
     if is_zero_slot(f, g, i) {
         Slot::Hole
     } else {
@@ -118,8 +156,7 @@ pub fn allowed_slot(holes: bool, s: Slot) -> bool
     match s {
         Slot::Hole => holes,
         Slot::Names(f, _, i) => {
-            let g = f.0;
-            if !fid::is_good(g) {
+            if !fid::good_object(f) {
                 return false;
             }
             i <= MAX_INDEX
@@ -129,7 +166,7 @@ pub fn allowed_slot(holes: bool, s: Slot) -> bool
 
 // Whether each of the first slots of a slot area is allowed.
 fn allowed_slots(area: &[u8], count: usize, holes: bool) -> bool
-    requires { ⌜ 24 * count ≤ length (now area) ⌝ }
+    requires { ⌜ slotSize * count ≤ length (now area) ⌝ }
     ensures { λ r. ⌜ r ≡ allowedSlots holes (decodeSlots count (now (area .entry))) ⌝ }
 {
     for j in 0..count {
@@ -143,7 +180,7 @@ fn allowed_slots(area: &[u8], count: usize, holes: bool) -> bool
 
 // Writes a slot over the 24 bytes that it is lent.
 pub fn put_slot(part: &mut [u8], s: Slot)
-    requires { ⌜ length (now part) ≡ 24 ⌝ }
+    requires { ⌜ length (now part) ≡ slotSize ⌝ }
     ensures { λ _. ⌜ now (part .exit) ≡ encodeSlot s ⌝ }
 {
     match s {
@@ -155,19 +192,19 @@ pub fn put_slot(part: &mut [u8], s: Slot)
         Slot::Names(f, g, i) => {
             let named = f.0;
             fid::write_fid(part, 0, named);
-            wire::put_le32(part, 16, g);
-            wire::put_le32(part, 20, i);
+            wire::put_le32(part, SLOT_GENERATION_AT, g);
+            wire::put_le32(part, SLOT_INDEX_AT, i);
         }
     }
 }
 
 // Rewrites slot j in place, the slots starting at h: its 24 bytes are lent to the slot writer.
 pub fn set_slot(layout: &mut [u8], h: usize, j: usize, s: Slot)
-    requires { ⌜ h + 24 * j + 24 ≤ length (now layout) ⌝ }
-    ensures { λ _. ⌜ now (layout .exit) ≡ sets (now (layout .entry)) (h + 24 * j) (encodeSlot s) ⌝ }
+    requires { ⌜ h + slotSize * j + slotSize ≤ length (now layout) ⌝ }
+    ensures { λ _. ⌜ now (layout .exit) ≡ sets (now (layout .entry)) (h + slotSize * j) (encodeSlot s) ⌝ }
 {
-    let a = h + 24 * j;
-    let e = a + 24;
+    let a = h + SLOT_SIZE * j;
+    let e = a + SLOT_SIZE;
     put_slot(&mut layout[a..e], s);
 }
 
@@ -175,7 +212,11 @@ pub fn set_slot(layout: &mut [u8], h: usize, j: usize, s: Slot)
 pub fn header_size(magic: u32) -> usize
     ensures { λ r. ⌜ r ≡ headerSize magic ⌝ }
 {
-    if magic == MAGIC_THREE { 48 } else { 32 }
+    if magic == MAGIC_THREE {
+        POOL_HEADER
+    } else {
+        PLAIN_HEADER
+    }
 }
 
 // Where the slots start.
@@ -188,24 +229,24 @@ pub fn slot_start(layout: &[u8]) -> usize
 
 // The stripe count of a header.
 pub fn stripe_count(layout: &[u8]) -> u16
-    requires { ⌜ 30 ≤ length (now layout) ⌝ }
+    requires { ⌜ stripeCountAt + 2 ≤ length (now layout) ⌝ }
     ensures { λ r. ⌜ r ≡ stripeCount (now (layout .entry)) ⌝ }
 {
-    wire::le16(layout, 28)
+    wire::le16(layout, STRIPE_COUNT_AT)
 }
 
 // The header that a layout begins with.
 pub fn read_header(layout: &[u8]) -> Header
-    requires { ⌜ 32 ≤ length (now layout) ⌝ }
+    requires { ⌜ plainHeader ≤ length (now layout) ⌝ }
     ensures { λ r. ⌜ r ≡ decodeHeader (now (layout .entry)) ⌝ }
 {
     Header {
         magic: wire::le32(layout, 0),
-        pattern: wire::le32(layout, 4),
-        oid: wire::le64(layout, 8),
-        seq: wire::le64(layout, 16),
-        stripe: wire::le32(layout, 24),
-        generation: wire::le16(layout, 30),
+        pattern: wire::le32(layout, PATTERN_AT),
+        oid: wire::le64(layout, OWN_ID_AT),
+        seq: wire::le64(layout, OWN_SEQUENCE_AT),
+        stripe: wire::le32(layout, STRIPE_SIZE_AT),
+        generation: wire::le16(layout, GENERATION_AT),
     }
 }
 
@@ -250,12 +291,12 @@ pub fn with_holes(h: Header) -> bool
 fn exact_length(layout: &[u8]) -> bool
     ensures { λ r. ⌜ r ≡ exactLength (now (layout .entry)) ⌝ }
 {
-    if layout.len() < 32 {
+    if layout.len() < PLAIN_HEADER {
         return false;
     }
     let h = slot_start(layout);
     let n = stripe_count(layout) as usize;
-    layout.len() == h + 24 * n
+    layout.len() == h + SLOT_SIZE * n
 }
 
 // Whether a layout meets every rule.
@@ -358,13 +399,13 @@ pub fn given_from(k: u64, s: u64, o: u64, g: u64, i: u64) -> Given
     if k != 1 {
         return Given::NotSlot;
     }
-    if 0xffff_ffff < o {
+    if MAX_WORD < o {
         return Given::NotSlot;
     }
-    if 0xffff_ffff < g {
+    if MAX_WORD < g {
         return Given::NotSlot;
     }
-    if 0xffff_ffff < i {
+    if MAX_WORD < i {
         return Given::NotSlot;
     }
     let f = Fid {
@@ -377,10 +418,10 @@ pub fn given_from(k: u64, s: u64, o: u64, g: u64, i: u64) -> Given
 
 // The j-th slot of a list of numbers, five to a slot.
 fn given_at(numbers: &[u64], j: usize) -> Given
-    requires { ⌜ 5 * j + 5 ≤ length (now numbers) ⌝ }
+    requires { ⌜ slotNumbers * j + slotNumbers ≤ length (now numbers) ⌝ }
     ensures { λ r. ⌜ r ≡ givenAt (now (numbers .entry)) j ⌝ }
 {
-    let a = 5 * j;
+    let a = SLOT_NUMBERS * j;
     given_from(
         numbers[a],
         numbers[a + 1],
@@ -402,7 +443,7 @@ fn allowed_given(holes: bool, g: Given) -> bool
 
 // Whether each of the slots handed in is one, and allowed.
 fn allowed_numbers(numbers: &[u64], count: usize, holes: bool) -> bool
-    requires { ⌜ length (now numbers) ≡ 5 * count ⌝ }
+    requires { ⌜ length (now numbers) ≡ slotNumbers * count ⌝ }
     ensures { λ r. ⌜ r ≡ (allGiven (now (numbers .entry)) count 0 && allowedSlots holes (givenSlots (now (numbers .entry)) count 0)) ⌝ }
 {
     for j in 0..count {
@@ -421,10 +462,10 @@ pub fn may_write(h: Header, count: usize, pool: &[u8], numbers: &[u64]) -> bool
     if MAX_SLOTS < count {
         return false;
     }
-    if numbers.len() != 5 * count {
+    if numbers.len() != SLOT_NUMBERS * count {
         return false;
     }
-    if pool.len() != header_size(h.magic) - 32 {
+    if pool.len() != header_size(h.magic) - PLAIN_HEADER {
         return false;
     }
     if !known_header(h) {
@@ -433,34 +474,34 @@ pub fn may_write(h: Header, count: usize, pool: &[u8], numbers: &[u64]) -> bool
     allowed_numbers(numbers, count, with_holes(h))
 }
 
-// Writes a header with a stripe count over the first 32 bytes.
+// Writes a header with a stripe count over the first bytes.
 pub fn write_header(dest: &mut [u8], h: Header, count: u16)
-    requires { ⌜ 32 ≤ length (now dest) ⌝ }
+    requires { ⌜ plainHeader ≤ length (now dest) ⌝ }
     ensures { λ _. ⌜ now (dest .exit) ≡ sets (now (dest .entry)) 0 (encodeHeader h count) ⌝ }
 {
     wire::put_le32(dest, 0, h.magic);
-    wire::put_le32(dest, 4, h.pattern);
-    wire::put_le64(dest, 8, h.oid);
-    wire::put_le64(dest, 16, h.seq);
-    wire::put_le32(dest, 24, h.stripe);
-    wire::put_le16(dest, 28, count);
-    wire::put_le16(dest, 30, h.generation);
+    wire::put_le32(dest, PATTERN_AT, h.pattern);
+    wire::put_le64(dest, OWN_ID_AT, h.oid);
+    wire::put_le64(dest, OWN_SEQUENCE_AT, h.seq);
+    wire::put_le32(dest, STRIPE_SIZE_AT, h.stripe);
+    wire::put_le16(dest, STRIPE_COUNT_AT, count);
+    wire::put_le16(dest, GENERATION_AT, h.generation);
 }
 
-// Copies the pool name to its place after the 32 bytes.
+// Copies the pool name to its place after the plain header.
 fn write_pool(dest: &mut [u8], pool: &[u8])
-    requires { ⌜ 32 + length (now pool) ≤ length (now dest) ⌝ }
-    ensures { λ _. ⌜ now (dest .exit) ≡ sets (now (dest .entry)) 32 (now (pool .entry)) ⌝ }
+    requires { ⌜ plainHeader + length (now pool) ≤ length (now dest) ⌝ }
+    ensures { λ _. ⌜ now (dest .exit) ≡ sets (now (dest .entry)) plainHeader (now (pool .entry)) ⌝ }
 {
     for i in 0..pool.len() {
         let b = pool[i];
-        dest[32 + i] = b;
+        dest[PLAIN_HEADER + i] = b;
     }
 }
 
 // Writes the j-th of the slots handed in over the 24 bytes that it is lent.
 fn put_given(part: &mut [u8], numbers: &[u64], j: usize)
-    requires { ⌜ (length (now part) ≡ 24) × (5 * j + 5 ≤ length (now numbers)) ⌝ }
+    requires { ⌜ (length (now part) ≡ slotSize) × (slotNumbers * j + slotNumbers ≤ length (now numbers)) ⌝ }
     ensures { λ _. ⌜ now (part .exit) ≡ encodeSlot (slotGiven (givenAt (now (numbers .entry)) j)) ⌝ }
 {
     let g = given_at(numbers, j);
@@ -472,12 +513,12 @@ fn put_given(part: &mut [u8], numbers: &[u64], j: usize)
 
 // Writes the slots handed in, from a place on.
 fn write_slots(dest: &mut [u8], start: usize, numbers: &[u64], count: usize)
-    requires { ⌜ (start + 24 * count ≤ length (now dest)) × (length (now numbers) ≡ 5 * count) ⌝ }
+    requires { ⌜ (start + slotSize * count ≤ length (now dest)) × (length (now numbers) ≡ slotNumbers * count) ⌝ }
     ensures { λ _. ⌜ now (dest .exit) ≡ sets (now (dest .entry)) start (encodeSlots (givenSlots (now (numbers .entry)) count 0)) ⌝ }
 {
     for j in 0..count {
-        let a = start + 24 * j;
-        let e = a + 24;
+        let a = start + SLOT_SIZE * j;
+        let e = a + SLOT_SIZE;
         put_given(&mut dest[a..e], numbers, j);
     }
 }
@@ -491,7 +532,7 @@ pub fn write(h: Header, count: usize, pool: &[u8], numbers: &[u64], dest: &mut [
         return Written::BadFields;
     }
     let start = header_size(h.magic);
-    let size = start + 24 * count;
+    let size = start + SLOT_SIZE * count;
     if dest.len() < size {
         return Written::TooShort;
     }
