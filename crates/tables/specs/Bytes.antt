@@ -6,10 +6,10 @@ use lib.ListN.{length, getD, take, drop}
 use lib.Dec.{eqb}
 use Rattle.wire.specs.Numbers.{le, bytes}
 use Rattle.wire.specs.Rows.{rows}
-use Rattle.fid.specs.Fid.{decodeFid, encodeFid, zeroFid, sameFid}
+use Rattle.fid.specs.Fid.{fidSize, decodeFid, encodeFid, zeroFid, sameFid}
 use Rattle.fid.specs.declared.Fid.{Fid}
 use Rattle.fid.specs.declared.OstFid.{OstFid}
-use Rattle.layout.specs.Layout.{decodeLayout, encodeLayout}
+use Rattle.layout.specs.Layout.{maxLayout, decodeLayout, encodeLayout}
 use Rattle.tables.specs.Records.{Parent, ParentRow, noParent, parent, ObjectRow, noObject, object, Tables}
 use Rattle.tables.specs.declared.Owner.{Owner}
 use Rattle.tables.specs.declared.Claim.{Claim}
@@ -18,7 +18,7 @@ use Rattle.tables.specs.declared.Object.{Object}
 
 -- "3,888 bytes of room for the layout"
 abbrev pub layoutRoom : ℕ
-layoutRoom = 3888
+layoutRoom = maxLayout
 
 -- "Parent row, 3,915 bytes: used mark 1 byte, self FID 16, uid 4, gid 4, layout length 2", and the room
 abbrev pub parentSize : ℕ
@@ -30,7 +30,7 @@ objectSize = 46
 
 -- "Reserve: a list of good OST FIDs, 16 bytes each"
 abbrev pub entrySize : ℕ
-entrySize = 16
+entrySize = fidSize
 
 -- "used mark 1 byte (0 or 1)"
 unfoldable pub isUsed : List ℕ → Bool

@@ -13,7 +13,7 @@ ghost use Rattle.tables.specs.Bytes.{objectSize, parentSize, layoutRoom,
 ghost use Rattle.tables.specs.Check.{selfFid};
 
 // The room for a layout, and where it starts: after mark, self FID, uid, gid and layout length.
-pub const LAYOUT_ROOM: usize = 3888;
+pub const LAYOUT_ROOM: usize = layout::MAX_LAYOUT;
 
 pub const LAYOUT_START: usize = 27;
 
@@ -22,7 +22,7 @@ pub const PARENT_SIZE: usize = LAYOUT_START + LAYOUT_ROOM;
 
 pub const OBJECT_SIZE: usize = 46;
 
-pub const ENTRY_SIZE: usize = 16;
+pub const ENTRY_SIZE: usize = fid::FID_SIZE;
 
 // Row r of a table.
 pub fn row_at(table: &[u8], size: usize, r: usize) -> &[u8]
