@@ -8,13 +8,13 @@ use native.Mathlib.Nat.{mod-eq-of-lt}
 use native.Mathlib.Omega.{arith}
 use lib.Dec.{leb, eqb}
 use lib.ListN.{length, take, drop, length-append, length-drop}
-use lib.Seq.{sets, drop-drop, take-add, drop-at, drop-append-le}
+use lib.Seq.{sets, drop-drop, take-add, drop-at}
 use Rattle.wire.specs.Numbers.{le, bytes}
 use Rattle.fid.specs.Fid.{idAt, versionAt, fidSize, leastSequence, greatestSequence, goodSequence, goodNumber, goodFid, sameFid, decodeFid, encodeFid}
 use Rattle.fid.specs.declared.Fid.{Fid}
 use Rattle.wire.proofs.Both.{and-first}
 use Rattle.wire.proofs.Splice.{sets-at}
-use Rattle.wire.proofs.NumberLaws.{length-bytes, le-bytes, bytes-le, le-append, Bytes, bytes-drop}
+use Rattle.wire.proofs.NumberLaws.{length-bytes, le-bytes, bytes-le, le-small, le-small-at, Bytes, bytes-drop}
 
 module _ (f : Fid) where
   pub number-low : f .seq < leastSequence → false ≡ goodNumber f
@@ -74,6 +74,11 @@ pub record Fits (f : Fid) : Type 0 where
   pub oid : f .oid < 2 ^ 32
   pub ver : f .ver < 2 ^ 32
 
+-- what is read from bytes fits
+pub fid-fits : (l : List ℕ) → Bytes l → Fits (decodeFid l)
+unfolding decodeFid
+fid-fits l h = record { seq = le-small 8 l h; oid = le-small-at 4 idAt l h; ver = le-small-at 4 versionAt l h }
+
 pub decode-encode : (f : Fid) (r : List ℕ) → Fits f → decodeFid (encodeFid f ++ r) ≡ f
 unfolding decodeFid encodeFid
 decode-encode f r h =
@@ -98,17 +103,6 @@ encode-decode l h k =
       bytes-le 4 (drop versionAt l) (bytes-drop versionAt l h) (simp length-drop (omega arith)),
       ← take-add idAt 4 l,
       ← take-add versionAt 4 l,
-    )
-
-pub decode-append : (p q : List ℕ) → fidSize ≤ length p → decodeFid (p ++ q) ≡ decodeFid p
-unfolding decodeFid
-decode-append p q h =
-    rw (
-      le-append 8 p q (omega arith),
-      drop-append-le idAt p q (omega arith),
-      le-append 4 (drop idAt p) q (rw length-drop (omega arith)),
-      drop-append-le versionAt p q (omega arith),
-      le-append 4 (drop versionAt p) q (rw length-drop (omega arith)),
     )
 
 -- the sequence of a good FID is not 0

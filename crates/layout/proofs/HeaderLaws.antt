@@ -11,7 +11,7 @@ use lib.ListN.{length, take, drop, length-append, length-drop}
 use lib.Seq.{sets, take-add, drop-at}
 use Rattle.wire.specs.Numbers.{le, bytes}
 use Rattle.wire.proofs.Splice.{sets-at}
-use Rattle.wire.proofs.NumberLaws.{Bytes, bytes-drop, bytes-le, length-bytes, le-bytes}
+use Rattle.wire.proofs.NumberLaws.{Bytes, bytes-drop, bytes-le, length-bytes, le-bytes, le-small, le-small-at}
 use Rattle.layout.specs.declared.Header.{Header}
 use Rattle.layout.specs.Layout.{patternAt, ownIdAt, ownSequenceAt, stripeSizeAt, stripeCountAt, generationAt, plainHeader, poolHeader, headerSize, magicOne, magicThree, decodeHeader, encodeHeader, stripeCount, knownVersion, knownPattern, plainPattern, holePattern}
 
@@ -119,6 +119,19 @@ pub record FitHeader (h : Header) : Type 0 where
   pub seq : h .seq < 2 ^ 64
   pub stripe : h .stripe < 2 ^ 32
   pub generation : h .generation < 2 ^ 16
+
+-- what is read from bytes fits
+pub header-fits : (l : List ℕ) → Bytes l → FitHeader (decodeHeader l)
+unfolding decodeHeader
+header-fits l h =
+    record {
+      magic = le-small 4 l h;
+      pattern = le-small-at 4 patternAt l h;
+      oid = le-small-at 8 ownIdAt l h;
+      seq = le-small-at 8 ownSequenceAt l h;
+      stripe = le-small-at 4 stripeSizeAt l h;
+      generation = le-small-at 2 generationAt l h;
+    }
 
 -- a number after others, read back
 pub field : (n v k : ℕ) (before after l : List ℕ) → l ≡ before ++ (bytes n v ++ after) → length before ≡ k → v < 256 ^ n → le n (drop k l) ≡ v

@@ -1,22 +1,22 @@
 -- Laws of slots: the tests case by case, the round trips, and the slots of a slot area. Assumes nothing.
 use mathlib.Core.Path.{_≡_, refl, sym, ap, _∙_}
-use mathlib.Core.List.{List, [], _∷_, _++_, append-assoc}
+use mathlib.Core.List.{List, [], _∷_, _++_, append-assoc, append-nil}
 use mathlib.Core.Bool.{Bool, true, false, cond, _&&_}
 use Prim.Native.Nat.{ℕ, zero, suc, _+_, _-_, _*_, _≤_, _<_, _^_}
 use borrow.Author.Tests.{eq-eqb, ne-eqb, eqb-true}
 use native.Mathlib.Omega.{arith}
 use native.Mathlib.Nat.{mod-eq-of-lt, not-suc-le-zero, sub-zero}
 use lib.Dec.{eqb, leb}
-use lib.ListN.{length, take, drop, set, getD, length-append, length-drop, take-append-drop, replicate}
-use lib.Seq.{sets, length-sets, drop-drop, take-add, drop-at, drop-append-le, length-take-le}
+use lib.ListN.{length, take, drop, set, getD, length-append, length-drop, replicate}
+use lib.Seq.{sets, drop-drop, take-add, drop-at}
 use Rattle.wire.specs.Numbers.{le, bytes}
 use Rattle.wire.proofs.Both.{and-first, and-second}
-use Rattle.wire.proofs.Splice.{sets-at, sets-whole, drop-sets, take-sets-le, drop-sets-add}
-use Rattle.wire.proofs.NumberLaws.{Bytes, bytes-drop, bytes-le, length-bytes, le-bytes, le-append}
+use Rattle.wire.proofs.Splice.{sets-at, sets-whole, sets-mid}
+use Rattle.wire.proofs.NumberLaws.{Bytes, bytes-drop, bytes-le, length-bytes, le-bytes, le-small-at}
 use Rattle.fid.specs.Fid.{decodeFid, encodeFid, goodObject}
 use Rattle.fid.specs.declared.Fid.{Fid}
 use Rattle.fid.specs.declared.OstFid.{OstFid}
-use Rattle.fid.proofs.FidLaws.{length-encode, decode-encode, encode-decode, decode-append, Fits, good-positive}
+use Rattle.fid.proofs.FidLaws.{length-encode, decode-encode, encode-decode, Fits, fid-fits, good-positive}
 use Rattle.layout.specs.declared.Slot.{Slot}
 use Rattle.layout.specs.declared.Slot.the-variants.{Hole, Names}
 use Rattle.layout.specs.Slot.{slotGenerationAt, slotIndexAt, slotSize, zeroSlot, slotFrom, slotOf, decodeSlot, encodeSlot, decodeSlots, encodeSlots, allowedSlot, allowedSlots, maxIndex}
@@ -165,21 +165,6 @@ slot-written-back l h k = go (zeroSlot (decodeFid l) (le 4 (drop slotGenerationA
 
 -- ## The slots of a slot area
 
-pub decode-slot-append : (p q : List ℕ) → slotSize ≤ length p → decodeSlot (p ++ q) ≡ decodeSlot p
-unfolding decodeSlot
-decode-slot-append p q h =
-    rw (
-      decode-append p q (omega arith),
-      drop-append-le slotGenerationAt p q (omega arith),
-      le-append 4 (drop slotGenerationAt p) q (rw length-drop (omega arith)),
-      drop-append-le slotIndexAt p q (omega arith),
-      le-append 4 (drop slotIndexAt p) q (rw length-drop (omega arith)),
-    )
-
-pub decode-slot-take : (l : List ℕ) → slotSize ≤ length l → decodeSlot (take slotSize l) ≡ decodeSlot l
-decode-slot-take l h =
-    sym (decode-slot-append (take slotSize l) (drop slotSize l) (rw (length-take-le slotSize l h) (omega arith))) ∙ ap decodeSlot (take-append-drop slotSize l)
-
 pub length-slots : (n : ℕ) (l : List ℕ) → length (decodeSlots n l) ≡ n
 unfolding decodeSlots
 length-slots zero l = refl
@@ -193,27 +178,29 @@ slots-at (suc n) (suc j) l d h =
     let m : slotSize * suc j ≡ slotSize + slotSize * j = omega arith in
     slots-at n j (drop slotSize l) d (omega arith) ∙ rw (m, drop-drop (slotSize * j) slotSize l)
 
--- a rewritten slot is `set` on the slots
-pub slots-set : (holes : Bool) (n j : ℕ) (l : List ℕ) (s : Slot) → FitSlot s → allowedSlot holes s ≡ true → j < n → slotSize * n ≤ length l →
-    decodeSlots n (sets l (slotSize * j) (encodeSlot s)) ≡ set (decodeSlots n l) j s
-unfolding decodeSlots
-slots-set holes zero j l s ok t h k = absurd (not-suc-le-zero h)
-slots-set holes (suc n) zero l s ok t h k =
-    let e : sets l 0 (encodeSlot s) ≡ encodeSlot s ++ drop slotSize l =
-    rw (length-slot s) at (drop-sets (encodeSlot s) l 0 (rw (length-slot s) (omega arith))) in
-    rw (e, slot-read-back holes s (drop slotSize l) ok t, drop-at (encodeSlot s) (drop slotSize l) slotSize (length-slot s))
-slots-set holes (suc n) (suc j) l s ok t h k =
-    let m : slotSize * suc j ≡ slotSize + slotSize * j = omega arith in
-    let x : List ℕ = sets l (slotSize + slotSize * j) (encodeSlot s) in
-    let e : decodeSlot x ≡ decodeSlot l =
-    sym (decode-slot-take x (rw length-sets (omega arith))) ∙ ap decodeSlot (take-sets-le (encodeSlot s) l slotSize (slotSize + slotSize * j) (omega arith))
-    ∙ decode-slot-take l (omega arith) in
-    rw (m, e, drop-sets-add (encodeSlot s) l slotSize (slotSize * j), slots-set holes n j (drop slotSize l) s ok t (omega arith) (rw length-drop (omega arith)))
-
 pub length-encode-slots : (ss : List Slot) → length (encodeSlots ss) ≡ slotSize * length ss
 unfolding encodeSlots
 length-encode-slots [] = refl
 length-encode-slots (s ∷ ss) = rw (length-append, length-slot s, length-encode-slots ss) (omega arith)
+
+-- slots one after the other, and one of them changed
+pub encode-append : (ss ts : List Slot) → encodeSlots (ss ++ ts) ≡ encodeSlots ss ++ encodeSlots ts
+unfolding encodeSlots
+encode-append [] ts = refl
+encode-append (s ∷ ss) ts = rw (encode-append ss ts) (sym (append-assoc (encodeSlot s) (encodeSlots ss) (encodeSlots ts)))
+
+pub encode-set : (ss : List Slot) (j : ℕ) (s : Slot) → j < length ss → encodeSlots (set ss j s) ≡ sets (encodeSlots ss) (slotSize * j) (encodeSlot s)
+unfolding encodeSlots
+encode-set [] j s h = absurd (not-suc-le-zero h)
+encode-set (x ∷ ss) zero s h =
+    let w : sets (encodeSlot x) 0 (encodeSlot s) ≡ encodeSlot s = sets-whole (encodeSlot s) (encodeSlot x) (length-slot x ∙ sym (length-slot s)) in
+    sym (sets-mid [] (encodeSlots ss) (encodeSlot s) (encodeSlot x) 0 (omega (arith, length-slot s, length-slot x)) ∙ ap (λ (l : List ℕ). l ++ encodeSlots ss) w)
+encode-set (x ∷ ss) (suc j) s h =
+    let k : slotSize * suc j ≡ length (encodeSlot x) + slotSize * j = omega (arith, length-slot x) in
+    let m : slotSize * j + length (encodeSlot s) ≤ length (encodeSlots ss) = omega (arith, length-slot s, length-encode-slots ss) in
+    let e : sets (encodeSlot x ++ (encodeSlots ss ++ [])) (length (encodeSlot x) + slotSize * j) (encodeSlot s) ≡ encodeSlot x ++ (sets (encodeSlots ss) (slotSize * j) (encodeSlot s) ++ []) =
+    sets-mid (encodeSlot x) [] (encodeSlot s) (encodeSlots ss) (slotSize * j) m in
+    rw (k, encode-set ss j s (omega arith)) (sym (rw (append-nil (encodeSlots ss), append-nil (sets (encodeSlots ss) (slotSize * j) (encodeSlot s))) at e))
 
 -- slots, read and written
 pub slots-written-back : (n : ℕ) (l : List ℕ) → Bytes l → slotSize * n ≤ length l → encodeSlots (decodeSlots n l) ≡ take (slotSize * n) l
@@ -232,6 +219,26 @@ slots-written-back (suc n) l h k =
 unfoldable pub FitSlots : List Slot → Type 0
 FitSlots [] = Unit {0}
 FitSlots (s ∷ ss) = FitSlot s × FitSlots ss
+
+-- what is read from bytes fits
+slot-fits : (l : List ℕ) → Bytes l → FitSlot (decodeSlot l)
+unfolding decodeSlot slotFrom FitSlot
+slot-fits l h = go (zeroSlot (decodeFid l) (le 4 (drop slotGenerationAt l)) (le 4 (drop slotIndexAt l)))
+  where
+    go : (b : Bool) → FitSlot (cond b Hole (Names (record { 0 = decodeFid l }) (le 4 (drop slotGenerationAt l)) (le 4 (drop slotIndexAt l))))
+    go true = tt
+    go false = (fid-fits l h, le-small-at 4 slotGenerationAt l h, le-small-at 4 slotIndexAt l h)
+
+pub slots-fit : (n : ℕ) (l : List ℕ) → Bytes l → FitSlots (decodeSlots n l)
+unfolding decodeSlots FitSlots
+slots-fit zero l h = tt
+slots-fit (suc n) l h = (slot-fits l h, slots-fit n (drop slotSize l) (bytes-drop slotSize l h))
+
+pub fit-set : (ss : List Slot) (j : ℕ) (s : Slot) → FitSlots ss → FitSlot s → FitSlots (set ss j s)
+unfolding FitSlots
+fit-set [] j s f h = tt
+fit-set (x ∷ ss) zero s f h = (h, f .1)
+fit-set (x ∷ ss) (suc j) s f h = (f .0, fit-set ss j s (f .1) h)
 
 -- allowed slots, written and read
 pub slots-read-back : (holes : Bool) (ss : List Slot) (r : List ℕ) → FitSlots ss → allowedSlots holes ss ≡ true →

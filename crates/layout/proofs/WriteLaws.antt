@@ -1,6 +1,6 @@
 -- Laws of the writer: what it takes, and the stores of header, pool name and slots. Assumes nothing.
 use mathlib.Core.Path.{_≡_, refl, sym, ap, _∙_}
-use mathlib.Core.List.{List, [], _∷_, _++_, append-nil, append-assoc}
+use mathlib.Core.List.{List, [], _∷_, _++_, append-nil}
 use mathlib.Core.Bool.{Bool, true, false, _&&_}
 use Prim.Native.Nat.{ℕ, _+_, _-_, _*_, _≤_, _<_}
 use borrow.Author.Tests.{eq-eqb, ne-eqb, le-leb, lt-leb, eqb-true}
@@ -13,12 +13,11 @@ use Rattle.wire.proofs.Both.{and-first, and-second}
 use Rattle.wire.proofs.Splice.{sets-at, put-sets}
 use borrow.Rule.Slice.PartMut.{putMid}
 use Rattle.layout.specs.declared.Header.{Header}
-use Rattle.layout.specs.declared.Slot.{Slot}
 use Rattle.layout.specs.declared.Written.the-variants.{BadFields, TooShort, Bytes}
 use Rattle.layout.specs.Slot.{slotSize, allowedSlots, encodeSlot, encodeSlots}
 use Rattle.layout.specs.Layout.{plainHeader, headerSize, encodeHeader, encodeLayout, knownVersion, knownPattern, withHoles, maxSlots, fewSlots, layoutSize, layoutRules}
 use Rattle.layout.specs.Answers.{slotNumbers, givenAt, slotGiven, givenSlots, allGiven, givenLayout, writable, writeLayout, leftBy, writeBytes}
-use Rattle.layout.proofs.SlotLaws.{length-slot, length-encode-slots}
+use Rattle.layout.proofs.SlotLaws.{length-slot, length-encode-slots, encode-append}
 use Rattle.layout.proofs.HeaderLaws.{length-header, size-least}
 use Rattle.layout.proofs.LayoutLaws.{rules-few}
 use Rattle.layout.proofs.GivenLaws.{length-given, given-more}
@@ -122,11 +121,6 @@ module _ (d pool : List ℕ) where
   pub pool-end : (i : ℕ) (x : List ℕ) → x ≡ poolDone d pool i → length pool ≤ i → x ≡ sets d plainHeader pool
   unfolding poolDone
   pool-end i x q h = rw (q, take-all i pool h)
-
-encode-append : (ss ts : List Slot) → encodeSlots (ss ++ ts) ≡ encodeSlots ss ++ encodeSlots ts
-unfolding encodeSlots
-encode-append [] ts = refl
-encode-append (s ∷ ss) ts = rw (encode-append ss ts) (sym (append-assoc (encodeSlot s) (encodeSlots ss) (encodeSlots ts)))
 
 -- the destination with the first j slots from a place on
 pub slotsDone : List ℕ → List ℕ → ℕ → ℕ → List ℕ

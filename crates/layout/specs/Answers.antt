@@ -5,8 +5,8 @@ use mathlib.Core.Bool.{Bool, true, false, cond, _&&_}
 use lib.ListN.{length, getD}
 use lib.Seq.{sets}
 use lib.Dec.{leb, ltb, eqb}
-use Rattle.layout.specs.Slot.{slotSize, allowedSlot, encodeSlot}
-use Rattle.layout.specs.Layout.{Layout, plainHeader, decodeHeader, decodeLayout, encodeLayout, acceptedLayout, stripeCount, slotStart, withHoles, headerSize, layoutSize, layoutRules}
+use Rattle.layout.specs.Slot.{allowedSlot}
+use Rattle.layout.specs.Layout.{Layout, plainHeader, decodeHeader, decodeLayout, encodeLayout, changed, acceptedLayout, stripeCount, withHoles, headerSize, layoutSize, layoutRules}
 use Rattle.layout.specs.declared.Header.{Header}
 use Rattle.layout.specs.declared.Slot.{Slot}
 use Rattle.layout.specs.declared.Slot.the-variants.{Hole, Names}
@@ -48,9 +48,9 @@ unfoldable pub rewriteAnswer : List ℕ → ℕ → Slot → ℕ
 rewriteAnswer l j s =
     cond (acceptedLayout l && allowedSlot (withHoles (decodeHeader l)) s) (cond (ltb j (stripeCount l)) 0 16) 13
 
--- "Rewriting a slot touches only that slot's 24 bytes inside the lent layout"; a refusal changes nothing
+-- the bytes of the layout with slot j changed; a refusal changes nothing
 unfoldable pub rewriteBytes : List ℕ → ℕ → Slot → List ℕ
-rewriteBytes l j s = cond (eqb (rewriteAnswer l j s) 0) (sets l (slotStart l + slotSize * j) (encodeSlot s)) l
+rewriteBytes l j s = cond (eqb (rewriteAnswer l j s) 0) (encodeLayout (changed (decodeLayout l) j s)) l
 
 -- ## The writer
 

@@ -2,7 +2,7 @@
 use Prim.Native.Nat.{ℕ, _+_, _-_, _*_}
 use mathlib.Core.List.{List, _++_}
 use mathlib.Core.Bool.{Bool, cond, _&&_, _||_}
-use lib.ListN.{length, take, drop}
+use lib.ListN.{length, take, drop, set}
 use lib.Dec.{leb, eqb}
 use Rattle.wire.specs.Numbers.{le, bytes}
 use Rattle.layout.specs.Slot.{slotSize, decodeSlots, encodeSlots, allowedSlots}
@@ -90,6 +90,10 @@ decodeLayout l =
 
 unfoldable pub encodeLayout : Layout → List ℕ
 encodeLayout L = encodeHeader (L .header) (length (L .slots)) ++ L .pool ++ encodeSlots (L .slots)
+
+-- a changed slot: the layout with slot j changed, and nothing else
+unfoldable pub changed : Layout → ℕ → Slot → Layout
+changed L j s = record { header = L .header; pool = L .pool; slots = set (L .slots) j s }
 
 -- ## The rules
 

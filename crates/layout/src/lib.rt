@@ -4,11 +4,11 @@ use fid::Fid;
 use fid::OstFid;
 ghost use mathlib.Core.Path.{_≡_};
 ghost use mathlib.Core.Bool.{true, _&&_};
-ghost use Prim.Native.Nat.{_+_, _*_, _≤_};
+ghost use Prim.Native.Nat.{_+_, _*_, _≤_, _<_};
 ghost use lib.ListN.{length};
 ghost use lib.Seq.{sets};
 ghost use Rattle.layout.specs.Slot.{slotSize, zeroSlot, slotOf, encodeSlot, decodeSlots, encodeSlots, allowedSlot, allowedSlots, slotNames};
-ghost use Rattle.layout.specs.Layout.{plainHeader, stripeCountAt, headerSize, decodeHeader, encodeHeader, stripeCount, slotStart, knownVersion, knownPattern, withHoles, exactLength, acceptedLayout};
+ghost use Rattle.layout.specs.Layout.{plainHeader, stripeCountAt, headerSize, decodeHeader, encodeHeader, decodeLayout, encodeLayout, changed, stripeCount, slotStart, knownVersion, knownPattern, withHoles, exactLength, acceptedLayout};
 ghost use Rattle.layout.specs.Answers.{slotNumbers, readLayout, readSlot, rewriteAnswer, rewriteBytes, zeroGiven, givenFrom, givenAt, isSlot, slotGiven, givenSlots, allGiven, writable, writeLayout, writeBytes};
 
 // The greatest number of slots.
@@ -198,16 +198,6 @@ pub fn put_slot(part: &mut [u8], s: Slot)
     }
 }
 
-// Rewrites slot j in place, the slots starting at h: its 24 bytes are lent to the slot writer.
-pub fn set_slot(layout: &mut [u8], h: usize, j: usize, s: Slot)
-    requires { ⌜ h + slotSize * j + slotSize ≤ length (now layout) ⌝ }
-    ensures { λ _. ⌜ now (layout .exit) ≡ sets (now (layout .entry)) (h + slotSize * j) (encodeSlot s) ⌝ }
-{
-    let a = h + SLOT_SIZE * j;
-    let e = a + SLOT_SIZE;
-    put_slot(&mut layout[a..e], s);
-}
-
 // The header's length by the magic number.
 pub fn header_size(magic: u32) -> usize
     ensures { λ r. ⌜ r ≡ headerSize magic ⌝ }
@@ -299,6 +289,17 @@ fn exact_length(layout: &[u8]) -> bool
     layout.len() == h + SLOT_SIZE * n
 }
 
+// Changes slot j of a layout of exact length in place: the slot's 24 bytes are lent to the slot writer.
+pub fn change_slot(layout: &mut [u8], j: usize, s: Slot)
+    requires { ⌜ (exactLength (now layout) ≡ true) × (j < stripeCount (now layout)) ⌝ }
+    ensures { λ _. ⌜ now (layout .exit) ≡ encodeLayout (changed (decodeLayout (now (layout .entry))) j s) ⌝ }
+{
+    let start = slot_start(layout);
+    let a = start + SLOT_SIZE * j;
+    let e = a + SLOT_SIZE;
+    put_slot(&mut layout[a..e], s);
+}
+
 // Whether a layout meets every rule.
 pub fn accepted(layout: &[u8]) -> bool
     ensures { λ r. ⌜ r ≡ acceptedLayout (now (layout .entry)) ⌝ }
@@ -365,8 +366,7 @@ pub fn rewrite(layout: &mut [u8], j: usize, s: Slot) -> u32
     if n <= j {
         return 16;
     }
-    let start = slot_start(layout);
-    set_slot(layout, start, j, s);
+    change_slot(layout, j, s);
     0
 }
 
