@@ -9,7 +9,8 @@ use lib.Dec.{eqb}
 use lib.ListN.{length, getD, set}
 use lib.Seq.{sets}
 use Rattle.layout.specs.Layout.{plainHeader, poolHeader, magicThree, headerSize}
-use Rattle.layout.specs.Answers.{slotNumbers, readNumber, slotReadNumber, givenFrom, givenAt, rewriteAnswer, rewriteBytes}
+use Rattle.layout.specs.Answers.{readNumber, slotReadNumber, rewriteAnswer, rewriteBytes}
+use Rattle.layout_write.specs.Writer.{slotNumbers, slotFields, slotReadFields, givenFrom, givenAt}
 use Rattle.fid.specs.declared.OstFid.{OstFid}
 use Rattle.layout.specs.declared.Header.{Header}
 use Rattle.layout.specs.declared.Slot.{Slot}
@@ -18,10 +19,11 @@ use Rattle.layout.specs.declared.Reading.{Reading}
 use Rattle.layout.specs.declared.Reading.the-variants.{Refused, Accepted}
 use Rattle.layout.specs.declared.SlotRead.{SlotRead}
 use Rattle.layout.specs.declared.SlotRead.the-variants.{BadLayout, NoSlot, SlotIs}
-use Rattle.layout.specs.declared.Given.{Given}
-use Rattle.layout.specs.declared.Given.the-variants.{NotSlot, GivenSlot}
+use Rattle.layout_write.specs.declared.Given.{Given}
+use Rattle.layout_write.specs.declared.Given.the-variants.{NotSlot, GivenSlot}
 use Rattle.capi_out.specs.Out.{outAnswer, outNumbers}
-use Rattle.capi_layout.specs.Layouts.{headerNumbers, versionOf, headerFields, readFields, slotFields, slotReadFields, rewriteGiven, givenLeft, rewriteNumber, rewriteLeft}
+use Rattle.capi_layout.specs.Layouts.{headerNumbers, versionOf, headerFields, readFields, rewriteGiven, givenLeft, rewriteNumber, rewriteLeft}
+use Rattle.layout_write.proofs.SlotNumbers.{fields-five}
 use Rattle.capi_out.proofs.OutLaws.{out-refused, out-short, out-done, two-runs}
 
 -- ## Reading
@@ -69,11 +71,6 @@ module _ (R : Reading) (out : List ℕ) where
         (0 ≡ outAnswer (readNumber R) (readFields R) out) × (x ≡ outNumbers (readNumber R) (readFields R) out)
     unfolding readFields
     read-done x k q = out-done (readNumber R) (readFields R) out x zero-number (rw eight k) (rw e q)
-
-fields-five : (s : Slot) → length (slotFields s) ≡ slotNumbers
-unfolding slotFields
-fields-five Hole = refl
-fields-five (Names f g i) = refl
 
 pub hole-put : (l x y : List ℕ) (s : Slot) → s ≡ Hole → x ≡ sets l 0 (0 ∷ 0 ∷ 0 ∷ 0 ∷ []) → y ≡ set x 4 0 → y ≡ sets l 0 (slotFields s)
 unfolding slotFields

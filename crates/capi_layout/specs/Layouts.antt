@@ -5,16 +5,13 @@ use mathlib.Core.Bool.{cond}
 use lib.Dec.{eqb}
 use lib.ListN.{length}
 use Rattle.layout.specs.Layout.{magicThree, headerSize}
-use Rattle.layout.specs.Answers.{slotNumbers, givenAt, rewriteAnswer, rewriteBytes}
+use Rattle.layout.specs.Answers.{rewriteAnswer, rewriteBytes}
+use Rattle.layout_write.specs.Writer.{slotNumbers, givenAt}
 use Rattle.layout.specs.declared.Header.{Header}
-use Rattle.layout.specs.declared.Slot.{Slot}
-use Rattle.layout.specs.declared.Slot.the-variants.{Hole, Names}
 use Rattle.layout.specs.declared.Reading.{Reading}
 use Rattle.layout.specs.declared.Reading.the-variants.{Refused, Accepted}
-use Rattle.layout.specs.declared.SlotRead.{SlotRead}
-use Rattle.layout.specs.declared.SlotRead.the-variants.{BadLayout, NoSlot, SlotIs}
-use Rattle.layout.specs.declared.Given.{Given}
-use Rattle.layout.specs.declared.Given.the-variants.{NotSlot, GivenSlot}
+use Rattle.layout_write.specs.declared.Given.{Given}
+use Rattle.layout_write.specs.declared.Given.the-variants.{NotSlot, GivenSlot}
 
 -- ## Reading
 
@@ -34,16 +31,6 @@ headerFields h n =
 unfoldable pub readFields : Reading → List ℕ
 readFields Refused = []
 readFields (Accepted h n) = headerFields h n
-
--- "0 hole or 1 named, sequence, id, generation, OST index"
-unfoldable pub slotFields : Slot → List ℕ
-slotFields Hole = 0 ∷ 0 ∷ 0 ∷ 0 ∷ 0 ∷ []
-slotFields (Names f g i) = 1 ∷ f .0 .seq ∷ f .0 .oid ∷ g ∷ i ∷ []
-
-unfoldable pub slotReadFields : SlotRead → List ℕ
-slotReadFields BadLayout = []
-slotReadFields NoSlot = []
-slotReadFields (SlotIs s) = slotFields s
 
 -- ## Rewriting
 

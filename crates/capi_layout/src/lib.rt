@@ -1,18 +1,19 @@
 // Layouts as numbers: read, and one slot rewritten.
-use layout::Given;
 use layout::Header;
 use layout::POOL_HEADER;
 use layout::Reading;
-use layout::SLOT_NUMBERS;
 use layout::Slot;
 use layout::SlotRead;
+use layout_write::Given;
+use layout_write::SLOT_NUMBERS;
 ghost use mathlib.Core.Path.{_≡_};
 ghost use Prim.Native.Nat.{_≤_};
 ghost use lib.ListN.{length};
 ghost use lib.Seq.{sets};
-ghost use Rattle.layout.specs.Answers.{slotNumbers, readLayout, readNumber, readSlot, slotReadNumber};
+ghost use Rattle.layout.specs.Answers.{readLayout, readNumber, readSlot, slotReadNumber};
+ghost use Rattle.layout_write.specs.Writer.{slotNumbers, slotFields, slotReadFields};
 ghost use Rattle.capi_out.specs.Out.{outAnswer, outNumbers};
-ghost use Rattle.capi_layout.specs.Layouts.{headerNumbers, versionOf, headerFields, readFields, slotFields, slotReadFields, rewriteNumber, rewriteLeft};
+ghost use Rattle.capi_layout.specs.Layouts.{headerNumbers, versionOf, headerFields, readFields, rewriteNumber, rewriteLeft};
 
 // The numbers of a header that is handed out.
 const HEADER_NUMBERS: usize = 8;
@@ -114,7 +115,7 @@ pub fn slot_rewrite(layout: &mut [u8], index: u64, slot: &[u64]) -> u32
     if slot.len() != SLOT_NUMBERS {
         return 13;
     }
-    let given = layout::given_from(slot[0], slot[1], slot[2], slot[3], slot[4]);
+    let given = layout_write::given_from(slot[0], slot[1], slot[2], slot[3], slot[4]);
     match given {
         Given::NotSlot => 13,
         Given::GivenSlot(s) => layout::rewrite(layout, index as usize, s),

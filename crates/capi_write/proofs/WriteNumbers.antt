@@ -9,12 +9,13 @@ use lib.Dec.{eqb, leb}
 use lib.ListN.{length, getD, set}
 use Rattle.wire.proofs.Both.{and-first, and-second}
 use Rattle.layout.specs.Layout.{magicOne, magicThree, layoutSize}
-use Rattle.layout.specs.Answers.{maxWord, writable, writeLayout, writtenNumber, leftBy, writeBytes}
+use Rattle.layout_write.specs.Writer.{maxWord, writable, writeLayout, writtenNumber, leftBy, writeBytes}
 use Rattle.layout.specs.declared.Header.{Header}
-use Rattle.layout.specs.declared.Written.the-variants.{BadFields, TooShort, Bytes}
+use Rattle.layout_write.specs.declared.Written.the-variants.{BadFields, TooShort, Bytes}
 use Rattle.capi_write.specs.declared.HeaderGiven.the-variants.{NotHeader, HeaderIs}
 use Rattle.capi_out.specs.Out.{outNumbers}
 use Rattle.capi_write.specs.Write.{headerNumbers, maxHalf, magicOf, isVersion, fieldsFit, fieldsHeader, fieldsCount, headerGiven, headerNumber, headerValues, headerAnswer, headerDest, headerOut, writeNumber, writeValues, writeAnswer, writeDest}
+use Rattle.layout_write.proofs.WriteLaws.{write-took}
 use Rattle.capi_out.proofs.OutLaws.{out-refused, out-short, out-done}
 
 -- ## The fields
@@ -107,16 +108,6 @@ pub given-none : (l : List ℕ) → headerGiven l ≡ NotHeader → fieldsFit l 
 unfolding headerGiven
 given-none l e = given-not l (fieldsFit l) refl e
 
--- the bytes that the writer says it wrote
-pub bytes-size : (h : Header) (n : ℕ) (pool slots dest : List ℕ) (b : ℕ) → writeLayout h n pool slots dest ≡ Bytes b → b ≡ layoutSize (h .magic) n
-unfolding writeLayout
-bytes-size h n pool slots dest b e = go (writable h n pool slots) (leb (layoutSize (h .magic) n) (length dest)) e
-  where
-    go : (u v : Bool) → cond u (cond v (Bytes (layoutSize (h .magic) n)) TooShort) BadFields ≡ Bytes b → b ≡ layoutSize (h .magic) n
-    go true true q = cc
-    go true false q = let z : _≡_ {A = ℕ} 0 1 = cc in absurd (omega (arith, z))
-    go false v q = let z : _≡_ {A = ℕ} 0 1 = cc in absurd (omega (arith, z))
-
 pub count-of : (l : List ℕ) → getD l 5 0 ≡ fieldsCount l
 unfolding fieldsCount
 count-of l = refl
@@ -159,7 +150,7 @@ module _ (h : Header) (n : ℕ) (pool slots dest out : List ℕ) where
       o ≡ set out 0 b → LeavesGiven 0 d o
   unfolding headerAnswer headerDest headerOut headerNumber headerValues writtenNumber
   write-done b d o w k p q =
-      let r = out-done (headerNumber h n pool slots dest) (headerValues h n) out o (rw w) k (rw (← bytes-size h n pool slots dest b w) q) in
+      let r = out-done (headerNumber h n pool slots dest) (headerValues h n) out o (rw w) k (rw (← write-took h n pool slots dest b w .2) q) in
       (r .0, (rw (← r .0) p, r .1))
 
 module _ (fields pool slots dest out : List ℕ) where

@@ -1,7 +1,7 @@
 // A layout written from numbers.
 use layout::Header;
-use layout::MAX_WORD;
-use layout::Written;
+use layout_write::MAX_WORD;
+use layout_write::Written;
 ghost use mathlib.Core.Path.{_≡_};
 ghost use Rattle.capi_out.specs.Out.{outNumbers};
 ghost use Rattle.capi_write.specs.Write.{magicOf, isVersion, fieldsFit, headerGiven, headerAnswer, headerDest, headerOut, writeNumber, writeValues, writeAnswer, writeDest};
@@ -87,13 +87,13 @@ fn write_given(
     ensures dest { λ _. ⌜ now (dest .exit) ≡ headerDest h count (now (pool .entry)) (now (slots .entry)) (now (dest .entry)) (now (out .entry)) ⌝ }
     ensures out { λ _. ⌜ now (out .exit) ≡ headerOut h count (now (pool .entry)) (now (slots .entry)) (now (dest .entry)) (now (out .entry)) ⌝ }
 {
-    if !layout::may_write(h, count, pool, slots) {
+    if !layout_write::may_write(h, count, pool, slots) {
         return 13;
     }
     if out.len() < 1 {
         return 17;
     }
-    let written = layout::write(h, count, pool, slots, dest);
+    let written = layout_write::write(h, count, pool, slots, dest);
     match written {
         Written::BadFields => 13,
         Written::TooShort => 17,

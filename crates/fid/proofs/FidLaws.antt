@@ -3,7 +3,7 @@ use mathlib.Core.Path.{_≡_, refl, _∙_}
 use mathlib.Core.List.{List, _++_, append-assoc}
 use mathlib.Core.Bool.{Bool, true, false, _&&_}
 use Prim.Native.Nat.{ℕ, _+_, _≤_, _<_, _^_}
-use borrow.Author.Tests.{le-leb, lt-leb, eq-eqb, ne-eqb, leb-true}
+use borrow.Author.Tests.{le-leb, lt-leb, eq-eqb, ne-eqb, leb-true, eqb-true}
 use native.Mathlib.Nat.{mod-eq-of-lt}
 use native.Mathlib.Omega.{arith}
 use lib.Dec.{leb, eqb}
@@ -12,7 +12,7 @@ use lib.Seq.{sets, drop-drop, take-add, drop-at}
 use Rattle.wire.specs.Numbers.{le, bytes}
 use Rattle.fid.specs.Fid.{idAt, versionAt, fidSize, leastSequence, greatestSequence, goodSequence, goodNumber, goodFid, sameFid, decodeFid, encodeFid}
 use Rattle.fid.specs.declared.Fid.{Fid}
-use Rattle.wire.proofs.Both.{and-first}
+use Rattle.wire.proofs.Both.{and-first, and-second}
 use Rattle.wire.proofs.Splice.{sets-at}
 use Rattle.wire.proofs.NumberLaws.{length-bytes, le-bytes, bytes-le, le-small, le-small-at, Bytes, bytes-drop}
 
@@ -105,12 +105,26 @@ encode-decode l h k =
       ← take-add versionAt 4 l,
     )
 
--- the sequence of a good FID is not 0
-pub good-positive : (f : Fid) → goodFid f ≡ true → 0 < f .seq
+-- what is known of a good FID
+pub record GoodFacts (f : Fid) : Type 0 where
+  pub least : leastSequence ≤ f .seq
+  pub greatest : f .seq ≤ greatestSequence
+  pub version : f .ver ≡ 0
+
+pub good-facts : (f : Fid) → goodFid f ≡ true → GoodFacts f
 unfolding goodFid goodNumber goodSequence
-good-positive f h =
+good-facts f h =
     let a : Bool = leb leastSequence (f .seq) in
     let b : Bool = leb (f .seq) greatestSequence in
     let d : Bool = leb 1 (f .oid) in
     let v : Bool = eqb (f .ver) 0 in
-    omega (arith, leb-true leastSequence (f .seq) (and-first a b (and-first (a && b) d (and-first (a && b && d) v h))))
+    let s : (a && b) ≡ true = and-first (a && b) d (and-first (a && b && d) v h) in
+    record {
+      least = leb-true leastSequence (f .seq) (and-first a b s);
+      greatest = leb-true (f .seq) greatestSequence (and-second a b s);
+      version = eqb-true (f .ver) 0 (and-second (a && b && d) v h);
+    }
+
+-- the sequence of a good FID is not 0
+pub good-positive : (f : Fid) → goodFid f ≡ true → 0 < f .seq
+good-positive f h = omega (arith, good-facts f h)

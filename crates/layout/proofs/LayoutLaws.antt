@@ -66,7 +66,7 @@ module _ (l : List ℕ) where
   unfolding acceptedLayout layoutRules
   accepted-header h e x k = rw (x, ← e, k)
 
-  slots-many : length (decodeLayout l .slots) ≡ stripeCount l
+  pub slots-many : length (decodeLayout l .slots) ≡ stripeCount l
   unfolding decodeLayout
   slots-many = length-slots (stripeCount l) (drop (slotStart l) l)
 

@@ -1,4 +1,4 @@
-// Striping layouts, version 1 and 3: reader, slot reader, writer and slot rewrite.
+// Striping layouts, version 1 and 3: reader, slot reader and slot rewrite, and the pieces that the writer is made of.
 use fid::FID_SIZE;
 use fid::Fid;
 use fid::OstFid;
@@ -7,9 +7,9 @@ ghost use mathlib.Core.Bool.{true, _&&_};
 ghost use Prim.Native.Nat.{_+_, _*_, _≤_, _<_};
 ghost use lib.ListN.{length};
 ghost use lib.Seq.{sets};
-ghost use Rattle.layout.specs.Slot.{slotSize, zeroSlot, slotOf, encodeSlot, decodeSlots, encodeSlots, allowedSlot, allowedSlots, slotNames};
+ghost use Rattle.layout.specs.Slot.{slotSize, zeroSlot, slotOf, encodeSlot, decodeSlots, allowedSlot, allowedSlots, slotNames};
 ghost use Rattle.layout.specs.Layout.{plainHeader, stripeCountAt, headerSize, decodeHeader, encodeHeader, decodeLayout, encodeLayout, changed, stripeCount, slotStart, knownVersion, knownPattern, withHoles, exactLength, acceptedLayout};
-ghost use Rattle.layout.specs.Answers.{slotNumbers, readLayout, readSlot, rewriteAnswer, rewriteBytes, zeroGiven, givenFrom, givenAt, isSlot, slotGiven, givenSlots, allGiven, writable, writeLayout, writeBytes};
+ghost use Rattle.layout.specs.Answers.{readLayout, readSlot, rewriteAnswer, rewriteBytes};
 
 // The greatest number of slots.
 pub const MAX_SLOTS: usize = 160;
@@ -52,12 +52,6 @@ pub const POOL_HEADER: usize = PLAIN_HEADER + POOL_SIZE;
 // The bytes of the longest layout.
 pub const MAX_LAYOUT: usize = POOL_HEADER + SLOT_SIZE * MAX_SLOTS;
 
-// The numbers of a slot that is handed in.
-pub const SLOT_NUMBERS: usize = 5;
-
-// The greatest number of 32 bits.
-pub const MAX_WORD: u64 = 0xffff_ffff;
-
 const PLAIN_PATTERN: u32 = 1;
 
 pub const HOLE_PATTERN: u32 = 0x4000_0001;
@@ -89,19 +83,6 @@ pub enum SlotRead {
     BadLayout,
     NoSlot,
     SlotIs(Slot),
-}
-
-// A slot that is handed in as five numbers.
-pub enum Given {
-    NotSlot,
-    GivenSlot(Slot),
-}
-
-// What the writer says: refused fields, a short destination, or the bytes written.
-pub enum Written {
-    BadFields,
-    TooShort,
-    Bytes(usize),
 }
 
 // Whether the five numbers of a slot are all zero.
@@ -261,7 +242,7 @@ fn known_pattern(h: Header) -> bool
 }
 
 // Whether magic and pattern are known.
-fn known_header(h: Header) -> bool
+pub fn known_header(h: Header) -> bool
     ensures { λ r. ⌜ r ≡ (knownVersion h && knownPattern h) ⌝ }
 {
     if !known_version(h) {
@@ -370,110 +351,6 @@ pub fn rewrite(layout: &mut [u8], j: usize, s: Slot) -> u32
     0
 }
 
-// Whether five numbers are all zero.
-fn is_zero_given(k: u64, s: u64, o: u64, g: u64, i: u64) -> bool
-    ensures { λ r. ⌜ r ≡ zeroGiven k s o g i ⌝ }
-{
-    if k != 0 {
-        return false;
-    }
-    if s != 0 {
-        return false;
-    }
-    if o != 0 {
-        return false;
-    }
-    if g != 0 {
-        return false;
-    }
-    i == 0
-}
-
-// The slot of five numbers, if they are one.
-pub fn given_from(k: u64, s: u64, o: u64, g: u64, i: u64) -> Given
-    ensures { λ r. ⌜ r ≡ givenFrom k s o g i ⌝ }
-{
-    if is_zero_given(k, s, o, g, i) {
-        return Given::GivenSlot(Slot::Hole);
-    }
-    if k != 1 {
-        return Given::NotSlot;
-    }
-    if MAX_WORD < o {
-        return Given::NotSlot;
-    }
-    if MAX_WORD < g {
-        return Given::NotSlot;
-    }
-    if MAX_WORD < i {
-        return Given::NotSlot;
-    }
-    let f = Fid {
-        seq: s,
-        oid: o as u32,
-        ver: 0,
-    };
-    Given::GivenSlot(Slot::Names(OstFid(f), g as u32, i as u32))
-}
-
-// The j-th slot of a list of numbers, five to a slot.
-fn given_at(numbers: &[u64], j: usize) -> Given
-    requires { ⌜ slotNumbers * j + slotNumbers ≤ length (now numbers) ⌝ }
-    ensures { λ r. ⌜ r ≡ givenAt (now (numbers .entry)) j ⌝ }
-{
-    let a = SLOT_NUMBERS * j;
-    given_from(
-        numbers[a],
-        numbers[a + 1],
-        numbers[a + 2],
-        numbers[a + 3],
-        numbers[a + 4],
-    )
-}
-
-// Whether a slot is given, and allowed.
-fn allowed_given(holes: bool, g: Given) -> bool
-    ensures { λ r. ⌜ r ≡ (isSlot g && allowedSlot holes (slotGiven g)) ⌝ }
-{
-    match g {
-        Given::NotSlot => false,
-        Given::GivenSlot(s) => allowed_slot(holes, s),
-    }
-}
-
-// Whether each of the slots handed in is one, and allowed.
-fn allowed_numbers(numbers: &[u64], count: usize, holes: bool) -> bool
-    requires { ⌜ length (now numbers) ≡ slotNumbers * count ⌝ }
-    ensures { λ r. ⌜ r ≡ (allGiven (now (numbers .entry)) count 0 && allowedSlots holes (givenSlots (now (numbers .entry)) count 0)) ⌝ }
-{
-    for j in 0..count {
-        let g = given_at(numbers, j);
-        if !allowed_given(holes, g) {
-            return false;
-        }
-    }
-    true
-}
-
-// Whether the writer takes these fields, this pool name and these slots.
-pub fn may_write(h: Header, count: usize, pool: &[u8], numbers: &[u64]) -> bool
-    ensures { λ r. ⌜ r ≡ writable h count (now (pool .entry)) (now (numbers .entry)) ⌝ }
-{
-    if MAX_SLOTS < count {
-        return false;
-    }
-    if numbers.len() != SLOT_NUMBERS * count {
-        return false;
-    }
-    if pool.len() != header_size(h.magic) - PLAIN_HEADER {
-        return false;
-    }
-    if !known_header(h) {
-        return false;
-    }
-    allowed_numbers(numbers, count, with_holes(h))
-}
-
 // Writes a header with a stripe count over the first bytes.
 pub fn write_header(dest: &mut [u8], h: Header, count: u16)
     requires { ⌜ plainHeader ≤ length (now dest) ⌝ }
@@ -486,58 +363,4 @@ pub fn write_header(dest: &mut [u8], h: Header, count: u16)
     wire::put_le32(dest, STRIPE_SIZE_AT, h.stripe);
     wire::put_le16(dest, STRIPE_COUNT_AT, count);
     wire::put_le16(dest, GENERATION_AT, h.generation);
-}
-
-// Copies the pool name to its place after the plain header.
-fn write_pool(dest: &mut [u8], pool: &[u8])
-    requires { ⌜ plainHeader + length (now pool) ≤ length (now dest) ⌝ }
-    ensures { λ _. ⌜ now (dest .exit) ≡ sets (now (dest .entry)) plainHeader (now (pool .entry)) ⌝ }
-{
-    for i in 0..pool.len() {
-        let b = pool[i];
-        dest[PLAIN_HEADER + i] = b;
-    }
-}
-
-// Writes the j-th of the slots handed in over the 24 bytes that it is lent.
-fn put_given(part: &mut [u8], numbers: &[u64], j: usize)
-    requires { ⌜ (length (now part) ≡ slotSize) × (slotNumbers * j + slotNumbers ≤ length (now numbers)) ⌝ }
-    ensures { λ _. ⌜ now (part .exit) ≡ encodeSlot (slotGiven (givenAt (now (numbers .entry)) j)) ⌝ }
-{
-    let g = given_at(numbers, j);
-    match g {
-        Given::NotSlot => put_slot(part, Slot::Hole),
-        Given::GivenSlot(s) => put_slot(part, s),
-    }
-}
-
-// Writes the slots handed in, from a place on.
-fn write_slots(dest: &mut [u8], start: usize, numbers: &[u64], count: usize)
-    requires { ⌜ (start + slotSize * count ≤ length (now dest)) × (length (now numbers) ≡ slotNumbers * count) ⌝ }
-    ensures { λ _. ⌜ now (dest .exit) ≡ sets (now (dest .entry)) start (encodeSlots (givenSlots (now (numbers .entry)) count 0)) ⌝ }
-{
-    for j in 0..count {
-        let a = start + SLOT_SIZE * j;
-        let e = a + SLOT_SIZE;
-        put_given(&mut dest[a..e], numbers, j);
-    }
-}
-
-// Writes a layout at the start of the destination: 13 for what it is handed, then 17 for the room.
-pub fn write(h: Header, count: usize, pool: &[u8], numbers: &[u64], dest: &mut [u8]) -> Written
-    ensures answer { λ r. ⌜ r ≡ writeLayout h count (now (pool .entry)) (now (numbers .entry)) (now (dest .entry)) ⌝ }
-    ensures bytes { λ _. ⌜ now (dest .exit) ≡ writeBytes h count (now (pool .entry)) (now (numbers .entry)) (now (dest .entry)) ⌝ }
-{
-    if !may_write(h, count, pool, numbers) {
-        return Written::BadFields;
-    }
-    let start = header_size(h.magic);
-    let size = start + SLOT_SIZE * count;
-    if dest.len() < size {
-        return Written::TooShort;
-    }
-    write_header(dest, h, count as u16);
-    write_pool(dest, pool);
-    write_slots(dest, start, numbers, count);
-    Written::Bytes(size)
 }

@@ -2,9 +2,9 @@ use native.Mathlib.Omega.{arith}
 use mathlib.Core.Path.{_≡_, refl}
 use Prim.Native.Nat.{_-_, _≤_}
 use lib.ListN.{length, length-set}
-use Rattle.layout.proofs.WriteLaws.{poolDone, pool-start, pool-step, pool-end}
-use Rattle.layout.proofs.write_pool.Statement.{statement}
-use Rattle.layout.proofs.write_pool.Tie as tie
+use Rattle.layout_write.proofs.WriteLaws.{poolDone, pool-start, pool-step, pool-end}
+use Rattle.layout_write.proofs.write_pool.Statement.{statement}
+use Rattle.layout_write.proofs.write_pool.Tie as tie
 
 abbrev Inv-loop : tie.InvT-loop
 Inv-loop dest₀ pool i₀ i-end dest i = (i ≤ length pool) × (length dest ≡ length dest₀) × (dest ≡ poolDone dest₀ pool i)

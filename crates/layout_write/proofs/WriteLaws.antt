@@ -1,9 +1,9 @@
 -- Laws of the writer: what it takes, and the stores of header, pool name and slots. Assumes nothing.
 use mathlib.Core.Path.{_≡_, refl, sym, ap, _∙_}
 use mathlib.Core.List.{List, [], _∷_, _++_, append-nil}
-use mathlib.Core.Bool.{Bool, true, false, _&&_}
+use mathlib.Core.Bool.{Bool, true, false, cond, _&&_}
 use Prim.Native.Nat.{ℕ, _+_, _-_, _*_, _≤_, _<_}
-use borrow.Author.Tests.{eq-eqb, ne-eqb, le-leb, lt-leb, eqb-true}
+use borrow.Author.Tests.{eq-eqb, ne-eqb, le-leb, lt-leb, eqb-true, leb-true}
 use native.Mathlib.Omega.{arith}
 use native.Mathlib.Numerals.{add-one}
 use lib.Dec.{eqb, leb}
@@ -12,15 +12,15 @@ use lib.Seq.{sets, length-sets, take-suc, take-all, length-take-le}
 use Rattle.wire.proofs.Both.{and-first, and-second}
 use Rattle.wire.proofs.Splice.{sets-at, put-sets}
 use borrow.Rule.Slice.PartMut.{putMid}
 use Rattle.layout.specs.declared.Header.{Header}
-use Rattle.layout.specs.declared.Written.the-variants.{BadFields, TooShort, Bytes}
+use Rattle.layout_write.specs.declared.Written.the-variants.{BadFields, TooShort, Bytes}
 use Rattle.layout.specs.Slot.{slotSize, allowedSlots, encodeSlot, encodeSlots}
 use Rattle.layout.specs.Layout.{plainHeader, headerSize, encodeHeader, encodeLayout, knownVersion, knownPattern, withHoles, maxSlots, fewSlots, layoutSize, layoutRules}
-use Rattle.layout.specs.Answers.{slotNumbers, givenAt, slotGiven, givenSlots, allGiven, givenLayout, writable, writeLayout, leftBy, writeBytes}
+use Rattle.layout_write.specs.Writer.{slotNumbers, givenAt, slotGiven, givenSlots, allGiven, givenLayout, writable, writeLayout, leftBy, writeBytes}
 use Rattle.layout.proofs.SlotLaws.{length-slot, length-encode-slots, encode-append}
 use Rattle.layout.proofs.HeaderLaws.{length-header, size-least}
 use Rattle.layout.proofs.LayoutLaws.{rules-few}
-use Rattle.layout.proofs.GivenLaws.{length-given, given-more}
+use Rattle.layout_write.proofs.GivenLaws.{length-given, given-more}
 
 -- ## What the writer takes
 
@@ -100,6 +100,11 @@ write-facts h n pool numbers w =
   where
     few-of : layoutRules h (givenSlots numbers n 0) ≡ true → n ≤ maxSlots
     few-of r = rw (length-given numbers n 0) at (rules-few h (givenSlots numbers n 0) r)
+
+pub facts-write : (h : Header) (n : ℕ) (pool numbers : List ℕ) → length numbers ≡ slotNumbers * n → allGiven numbers n 0 ≡ true →
+    length pool ≡ headerSize (h .magic) - plainHeader → layoutRules h (givenSlots numbers n 0) ≡ true → writable h n pool numbers ≡ true
+unfolding writable
+facts-write h n pool numbers e g p r = rw (eq-eqb (length numbers) (slotNumbers * n) e, g, eq-eqb (length pool) (headerSize (h .magic) - plainHeader) p, r)
 
 -- ## The stores
 
@@ -185,3 +190,23 @@ module _ (h : Header) (n : ℕ) (pool numbers dest : List ℕ) where
       let z0 : 0 + b ≡ b = omega arith in
       let u : sets (sets dest 0 (H ++ pool)) b S ≡ sets dest 0 ((H ++ pool) ++ S) = rw z0 at (sets-at (H ++ pool) S dest 0 b l) in
       (rw (w, t, e), rw (w, t, r, q, p, sets-at H pool dest 0 plainHeader (length-header h n), u, length-given numbers n 0))
+
+  pub write-is : writable h n pool numbers ≡ true → layoutSize (h .magic) n ≤ length dest →
+      (writeLayout h n pool numbers dest ≡ Bytes (layoutSize (h .magic) n)) × (writeBytes h n pool numbers dest ≡ sets dest 0 (encodeLayout (givenLayout h n pool numbers)))
+  unfolding writeLayout writeBytes leftBy
+  write-is w k =
+      let t : leb (layoutSize (h .magic) n) (length dest) ≡ true = le-leb (layoutSize (h .magic) n) (length dest) k in
+      (rw (w, t), rw (w, t))
+
+  -- the bytes that the writer says it wrote, of fields that it takes and into a destination with room
+  pub write-took : (b : ℕ) → writeLayout h n pool numbers dest ≡ Bytes b →
+      (writable h n pool numbers ≡ true) × (layoutSize (h .magic) n ≤ length dest) × (b ≡ layoutSize (h .magic) n)
+  unfolding writeLayout
+  write-took b = go (writable h n pool numbers) (leb (layoutSize (h .magic) n) (length dest)) refl refl
+    where
+      go : (u v : Bool) → writable h n pool numbers ≡ u → leb (layoutSize (h .magic) n) (length dest) ≡ v →
+          cond u (cond v (Bytes (layoutSize (h .magic) n)) TooShort) BadFields ≡ Bytes b →
+          (writable h n pool numbers ≡ true) × (layoutSize (h .magic) n ≤ length dest) × (b ≡ layoutSize (h .magic) n)
+      go true true p q e = (p, leb-true (layoutSize (h .magic) n) (length dest) q, cc)
+      go true false p q e = let z : _≡_ {A = ℕ} 0 1 = cc in absurd (omega (arith, z))
+      go false v p q e = let z : _≡_ {A = ℕ} 0 1 = cc in absurd (omega (arith, z))

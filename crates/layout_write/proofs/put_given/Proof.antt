@@ -1,8 +1,8 @@
 use mathlib.Core.Path.{sym, _∙_}
-use Rattle.layout.proofs.GivenLaws.{given-put-none, given-put}
+use Rattle.layout_write.proofs.GivenLaws.{given-put-none, given-put}
 use borrow.Author.Needs.{needs}
-use Rattle.layout.proofs.put_given.Statement.{statement}
-use Rattle.layout.proofs.put_given.Tie as tie
+use Rattle.layout_write.proofs.put_given.Statement.{statement}
+use Rattle.layout_write.proofs.put_given.Tie as tie
 
 returns : tie.Need-returns
 returns c = given-put-none _ _ _ (c .before .before .put-slot .ensures) (sym (c .before .before .before .before .before .before .given-at .ensures) ∙ c .before .before .before .before .enum-told .given .1)

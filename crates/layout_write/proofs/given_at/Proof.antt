@@ -1,7 +1,7 @@
-use Rattle.layout.specs.Answers.{givenAt}
+use Rattle.layout_write.specs.Writer.{givenAt}
 use borrow.Author.Needs.{needs}
-use Rattle.layout.proofs.given_at.Statement.{statement}
-use Rattle.layout.proofs.given_at.Tie as tie
+use Rattle.layout_write.proofs.given_at.Statement.{statement}
+use Rattle.layout_write.proofs.given_at.Tie as tie
 
 returns : tie.Need-returns
 unfolding givenAt

@@ -1,9 +1,9 @@
 use native.Mathlib.Omega.{arith}
 use mathlib.Core.Path.{sym, _∙_}
-use Rattle.layout.proofs.GivenLaws.{given-hole, not-kind, not-id, not-age, not-index, given-names}
+use Rattle.layout_write.proofs.GivenLaws.{given-hole, not-kind, not-id, not-age, not-index, given-names}
 use borrow.Author.Needs.{needs}
-use Rattle.layout.proofs.given_from.Statement.{statement}
-use Rattle.layout.proofs.given_from.Tie as tie
+use Rattle.layout_write.proofs.given_from.Statement.{statement}
+use Rattle.layout_write.proofs.given_from.Tie as tie
 
 returns : tie.Need-returns
 returns c = given-hole _ _ _ _ _ (sym (c .before .is-zero-given .ensures) ∙ c .if1 .taken)

@@ -4,11 +4,11 @@ use borrow.Author.Needs.{needs}
 use mathlib.Core.Path.{_≡_}
 use mathlib.Core.Bool.{_&&_}
 use Prim.Native.Nat.{_-_, _≤_}
 use Rattle.layout.specs.Slot.{allowedSlots}
-use Rattle.layout.specs.Answers.{allGiven, givenSlots}
-use Rattle.layout.proofs.GivenLaws.{givenFromOn, given-start, given-stop, given-next, given-end}
-use Rattle.layout.proofs.allowed_numbers.Statement.{statement}
-use Rattle.layout.proofs.allowed_numbers.Tie as tie
+use Rattle.layout_write.specs.Writer.{allGiven, givenSlots}
+use Rattle.layout_write.proofs.GivenLaws.{givenFromOn, given-start, given-stop, given-next, given-end}
+use Rattle.layout_write.proofs.allowed_numbers.Statement.{statement}
+use Rattle.layout_write.proofs.allowed_numbers.Tie as tie
 
 abbrev Inv-loop : tie.InvT-loop
 Inv-loop numbers count holes j₀ j = (j ≤ count) × ((allGiven numbers count 0 && allowedSlots holes (givenSlots numbers count 0)) ≡ givenFromOn holes numbers count j)

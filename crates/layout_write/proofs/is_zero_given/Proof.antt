@@ -1,7 +1,7 @@
 use native.Mathlib.Omega.{arith}
-use Rattle.layout.proofs.GivenLaws.{zero-kind, zero-sequence, zero-id, zero-age, zero-last}
-use Rattle.layout.proofs.is_zero_given.Statement.{statement}
-use Rattle.layout.proofs.is_zero_given.Tie as tie
+use Rattle.layout_write.proofs.GivenLaws.{zero-kind, zero-sequence, zero-id, zero-age, zero-last}
+use Rattle.layout_write.proofs.is_zero_given.Statement.{statement}
+use Rattle.layout_write.proofs.is_zero_given.Tie as tie
 
 returns : tie.Need-returns
 returns c = zero-kind _ _ _ _ _ (c .if1 .taken)

@@ -1,11 +1,11 @@
 use native.Mathlib.Omega.{arith}
 use mathlib.Core.Path.{sym, _∙_}
 use borrow.Author.Tests.{not-true, not-false}
 use Rattle.layout.proofs.HeaderLaws.{size-least}
-use Rattle.layout.proofs.WriteLaws.{write-many, write-uneven, write-pool, write-unknown, write-slots}
+use Rattle.layout_write.proofs.WriteLaws.{write-many, write-uneven, write-pool, write-unknown, write-slots}
 use borrow.Author.Needs.{needs}
-use Rattle.layout.proofs.may_write.Statement.{statement}
-use Rattle.layout.proofs.may_write.Tie as tie
+use Rattle.layout_write.proofs.may_write.Statement.{statement}
+use Rattle.layout_write.proofs.may_write.Tie as tie
 
 returns : tie.Need-returns
 returns c = write-many _ _ _ _ (omega arith)

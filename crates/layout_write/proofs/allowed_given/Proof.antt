@@ -1,7 +1,7 @@
-use Rattle.layout.proofs.GivenLaws.{given-none, given-test}
+use Rattle.layout_write.proofs.GivenLaws.{given-none, given-test}
 use borrow.Author.Needs.{needs}
-use Rattle.layout.proofs.allowed_given.Statement.{statement}
-use Rattle.layout.proofs.allowed_given.Tie as tie
+use Rattle.layout_write.proofs.allowed_given.Statement.{statement}
+use Rattle.layout_write.proofs.allowed_given.Tie as tie
 
 returns : tie.Need-returns
 returns c = given-none _ _ (cc)

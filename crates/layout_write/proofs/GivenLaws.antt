@@ -9,12 +9,12 @@ use native.Mathlib.Nat.{sub-zero}
 use native.Mathlib.Numerals.{add-one}
 use lib.Dec.{eqb}
 use lib.ListN.{length}
 use Rattle.layout.specs.declared.Slot.{Slot}
 use Rattle.layout.specs.declared.Slot.the-variants.{Hole, Names}
-use Rattle.layout.specs.declared.Given.{Given}
-use Rattle.layout.specs.declared.Given.the-variants.{NotSlot, GivenSlot}
+use Rattle.layout_write.specs.declared.Given.{Given}
+use Rattle.layout_write.specs.declared.Given.the-variants.{NotSlot, GivenSlot}
 use Rattle.layout.specs.Slot.{allowedSlot, allowedSlots, encodeSlot}
-use Rattle.layout.specs.Answers.{maxWord, zeroGiven, namesGiven, givenFrom, givenAt, isSlot, slotGiven, givenSlots, allGiven}
+use Rattle.layout_write.specs.Writer.{maxWord, zeroGiven, namesGiven, givenFrom, givenAt, isSlot, slotGiven, givenSlots, allGiven}
 
 module _ (k s o g i : ℕ) where
   pub zero-kind : (k ≡ 0 → ⊥) → false ≡ zeroGiven k s o g i

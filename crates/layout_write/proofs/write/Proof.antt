@@ -1,11 +1,11 @@
 use native.Mathlib.Omega.{arith}
 use mathlib.Core.Path.{sym, _∙_}
 use borrow.Author.Tests.{not-true, not-false}
 use Rattle.layout.proofs.HeaderLaws.{size-known}
-use Rattle.layout.proofs.WriteLaws.{write-facts, write-bad, write-short, write-done}
+use Rattle.layout_write.proofs.WriteLaws.{write-facts, write-bad, write-short, write-done}
 use borrow.Author.Needs.{needs}
-use Rattle.layout.proofs.write.Statement.{statement}
-use Rattle.layout.proofs.write.Tie as tie
+use Rattle.layout_write.proofs.write.Statement.{statement}
+use Rattle.layout_write.proofs.write.Tie as tie
 
 returns : tie.Need-returns
 returns c = write-bad _ _ _ _ _ (sym (c .before .may-write .ensures) ∙ not-true _ (c .if1 .taken))

@@ -3,9 +3,9 @@ use borrow.Author.Needs.{needs}
 use mathlib.Core.Path.{_≡_, refl}
 use Prim.Native.Nat.{_-_, _≤_}
 use lib.ListN.{length}
-use Rattle.layout.proofs.WriteLaws.{slotsDone, slots-start, slots-step, slots-length, slots-end}
-use Rattle.layout.proofs.write_slots.Statement.{statement}
-use Rattle.layout.proofs.write_slots.Tie as tie
+use Rattle.layout_write.proofs.WriteLaws.{slotsDone, slots-start, slots-step, slots-length, slots-end}
+use Rattle.layout_write.proofs.write_slots.Statement.{statement}
+use Rattle.layout_write.proofs.write_slots.Tie as tie
 
 abbrev Inv-loop : tie.InvT-loop
 Inv-loop dest₀ start numbers count j₀ dest j = (j ≤ count) × (length dest ≡ length dest₀) × (dest ≡ slotsDone dest₀ numbers start j)
