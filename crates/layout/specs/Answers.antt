@@ -1,5 +1,5 @@
 -- What the readers and the slot rewrite answer and leave in the lent bytes, refusals first.
-use Prim.Native.Nat.{ℕ, _-_}
+use Prim.Native.Nat.{ℕ}
 use mathlib.Core.List.{List}
 use mathlib.Core.Bool.{cond, _&&_}
 use lib.ListN.{getD}
