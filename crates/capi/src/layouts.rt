@@ -2,7 +2,8 @@
 ghost use mathlib.Core.Path.{_≡_};
 ghost use Rattle.layout.specs.Answers.{readLayout, readNumber, readSlot, slotReadNumber};
 ghost use Rattle.capi_out.specs.Out.{outAnswer, outNumbers};
-ghost use Rattle.capi_layout.specs.Layouts.{readFields, slotReadFields, rewriteNumber, rewriteLeft};
+ghost use Rattle.layout_write.specs.Writer.{slotReadFields};
+ghost use Rattle.capi_layout.specs.Layouts.{readFields, rewriteNumber, rewriteLeft};
 ghost use Rattle.capi_write.specs.Write.{writeNumber, writeValues, writeAnswer, writeDest};
 
 // Reads a layout: 8 numbers into fields.

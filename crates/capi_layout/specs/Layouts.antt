@@ -5,22 +5,23 @@ use mathlib.Core.Bool.{cond}
 use lib.Dec.{eqb}
 use lib.ListN.{length}
 use Rattle.layout.specs.Layout.{magicThree, headerSize}
-use Rattle.layout.specs.Answers.{givenAt, rewriteAnswer, rewriteBytes}
+use Rattle.layout.specs.Answers.{rewriteAnswer, rewriteBytes}
+use Rattle.layout_write.specs.Writer.{slotNumbers, givenAt}
 use Rattle.layout.specs.declared.Header.{Header}
-use Rattle.layout.specs.declared.Slot.{Slot}
-use Rattle.layout.specs.declared.Slot.the-variants.{Hole, Names}
 use Rattle.layout.specs.declared.Reading.{Reading}
 use Rattle.layout.specs.declared.Reading.the-variants.{Refused, Accepted}
-use Rattle.layout.specs.declared.SlotRead.{SlotRead}
-use Rattle.layout.specs.declared.SlotRead.the-variants.{BadLayout, NoSlot, SlotIs}
-use Rattle.layout.specs.declared.Given.{Given}
-use Rattle.layout.specs.declared.Given.the-variants.{NotSlot, GivenSlot}
+use Rattle.layout_write.specs.declared.Given.{Given}
+use Rattle.layout_write.specs.declared.Given.the-variants.{NotSlot, GivenSlot}
 
 -- ## Reading
 
 -- "version 1 or 3"
 unfoldable pub versionOf : ℕ → ℕ
 versionOf magic = cond (eqb magic magicThree) 3 1
+
+-- a header is handed out as eight numbers
+abbrev pub headerNumbers : ℕ
+headerNumbers = 8
 
 -- "version, pattern, own id, own sequence, stripe size, stripe count, generation, where the slots start"
 unfoldable pub headerFields : Header → ℕ → List ℕ
@@ -30,16 +31,6 @@ headerFields h n =
 unfoldable pub readFields : Reading → List ℕ
 readFields Refused = []
 readFields (Accepted h n) = headerFields h n
-
--- "0 hole or 1 named, sequence, id, generation, OST index"
-unfoldable pub slotFields : Slot → List ℕ
-slotFields Hole = 0 ∷ 0 ∷ 0 ∷ 0 ∷ 0 ∷ []
-slotFields (Names f g i) = 1 ∷ f .0 .seq ∷ f .0 .oid ∷ g ∷ i ∷ []
-
-unfoldable pub slotReadFields : SlotRead → List ℕ
-slotReadFields BadLayout = []
-slotReadFields NoSlot = []
-slotReadFields (SlotIs s) = slotFields s
 
 -- ## Rewriting
 
@@ -52,7 +43,7 @@ givenLeft l j NotSlot = l
 givenLeft l j (GivenSlot s) = rewriteBytes l j s
 
 unfoldable pub rewriteNumber : List ℕ → ℕ → List ℕ → ℕ
-rewriteNumber l j slot = cond (eqb (length slot) 5) (rewriteGiven l j (givenAt slot 0)) 13
+rewriteNumber l j slot = cond (eqb (length slot) slotNumbers) (rewriteGiven l j (givenAt slot 0)) 13
 
 unfoldable pub rewriteLeft : List ℕ → ℕ → List ℕ → List ℕ
-rewriteLeft l j slot = cond (eqb (length slot) 5) (givenLeft l j (givenAt slot 0)) l
+rewriteLeft l j slot = cond (eqb (length slot) slotNumbers) (givenLeft l j (givenAt slot 0)) l

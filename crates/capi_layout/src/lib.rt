@@ -1,21 +1,27 @@
 // Layouts as numbers: read, and one slot rewritten.
-use layout::Given;
 use layout::Header;
+use layout::POOL_HEADER;
 use layout::Reading;
 use layout::Slot;
 use layout::SlotRead;
+use layout_write::Given;
+use layout_write::SLOT_NUMBERS;
 ghost use mathlib.Core.Path.{_≡_};
 ghost use Prim.Native.Nat.{_≤_};
 ghost use lib.ListN.{length};
 ghost use lib.Seq.{sets};
 ghost use Rattle.layout.specs.Answers.{readLayout, readNumber, readSlot, slotReadNumber};
+ghost use Rattle.layout_write.specs.Writer.{slotNumbers, slotFields, slotReadFields};
 ghost use Rattle.capi_out.specs.Out.{outAnswer, outNumbers};
-ghost use Rattle.capi_layout.specs.Layouts.{versionOf, headerFields, readFields, slotFields, slotReadFields, rewriteNumber, rewriteLeft};
+ghost use Rattle.capi_layout.specs.Layouts.{headerNumbers, versionOf, headerFields, readFields, rewriteNumber, rewriteLeft};
+
+// The numbers of a header that is handed out.
+const HEADER_NUMBERS: usize = 8;
 
 fn version_of(magic: u32) -> u64
     ensures { λ r. ⌜ r ≡ versionOf magic ⌝ }
 {
-    if layout::header_size(magic) == 48 {
+    if layout::header_size(magic) == POOL_HEADER {
         3
     } else {
         1
@@ -24,7 +30,7 @@ fn version_of(magic: u32) -> u64
 
 // Stores the fields of a header with its stripe count.
 fn put_header(fields: &mut [u64], h: Header, count: u16)
-    requires { ⌜ 8 ≤ length (now fields) ⌝ }
+    requires { ⌜ headerNumbers ≤ length (now fields) ⌝ }
     ensures { λ _. ⌜ now (fields .exit) ≡ sets (now (fields .entry)) 0 (headerFields h count) ⌝ }
 {
     let start = layout::header_size(h.magic) as u64;
@@ -55,7 +61,7 @@ pub fn layout_read(layout: &[u8], fields: &mut [u64]) -> u32
     match reading {
         Reading::Refused => 13,
         Reading::Accepted(h, count) => {
-            if fields.len() < 8 {
+            if fields.len() < HEADER_NUMBERS {
                 return 17;
             }
             put_header(fields, h, count);
@@ -66,7 +72,7 @@ pub fn layout_read(layout: &[u8], fields: &mut [u64]) -> u32
 
 // Stores the five numbers of a slot.
 fn put_slot(out: &mut [u64], s: Slot)
-    requires { ⌜ 5 ≤ length (now out) ⌝ }
+    requires { ⌜ slotNumbers ≤ length (now out) ⌝ }
     ensures { λ _. ⌜ now (out .exit) ≡ sets (now (out .entry)) 0 (slotFields s) ⌝ }
 {
     match s {
@@ -92,7 +98,7 @@ pub fn layout_slot(layout: &[u8], index: u64, out: &mut [u64]) -> u32
         SlotRead::BadLayout => 13,
         SlotRead::NoSlot => 16,
         SlotRead::SlotIs(s) => {
-            if out.len() < 5 {
+            if out.len() < SLOT_NUMBERS {
                 return 17;
             }
             put_slot(out, s);
@@ -106,10 +112,10 @@ pub fn slot_rewrite(layout: &mut [u8], index: u64, slot: &[u64]) -> u32
     ensures answer { λ r. ⌜ r ≡ rewriteNumber (now (layout .entry)) index (now (slot .entry)) ⌝ }
     ensures layout { λ _. ⌜ now (layout .exit) ≡ rewriteLeft (now (layout .entry)) index (now (slot .entry)) ⌝ }
 {
-    if slot.len() != 5 {
+    if slot.len() != SLOT_NUMBERS {
         return 13;
     }
-    let given = layout::given_from(slot[0], slot[1], slot[2], slot[3], slot[4]);
+    let given = layout_write::given_from(slot[0], slot[1], slot[2], slot[3], slot[4]);
     match given {
         Given::NotSlot => 13,
         Given::GivenSlot(s) => layout::rewrite(layout, index as usize, s),

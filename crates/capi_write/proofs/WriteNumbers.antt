@@ -9,12 +9,13 @@ use lib.Dec.{eqb, leb}
 use lib.ListN.{length, getD, set}
 use Rattle.wire.proofs.Both.{and-first, and-second}
 use Rattle.layout.specs.Layout.{magicOne, magicThree, layoutSize}
-use Rattle.layout.specs.Answers.{writable, writeLayout, writtenNumber, leftBy, writeBytes}
+use Rattle.layout_write.specs.Writer.{maxWord, writable, writeLayout, writtenNumber, leftBy, writeBytes}
 use Rattle.layout.specs.declared.Header.{Header}
-use Rattle.layout.specs.declared.Written.the-variants.{BadFields, TooShort, Bytes}
+use Rattle.layout_write.specs.declared.Written.the-variants.{BadFields, TooShort, Bytes}
 use Rattle.capi_write.specs.declared.HeaderGiven.the-variants.{NotHeader, HeaderIs}
 use Rattle.capi_out.specs.Out.{outNumbers}
-use Rattle.capi_write.specs.Write.{magicOf, isVersion, fieldsFit, fieldsHeader, fieldsCount, headerGiven, headerNumber, headerValues, headerAnswer, headerDest, headerOut, writeNumber, writeValues, writeAnswer, writeDest}
+use Rattle.capi_write.specs.Write.{headerNumbers, maxHalf, magicOf, isVersion, fieldsFit, fieldsHeader, fieldsCount, headerGiven, headerNumber, headerValues, headerAnswer, headerDest, headerOut, writeNumber, writeValues, writeAnswer, writeDest}
+use Rattle.layout_write.proofs.WriteLaws.{write-took}
 use Rattle.capi_out.proofs.OutLaws.{out-refused, out-short, out-done}
 
 -- ## The fields
@@ -36,49 +37,49 @@ unfolding magicOf
 magic-one v e = rw (ne-eqb v 3 e)
 
 module _ (l : List ℕ) where
-  pub fit-length : (length l ≡ 7 → ⊥) → false ≡ fieldsFit l
+  pub fit-length : (length l ≡ headerNumbers → ⊥) → false ≡ fieldsFit l
   unfolding fieldsFit
-  fit-length h = rw (ne-eqb (length l) 7 h)
+  fit-length h = rw (ne-eqb (length l) headerNumbers h)
 
-  pub fit-version : length l ≡ 7 → isVersion (getD l 0 0) ≡ false → false ≡ fieldsFit l
+  pub fit-version : length l ≡ headerNumbers → isVersion (getD l 0 0) ≡ false → false ≡ fieldsFit l
   unfolding fieldsFit
-  fit-version h v = rw (eq-eqb (length l) 7 h, v)
+  fit-version h v = rw (eq-eqb (length l) headerNumbers h, v)
 
-  pub fit-pattern : length l ≡ 7 → isVersion (getD l 0 0) ≡ true → 0xffffffff < getD l 1 0 → false ≡ fieldsFit l
+  pub fit-pattern : length l ≡ headerNumbers → isVersion (getD l 0 0) ≡ true → maxWord < getD l 1 0 → false ≡ fieldsFit l
   unfolding fieldsFit
-  fit-pattern h v p = rw (eq-eqb (length l) 7 h, v, lt-leb (getD l 1 0) 0xffffffff p)
+  fit-pattern h v p = rw (eq-eqb (length l) headerNumbers h, v, lt-leb (getD l 1 0) maxWord p)
 
-  pub fit-stripe : length l ≡ 7 → isVersion (getD l 0 0) ≡ true → getD l 1 0 ≤ 0xffffffff → 0xffffffff < getD l 4 0 → false ≡ fieldsFit l
+  pub fit-stripe : length l ≡ headerNumbers → isVersion (getD l 0 0) ≡ true → getD l 1 0 ≤ maxWord → maxWord < getD l 4 0 → false ≡ fieldsFit l
   unfolding fieldsFit
-  fit-stripe h v p s = rw (eq-eqb (length l) 7 h, v, le-leb (getD l 1 0) 0xffffffff p, lt-leb (getD l 4 0) 0xffffffff s)
+  fit-stripe h v p s = rw (eq-eqb (length l) headerNumbers h, v, le-leb (getD l 1 0) maxWord p, lt-leb (getD l 4 0) maxWord s)
 
-  pub fit-generation : length l ≡ 7 → isVersion (getD l 0 0) ≡ true → getD l 1 0 ≤ 0xffffffff → getD l 4 0 ≤ 0xffffffff → leb (getD l 6 0) 0xffff ≡ fieldsFit l
+  pub fit-generation : length l ≡ headerNumbers → isVersion (getD l 0 0) ≡ true → getD l 1 0 ≤ maxWord → getD l 4 0 ≤ maxWord → leb (getD l 6 0) maxHalf ≡ fieldsFit l
   unfolding fieldsFit
-  fit-generation h v p s = rw (eq-eqb (length l) 7 h, v, le-leb (getD l 1 0) 0xffffffff p, le-leb (getD l 4 0) 0xffffffff s)
+  fit-generation h v p s = rw (eq-eqb (length l) headerNumbers h, v, le-leb (getD l 1 0) maxWord p, le-leb (getD l 4 0) maxWord s)
 
 -- seven numbers that fit
 pub record FitFields (l : List ℕ) : Type 0 where
-  pub seven : length l ≡ 7
-  pub pattern : getD l 1 0 ≤ 0xffffffff
-  pub stripe : getD l 4 0 ≤ 0xffffffff
-  pub generation : getD l 6 0 ≤ 0xffff
+  pub seven : length l ≡ headerNumbers
+  pub pattern : getD l 1 0 ≤ maxWord
+  pub stripe : getD l 4 0 ≤ maxWord
+  pub generation : getD l 6 0 ≤ maxHalf
 
 pub fit-fields : (l : List ℕ) → fieldsFit l ≡ true → FitFields l
 unfolding fieldsFit
 fit-fields l f =
-    let a : Bool = eqb (length l) 7 in
+    let a : Bool = eqb (length l) headerNumbers in
     let b : Bool = isVersion (getD l 0 0) in
-    let c : Bool = leb (getD l 1 0) 0xffffffff in
-    let d : Bool = leb (getD l 4 0) 0xffffffff in
-    let e : Bool = leb (getD l 6 0) 0xffff in
+    let c : Bool = leb (getD l 1 0) maxWord in
+    let d : Bool = leb (getD l 4 0) maxWord in
+    let e : Bool = leb (getD l 6 0) maxHalf in
     let abcd : (a && b && c && d) ≡ true = and-first (a && b && c && d) e f in
     let abc : (a && b && c) ≡ true = and-first (a && b && c) d abcd in
     let ab : (a && b) ≡ true = and-first (a && b) c abc in
     record {
-      seven = eqb-true (length l) 7 (and-first a b ab);
-      pattern = leb-true (getD l 1 0) 0xffffffff (and-second (a && b) c abc);
-      stripe = leb-true (getD l 4 0) 0xffffffff (and-second (a && b && c) d abcd);
-      generation = leb-true (getD l 6 0) 0xffff (and-second (a && b && c && d) e f);
+      seven = eqb-true (length l) headerNumbers (and-first a b ab);
+      pattern = leb-true (getD l 1 0) maxWord (and-second (a && b) c abc);
+      stripe = leb-true (getD l 4 0) maxWord (and-second (a && b && c) d abcd);
+      generation = leb-true (getD l 6 0) maxHalf (and-second (a && b && c && d) e f);
     }
 
 pub header-none : (l : List ℕ) → fieldsFit l ≡ false → NotHeader ≡ headerGiven l
@@ -106,16 +107,6 @@ given-not l false f e = f
 pub given-none : (l : List ℕ) → headerGiven l ≡ NotHeader → fieldsFit l ≡ false
 unfolding headerGiven
 given-none l e = given-not l (fieldsFit l) refl e
-
--- the bytes that the writer says it wrote
-pub bytes-size : (h : Header) (n : ℕ) (pool slots dest : List ℕ) (b : ℕ) → writeLayout h n pool slots dest ≡ Bytes b → b ≡ layoutSize (h .magic) n
-unfolding writeLayout
-bytes-size h n pool slots dest b e = go (writable h n pool slots) (leb (layoutSize (h .magic) n) (length dest)) e
-  where
-    go : (u v : Bool) → cond u (cond v (Bytes (layoutSize (h .magic) n)) TooShort) BadFields ≡ Bytes b → b ≡ layoutSize (h .magic) n
-    go true true q = cc
-    go true false q = let z : _≡_ {A = ℕ} 0 1 = cc in absurd (omega (arith, z))
-    go false v q = let z : _≡_ {A = ℕ} 0 1 = cc in absurd (omega (arith, z))
 
 pub count-of : (l : List ℕ) → getD l 5 0 ≡ fieldsCount l
 unfolding fieldsCount
@@ -159,7 +150,7 @@ module _ (h : Header) (n : ℕ) (pool slots dest out : List ℕ) where
       o ≡ set out 0 b → LeavesGiven 0 d o
   unfolding headerAnswer headerDest headerOut headerNumber headerValues writtenNumber
   write-done b d o w k p q =
-      let r = out-done (headerNumber h n pool slots dest) (headerValues h n) out o (rw w) k (rw (← bytes-size h n pool slots dest b w) q) in
+      let r = out-done (headerNumber h n pool slots dest) (headerValues h n) out o (rw w) k (rw (← write-took h n pool slots dest b w .2) q) in
       (r .0, (rw (← r .0) p, r .1))
 
 module _ (fields pool slots dest out : List ℕ) where

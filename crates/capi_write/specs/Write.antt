@@ -5,7 +5,7 @@ use mathlib.Core.Bool.{Bool, cond, _&&_, _||_}
 use lib.Dec.{leb, eqb}
 use lib.ListN.{length, getD}
 use Rattle.layout.specs.Layout.{magicOne, magicThree, layoutSize}
-use Rattle.layout.specs.Answers.{writeLayout, writtenNumber, writeBytes}
+use Rattle.layout_write.specs.Writer.{maxWord, writeLayout, writtenNumber, writeBytes}
 use Rattle.layout.specs.declared.Header.{Header}
 use Rattle.capi_write.specs.declared.HeaderGiven.{HeaderGiven}
 use Rattle.capi_write.specs.declared.HeaderGiven.the-variants.{NotHeader, HeaderIs}
@@ -17,11 +17,19 @@ magicOf version = cond (eqb version 3) magicThree magicOne
 unfoldable pub isVersion : ℕ → Bool
 isVersion version = eqb version 1 || eqb version 3
 
+-- a header is handed in as seven numbers
+abbrev pub headerNumbers : ℕ
+headerNumbers = 7
+
+-- the greatest number of 16 bits
+abbrev pub maxHalf : ℕ
+maxHalf = 0xffff
+
 -- seven numbers, each fitting its field; own id and sequence are 64 bits wide, and the writer looks at the count
 unfoldable pub fieldsFit : List ℕ → Bool
 fieldsFit l =
-    eqb (length l) 7 && isVersion (getD l 0 0) && leb (getD l 1 0) 0xffffffff && leb (getD l 4 0) 0xffffffff
-    && leb (getD l 6 0) 0xffff
+    eqb (length l) headerNumbers && isVersion (getD l 0 0) && leb (getD l 1 0) maxWord && leb (getD l 4 0) maxWord
+    && leb (getD l 6 0) maxHalf
 
 -- "version, pattern, own id, own sequence, stripe size, stripe count, generation"
 unfoldable pub fieldsHeader : List ℕ → Header

@@ -1,9 +1,16 @@
 // A layout written from numbers.
 use layout::Header;
-use layout::Written;
+use layout_write::MAX_WORD;
+use layout_write::Written;
 ghost use mathlib.Core.Path.{_≡_};
 ghost use Rattle.capi_out.specs.Out.{outNumbers};
 ghost use Rattle.capi_write.specs.Write.{magicOf, isVersion, fieldsFit, headerGiven, headerAnswer, headerDest, headerOut, writeNumber, writeValues, writeAnswer, writeDest};
+
+// The numbers of a header that is handed in.
+const HEADER_NUMBERS: usize = 7;
+
+// The greatest number of 16 bits.
+const MAX_HALF: u64 = 0xffff;
 
 // A header that is handed in as numbers.
 pub enum HeaderGiven {
@@ -25,19 +32,19 @@ fn is_version(version: u64) -> bool
 fn fields_fit(fields: &[u64]) -> bool
     ensures { λ r. ⌜ r ≡ fieldsFit (now (fields .entry)) ⌝ }
 {
-    if fields.len() != 7 {
+    if fields.len() != HEADER_NUMBERS {
         return false;
     }
     if !is_version(fields[0]) {
         return false;
     }
-    if 0xffff_ffff < fields[1] {
+    if MAX_WORD < fields[1] {
         return false;
     }
-    if 0xffff_ffff < fields[4] {
+    if MAX_WORD < fields[4] {
         return false;
     }
-    fields[6] <= 0xffff
+    fields[6] <= MAX_HALF
 }
 
 fn magic_of(version: u64) -> u32
@@ -80,13 +87,13 @@ fn write_given(
     ensures dest { λ _. ⌜ now (dest .exit) ≡ headerDest h count (now (pool .entry)) (now (slots .entry)) (now (dest .entry)) (now (out .entry)) ⌝ }
     ensures out { λ _. ⌜ now (out .exit) ≡ headerOut h count (now (pool .entry)) (now (slots .entry)) (now (dest .entry)) (now (out .entry)) ⌝ }
 {
-    if !layout::may_write(h, count, pool, slots) {
+    if !layout_write::may_write(h, count, pool, slots) {
         return 13;
     }
     if out.len() < 1 {
         return 17;
     }
-    let written = layout::write(h, count, pool, slots, dest);
+    let written = layout_write::write(h, count, pool, slots, dest);
     match written {
         Written::BadFields => 13,
         Written::TooShort => 17,

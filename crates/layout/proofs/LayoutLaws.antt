@@ -1,46 +1,46 @@
 -- Laws of layouts: what is accepted, case by case and as facts, and the round trips. Assumes nothing.
 use mathlib.Core.Path.{_≡_, refl, sym, ap, _∙_}
 use mathlib.Core.List.{List, [], _∷_, _++_, append-assoc, append-nil}
-use mathlib.Core.Bool.{Bool, true, false, _&&_}
+use mathlib.Core.Bool.{Bool, true, false, cond, _&&_}
 use Prim.Native.Nat.{ℕ, zero, suc, _+_, _-_, _*_, _≤_, _<_}
-use borrow.Author.Tests.{eq-eqb, ne-eqb, le-leb, lt-leb, lt-ltb, le-ltb, eqb-true, leb-true}
+use borrow.Author.Tests.{eq-eqb, ne-eqb, le-leb, lt-leb, lt-ltb, le-ltb, ltb-true, eqb-true, leb-true}
 use native.Mathlib.Omega.{arith}
-use lib.Dec.{eqb, leb}
-use lib.ListN.{length, take, drop, set, length-append, length-drop, take-append-drop}
-use lib.Seq.{sets, length-sets, take-all, take-add, drop-at, drop-append-le, take-at, length-take-le}
-use Rattle.wire.specs.Numbers.{le, bytes}
-use Rattle.wire.proofs.Both.{and-first, and-second}
-use Rattle.wire.proofs.Splice.{take-sets-le, drop-sets-add, drop-take-all}
-use Rattle.wire.proofs.NumberLaws.{Bytes, bytes-drop, le-append}
+use lib.Dec.{eqb, leb, ltb}
+use lib.ListN.{length, take, drop, set, length-append, length-drop, length-set, take-append-drop}
+use lib.Seq.{sets, length-sets, take-all, take-add, drop-at, take-at, length-take-le}
+use Rattle.wire.specs.Numbers.{le}
+use Rattle.wire.proofs.Both.{and-first, and-second, and-both}
+use Rattle.wire.proofs.Splice.{sets-mid, drop-take-all}
+use Rattle.wire.proofs.NumberLaws.{Bytes, bytes-drop}
 use Rattle.layout.specs.declared.Header.{Header}
 use Rattle.layout.specs.declared.Slot.{Slot}
 use Rattle.layout.specs.declared.Slot.the-variants.{Hole}
 use Rattle.layout.specs.declared.Reading.the-variants.{Refused, Accepted}
 use Rattle.layout.specs.declared.SlotRead.the-variants.{BadLayout, NoSlot, SlotIs}
-use Rattle.layout.specs.Slot.{slotOf, encodeSlot, decodeSlots, encodeSlots, allowedSlot, allowedSlots}
-use Rattle.layout.specs.Layout.{Layout, headerSize, decodeHeader, encodeHeader, stripeCount, slotStart, decodeLayout, encodeLayout, knownVersion, knownPattern, withHoles, maxSlots, fewSlots, layoutSize, exactLength, layoutRules, acceptedLayout}
+use Rattle.layout.specs.Slot.{slotSize, slotOf, encodeSlot, decodeSlots, encodeSlots, allowedSlot, allowedSlots}
+use Rattle.layout.specs.Layout.{Layout, plainHeader, poolHeader, headerSize, decodeHeader, encodeHeader, stripeCount, slotStart, decodeLayout, encodeLayout, changed, knownVersion, knownPattern, withHoles, maxSlots, fewSlots, layoutSize, exactLength, layoutRules, acceptedLayout}
 use Rattle.layout.specs.Answers.{readLayout, readSlot, rewriteAnswer, rewriteBytes}
-use Rattle.layout.proofs.SlotLaws.{FitSlot, FitSlots, length-slots, length-encode-slots, slots-at, slots-set, slots-written-back, slots-read-back}
-use Rattle.layout.proofs.HeaderLaws.{FitHeader, size-least, size-most, length-header, header-written-back, header-read-back, count-read-back}
+use Rattle.layout.proofs.SlotLaws.{FitSlot, FitSlots, slots-fit, fit-set, length-slot, length-slots, length-encode-slots, encode-set, slots-at, slots-written-back, slots-read-back}
+use Rattle.layout.proofs.HeaderLaws.{FitHeader, header-fits, size-least, size-most, length-header, header-written-back, header-read-back, count-read-back}
 
 -- ## What is accepted
 
 module _ (l : List ℕ) where
-  pub start-least : {h : ℕ} → h ≡ slotStart l → 32 ≤ h
+  pub start-least : {h : ℕ} → h ≡ slotStart l → plainHeader ≤ h
   unfolding slotStart
   start-least e = rw e (size-least (le 4 l))
 
-  pub start-most : {h : ℕ} → h ≡ slotStart l → h ≤ 48
+  pub start-most : {h : ℕ} → h ≡ slotStart l → h ≤ poolHeader
   unfolding slotStart
   start-most e = rw e (size-most (le 4 l))
 
-  pub exact-short : length l < 32 → false ≡ exactLength l
+  pub exact-short : length l < plainHeader → false ≡ exactLength l
   unfolding exactLength layoutSize
   exact-short h =
-      let m : ℕ = headerSize (le 4 l) + 24 * stripeCount l in
+      let m : ℕ = headerSize (le 4 l) + slotSize * stripeCount l in
       rw (ne-eqb (length l) m (λ e. omega (arith, size-least (le 4 l))))
 
-  pub exact-is : (h n : ℕ) → h ≡ slotStart l → n ≡ stripeCount l → eqb (length l) (h + 24 * n) ≡ exactLength l
+  pub exact-is : (h n : ℕ) → h ≡ slotStart l → n ≡ stripeCount l → eqb (length l) (h + slotSize * n) ≡ exactLength l
   unfolding exactLength layoutSize slotStart
   exact-is h n p q = rw (p, q)
 
@@ -48,25 +48,25 @@ module _ (l : List ℕ) where
   unfolding acceptedLayout
   accepted-length h = rw h
 
-  pub exact-size : exactLength l ≡ true → length l ≡ slotStart l + 24 * stripeCount l
+  pub exact-size : exactLength l ≡ true → length l ≡ slotStart l + slotSize * stripeCount l
   unfolding exactLength layoutSize slotStart
-  exact-size x = eqb-true (length l) (headerSize (le 4 l) + 24 * stripeCount l) x
+  exact-size x = eqb-true (length l) (headerSize (le 4 l) + slotSize * stripeCount l) x
 
-  pub exact-long : exactLength l ≡ true → 32 ≤ length l
+  pub exact-long : exactLength l ≡ true → plainHeader ≤ length l
   exact-long x = omega (arith, exact-size x, start-least refl)
 
   -- the slot area has room for every slot
   pub area-long : (start n : ℕ) → exactLength l ≡ true → start ≡ slotStart l → n ≡ stripeCount l →
-      24 * n ≤ length (take (length l - start) (drop start l))
+      slotSize * n ≤ length (take (length l - start) (drop start l))
   area-long start n x b q =
-      let z : length l ≡ start + 24 * n = rw (b, q) (exact-size x) in
+      let z : length l ≡ start + slotSize * n = rw (b, q) (exact-size x) in
       rw (drop-take-all start l, length-drop) (omega arith)
 
   pub accepted-header : (h : Header) → h ≡ decodeHeader l → exactLength l ≡ true → (knownVersion h && knownPattern h) ≡ false → false ≡ acceptedLayout l
   unfolding acceptedLayout layoutRules
   accepted-header h e x k = rw (x, ← e, k)
 
-  slots-many : length (decodeLayout l .slots) ≡ stripeCount l
+  pub slots-many : length (decodeLayout l .slots) ≡ stripeCount l
   unfolding decodeLayout
   slots-many = length-slots (stripeCount l) (drop (slotStart l) l)
 
@@ -86,6 +86,10 @@ module _ (l : List ℕ) where
   unfolding acceptedLayout layoutRules fewSlots
   accepted-slots h n start holes e q b w x k m = rw (x, slots-many, ← e, k, ← q, le-leb n maxSlots m, slots-are, ← q, ← b, w, drop-take-all start l)
 
+  pub header-is : decodeLayout l .header ≡ decodeHeader l
+  unfolding decodeLayout
+  header-is = refl
+
   -- the magic number stands first
   pub magic-read : decodeHeader l .magic ≡ le 4 l
   unfolding decodeHeader
@@ -95,17 +99,17 @@ module _ (l : List ℕ) where
   magic-of h e = sym magic-read ∙ ap (λ (x : Header). x .magic) e
 
   -- the rules, each met, are all that is asked
-  pub accepted-from : length l ≡ slotStart l + 24 * stripeCount l → (knownVersion (decodeHeader l) && knownPattern (decodeHeader l)) ≡ true →
+  pub accepted-from : length l ≡ slotStart l + slotSize * stripeCount l → (knownVersion (decodeHeader l) && knownPattern (decodeHeader l)) ≡ true →
       stripeCount l ≤ maxSlots → allowedSlots (withHoles (decodeHeader l)) (decodeLayout l .slots) ≡ true → acceptedLayout l ≡ true
   accepted-from z k m t =
       sym (accepted-slots (decodeHeader l) (stripeCount l) (slotStart l) (withHoles (decodeHeader l)) refl refl refl refl
-      (sym (exact-is (slotStart l) (stripeCount l) refl refl) ∙ eq-eqb (length l) (slotStart l + 24 * stripeCount l) z) k m)
+      (sym (exact-is (slotStart l) (stripeCount l) refl refl) ∙ eq-eqb (length l) (slotStart l + slotSize * stripeCount l) z) k m)
       ∙ rw (drop-take-all (slotStart l) l, ← slots-are) t
 
 -- what an accepted layout is
 pub record LayoutFacts (l : List ℕ) : Type 0 where
-  pub size : length l ≡ slotStart l + 24 * stripeCount l
-  pub head : 32 ≤ slotStart l
+  pub size : length l ≡ slotStart l + slotSize * stripeCount l
+  pub head : plainHeader ≤ slotStart l
   pub few : stripeCount l ≤ maxSlots
   pub known : (knownVersion (decodeHeader l) && knownPattern (decodeHeader l)) ≡ true
   pub slots : allowedSlots (withHoles (decodeHeader l)) (decodeLayout l .slots) ≡ true
@@ -116,11 +120,11 @@ accepted-facts l h =
     let v : Bool = knownVersion (decodeHeader l) && knownPattern (decodeHeader l) in
     let n : ℕ = length (decodeLayout l .slots) in
     let s : Bool = allowedSlots (withHoles (decodeHeader l)) (decodeLayout l .slots) in
-    let x : Bool = eqb (length l) (headerSize (le 4 l) + 24 * stripeCount l) in
+    let x : Bool = eqb (length l) (headerSize (le 4 l) + slotSize * stripeCount l) in
     let r : (v && leb n maxSlots && s) ≡ true = and-second x (v && leb n maxSlots && s) h in
     let f : (v && leb n maxSlots) ≡ true = and-first (v && leb n maxSlots) s r in
     record {
-      size = eqb-true (length l) (headerSize (le 4 l) + 24 * stripeCount l) (and-first x (v && leb n maxSlots && s) h);
+      size = eqb-true (length l) (headerSize (le 4 l) + slotSize * stripeCount l) (and-first x (v && leb n maxSlots && s) h);
       head = size-least (le 4 l);
       few = rw (slots-many l) at (leb-true n maxSlots (and-second v (leb n maxSlots) f));
       known = and-first v (leb n maxSlots) f;
@@ -131,10 +135,10 @@ pub accepted-exact : (l : List ℕ) → acceptedLayout l ≡ true → exactLengt
 unfolding acceptedLayout
 accepted-exact l a = and-first (exactLength l) (layoutRules (decodeHeader l) (decodeLayout l .slots)) a
 
-pub accepted-long : (l : List ℕ) → acceptedLayout l ≡ true → 32 ≤ length l
+pub accepted-long : (l : List ℕ) → acceptedLayout l ≡ true → plainHeader ≤ length l
 accepted-long l a = exact-long l (accepted-exact l a)
 
-pub accepted-size : (l : List ℕ) (start n : ℕ) → acceptedLayout l ≡ true → start ≡ slotStart l → n ≡ stripeCount l → length l ≡ start + 24 * n
+pub accepted-size : (l : List ℕ) (start n : ℕ) → acceptedLayout l ≡ true → start ≡ slotStart l → n ≡ stripeCount l → length l ≡ start + slotSize * n
 accepted-size l start n a b q = rw (b, q) (exact-size l (accepted-exact l a))
 
 -- ## The reader's answers
@@ -172,11 +176,11 @@ module _ (l : List ℕ) where
   unfolding rewriteAnswer rewriteBytes
   rewrite-past j n s h q k = (rw (h, ← q, le-ltb j n k), rw (h, ← q, le-ltb j n k))
 
-  pub rewrite-done : (j n start : ℕ) (s : Slot) (m : List ℕ) → (acceptedLayout l && allowedSlot (withHoles (decodeHeader l)) s) ≡ true → n ≡ stripeCount l →
-      start ≡ slotStart l → j < n → m ≡ sets l (start + 24 * j) (encodeSlot s) →
+  pub rewrite-done : (j n : ℕ) (s : Slot) (m : List ℕ) → (acceptedLayout l && allowedSlot (withHoles (decodeHeader l)) s) ≡ true → n ≡ stripeCount l →
+      j < n → m ≡ encodeLayout (changed (decodeLayout l) j s) →
       (0 ≡ rewriteAnswer l j s) × (m ≡ rewriteBytes l j s)
   unfolding rewriteAnswer rewriteBytes
-  rewrite-done j n start s m h q b k e = (rw (h, ← q, lt-ltb j n k), rw (h, ← q, lt-ltb j n k, e, b))
+  rewrite-done j n s m h q k e = (rw (h, ← q, lt-ltb j n k), rw (h, ← q, lt-ltb j n k, e))
 
   pub may-bad : (s : Slot) → acceptedLayout l ≡ false → false ≡ (acceptedLayout l && allowedSlot (withHoles (decodeHeader l)) s)
   may-bad s h = rw h
@@ -190,30 +194,54 @@ module _ (l : List ℕ) where
 
 -- ## Read and written
 
--- what is written from what was read is the same bytes
-pub written-back : (l : List ℕ) → Bytes l → acceptedLayout l ≡ true → encodeLayout (decodeLayout l) ≡ l
+-- a layout of exact length, written from what was read of it, is the same bytes
+pub exact-back : (l : List ℕ) → Bytes l → exactLength l ≡ true → encodeLayout (decodeLayout l) ≡ l
 unfolding encodeLayout decodeLayout
-written-back l b a =
-    let f = accepted-facts l a in
+exact-back l b x =
+    let z = exact-size l x in
+    let m = start-least l refl in
     let h : ℕ = slotStart l in
     let n : ℕ = stripeCount l in
-    let e : 32 + (h - 32) ≡ h = omega arith in
+    let e : plainHeader + (h - plainHeader) ≡ h = omega arith in
     rw (
       length-slots n (drop h l),
       header-written-back l b (omega arith),
-      ← take-add 32 (h - 32) l,
+      ← take-add plainHeader (h - plainHeader) l,
       e,
       slots-written-back n (drop h l) (bytes-drop h l b) (rw length-drop (omega arith)),
-      take-all (24 * n) (drop h l) (rw length-drop (omega arith)),
+      take-all (slotSize * n) (drop h l) (rw length-drop (omega arith)),
       take-append-drop h l,
     )
+
+-- what is written from what was read is the same bytes
+pub written-back : (l : List ℕ) → Bytes l → acceptedLayout l ≡ true → encodeLayout (decodeLayout l) ≡ l
+written-back l b a = exact-back l b (accepted-exact l a)
+
+-- the pool name is what the header's size leaves for it
+pub pool-length : (l : List ℕ) → exactLength l ≡ true → length (decodeLayout l .pool) ≡ slotStart l - plainHeader
+unfolding decodeLayout
+pool-length l x =
+    let z = exact-size l x in
+    let m = start-least l refl in
+    length-take-le (slotStart l - plainHeader) (drop plainHeader l) (rw length-drop (omega arith))
 
 -- a layout that can be written: its numbers fit, its pool name is as long as the version says, and the rules hold
 pub record Writable (L : Layout) : Type 0 where
   pub header : FitHeader (L .header)
   pub fits : FitSlots (L .slots)
-  pub pool : length (L .pool) ≡ headerSize (L .header .magic) - 32
+  pub pool : length (L .pool) ≡ headerSize (L .header .magic) - plainHeader
   pub rules : layoutRules (L .header) (L .slots) ≡ true
+
+-- an accepted layout is one that can be written
+pub accepted-writable : (l : List ℕ) → Bytes l → acceptedLayout l ≡ true → Writable (decodeLayout l)
+unfolding decodeLayout decodeHeader slotStart acceptedLayout
+accepted-writable l b a =
+    record {
+      header = header-fits l b;
+      fits = slots-fit (stripeCount l) (drop (slotStart l) l) (bytes-drop (slotStart l) l b);
+      pool = pool-length l (accepted-exact l a);
+      rules = and-second (exactLength l) (layoutRules (decodeHeader l) (decodeLayout l .slots)) a;
+    }
 
 pub rules-few : (h : Header) (ss : List Slot) → layoutRules h ss ≡ true → length ss ≤ maxSlots
 unfolding layoutRules fewSlots
@@ -261,17 +289,17 @@ module _ (L : Layout) (w : Writable L) (r : List ℕ) where
   read-back =
       let k : ℕ = headerSize (L .header .magic) in
       let hp : length (head ++ L .pool) ≡ k = rw (length-append, length-header (L .header) n, w .pool) (omega (arith, size-least (L .header .magic))) in
-      let pool : take (k - 32) (drop 32 (encodeLayout L ++ r)) ≡ L .pool =
-      rw (spread, drop-at head (L .pool ++ (area ++ r)) 32 (length-header (L .header) n), take-at (L .pool) (area ++ r) (k - 32) (w .pool)) in
+      let pool : take (k - plainHeader) (drop plainHeader (encodeLayout L ++ r)) ≡ L .pool =
+      rw (spread, drop-at head (L .pool ++ (area ++ r)) plainHeader (length-header (L .header) n), take-at (L .pool) (area ++ r) (k - plainHeader) (w .pool)) in
       let slots : decodeSlots n (drop k (encodeLayout L ++ r)) ≡ L .slots =
       rw (spread, ← append-assoc head (L .pool) (area ++ r), drop-at (head ++ L .pool) (area ++ r) k hp)
       (slots-read-back (withHoles (L .header)) (L .slots) r (w .fits) (rules-slots (L .header) (L .slots) (w .rules))) in
-      let pool′ : take (slotStart (encodeLayout L ++ r) - 32) (drop 32 (encodeLayout L ++ r)) ≡ L .pool = rw start-back pool in
+      let pool′ : take (slotStart (encodeLayout L ++ r) - plainHeader) (drop plainHeader (encodeLayout L ++ r)) ≡ L .pool = rw start-back pool in
       let slots′ : decodeSlots (stripeCount (encodeLayout L ++ r)) (drop (slotStart (encodeLayout L ++ r)) (encodeLayout L ++ r)) ≡ L .slots =
       rw (start-back, count-back) slots in
       λ i. record { header = header-back i; pool = pool′ i; slots = slots′ i }
 
-pub length-layout : (L : Layout) → length (L .pool) ≡ headerSize (L .header .magic) - 32 →
+pub length-layout : (L : Layout) → length (L .pool) ≡ headerSize (L .header .magic) - plainHeader →
     length (encodeLayout L) ≡ layoutSize (L .header .magic) (length (L .slots))
 unfolding encodeLayout layoutSize
 length-layout L p =
@@ -291,47 +319,7 @@ written-accepted L w =
     let r : layoutRules (decodeHeader l) (decodeLayout l .slots) ≡ true = rw (h, d) (w .rules) in
     rw (eq-eqb (length l) (layoutSize (le 4 l) (stripeCount l)) z) r
 
--- ## A rewritten slot
-
-pub decode-header-append : (p q : List ℕ) → 32 ≤ length p → decodeHeader (p ++ q) ≡ decodeHeader p
-unfolding decodeHeader
-decode-header-append p q h =
-    rw (
-      le-append 4 p q (omega arith),
-      part 4 4 (omega arith),
-      part 8 8 (omega arith),
-      part 8 16 (omega arith),
-      part 4 24 (omega arith),
-      part 2 30 (omega arith),
-    )
-  where
-    part : (n k : ℕ) → k + n ≤ 32 → le n (drop k (p ++ q)) ≡ le n (drop k p)
-    part n k f = rw (drop-append-le k p q (omega arith), le-append n (drop k p) q (rw length-drop (omega arith)))
-
-pub stripe-count-append : (p q : List ℕ) → 32 ≤ length p → stripeCount (p ++ q) ≡ stripeCount p
-unfolding stripeCount
-stripe-count-append p q h = rw (drop-append-le 28 p q (omega arith), le-append 2 (drop 28 p) q (rw length-drop (omega arith)))
-
--- stores past the header leave header and count
-module _ (l e : List ℕ) (k : ℕ) (h : 32 ≤ k) (long : 32 ≤ length l) where
-  same-head : take 32 (sets l k e) ≡ take 32 l
-  same-head = take-sets-le e l 32 k h
-
-  by-head : {A : Type 0} (f : List ℕ → A) → ((p q : List ℕ) → 32 ≤ length p → f (p ++ q) ≡ f p) → f (sets l k e) ≡ f l
-  by-head f local = via (sets l k e) (rw length-sets long) ∙ ap f same-head ∙ sym (via l long)
-    where
-      via : (m : List ℕ) → 32 ≤ length m → f m ≡ f (take 32 m)
-      via m b = ap f (sym (take-append-drop 32 m)) ∙ local (take 32 m) (drop 32 m) (rw (length-take-le 32 m b) (omega arith))
-
-  pub header-stays : decodeHeader (sets l k e) ≡ decodeHeader l
-  header-stays = by-head decodeHeader decode-header-append
-
-  pub count-stays : stripeCount (sets l k e) ≡ stripeCount l
-  count-stays = by-head stripeCount stripe-count-append
-
-  pub start-stays : slotStart (sets l k e) ≡ slotStart l
-  unfolding slotStart
-  start-stays = ap headerSize (magic-of (sets l k e) (decodeHeader l) header-stays ∙ magic-read l)
+-- ## A changed slot
 
 pub allowed-set : (holes : Bool) (ss : List Slot) (j : ℕ) (s : Slot) → allowedSlots holes ss ≡ true → allowedSlot holes s ≡ true →
     allowedSlots holes (set ss j s) ≡ true
@@ -342,41 +330,73 @@ allowed-set holes (x ∷ ss) (suc j) s a t =
     rw (and-first (allowedSlot holes x) (allowedSlots holes ss) a)
     (allowed-set holes ss j s (and-second (allowedSlot holes x) (allowedSlots holes ss) a) t)
 
--- the layout with slot j set
-unfoldable pub withSlot : Layout → ℕ → Slot → Layout
-withSlot L j s = record { header = L .header; pool = L .pool; slots = set (L .slots) j s }
+-- the bytes of a changed layout: those of the slot in place of the old ones
+pub changed-bytes : (L : Layout) (j : ℕ) (s : Slot) → j < length (L .slots) →
+    encodeLayout (changed L j s) ≡ sets (encodeLayout L) (plainHeader + length (L .pool) + slotSize * j) (encodeSlot s)
+unfolding encodeLayout changed
+changed-bytes L j s h =
+    let n : ℕ = length (L .slots) in
+    let pre : List ℕ = encodeHeader (L .header) n ++ L .pool in
+    let ss : List ℕ = encodeSlots (L .slots) in
+    let k : plainHeader + length (L .pool) + slotSize * j ≡ length pre + slotSize * j = rw (length-append, length-header (L .header) n) in
+    let m : slotSize * j + length (encodeSlot s) ≤ length ss = omega (arith, length-slot s, length-encode-slots (L .slots)) in
+    let e : sets (pre ++ (ss ++ [])) (length pre + slotSize * j) (encodeSlot s) ≡ pre ++ (sets ss (slotSize * j) (encodeSlot s) ++ []) =
+    sets-mid pre [] (encodeSlot s) ss (slotSize * j) m in
+    rw (length-set (L .slots) j s, encode-set (L .slots) j s h, k) (sym (rw (append-nil ss, append-nil (sets ss (slotSize * j) (encodeSlot s))) at e))
 
--- a rewritten slot is `set` on the layout's slots, and changes nothing else
-pub rewritten : (l : List ℕ) (j : ℕ) (s : Slot) → acceptedLayout l ≡ true → FitSlot s → allowedSlot (withHoles (decodeHeader l)) s ≡ true →
-    j < stripeCount l → decodeLayout (sets l (slotStart l + 24 * j) (encodeSlot s)) ≡ withSlot (decodeLayout l) j s
-unfolding decodeLayout withSlot
-rewritten l j s a f t h =
-    let k = accepted-facts l a in
-    let e : List ℕ = encodeSlot s in
-    let b : ℕ = slotStart l in
-    let n : ℕ = stripeCount l in
-    let m : List ℕ = sets l (b + 24 * j) e in
-    let hd : decodeHeader m ≡ decodeHeader l = header-stays l e (b + 24 * j) (omega arith) (omega arith) in
-    let ct : stripeCount m ≡ n = count-stays l e (b + 24 * j) (omega arith) (omega arith) in
-    let st : slotStart m ≡ b = start-stays l e (b + 24 * j) (omega arith) (omega arith) in
-    let z : b + 24 * j ≡ 32 + (b - 32 + 24 * j) = omega arith in
-    let pool : take (slotStart m - 32) (drop 32 m) ≡ take (b - 32) (drop 32 l) =
-    rw (st, z, drop-sets-add e l 32 (b - 32 + 24 * j)) (take-sets-le e (drop 32 l) (b - 32) (b - 32 + 24 * j) (omega arith)) in
-    let slots : decodeSlots (stripeCount m) (drop (slotStart m) m) ≡ set (decodeSlots n (drop b l)) j s =
-    rw (ct, st, drop-sets-add e l b (24 * j)) (slots-set (withHoles (decodeHeader l)) n j (drop b l) s f t h (rw length-drop (omega arith))) in
-    λ i. record { header = hd i; pool = pool i; slots = slots i }
+pub length-changed : (L : Layout) (j : ℕ) (s : Slot) → j < length (L .slots) → length (encodeLayout (changed L j s)) ≡ length (encodeLayout L)
+length-changed L j s h = rw (changed-bytes L j s h) (length-sets (encodeLayout L) (plainHeader + length (L .pool) + slotSize * j) (encodeSlot s))
 
--- and the rewritten bytes are accepted
-pub rewritten-accepted : (l : List ℕ) (j : ℕ) (s : Slot) → acceptedLayout l ≡ true → FitSlot s → allowedSlot (withHoles (decodeHeader l)) s ≡ true →
-    j < stripeCount l → acceptedLayout (sets l (slotStart l + 24 * j) (encodeSlot s)) ≡ true
-unfolding withSlot
-rewritten-accepted l j s a f t h =
-    let k = accepted-facts l a in
-    let e : List ℕ = encodeSlot s in
-    let m : List ℕ = sets l (slotStart l + 24 * j) e in
-    let hd : decodeHeader m ≡ decodeHeader l = header-stays l e (slotStart l + 24 * j) (omega arith) (omega arith) in
-    let ct : stripeCount m ≡ stripeCount l = count-stays l e (slotStart l + 24 * j) (omega arith) (omega arith) in
-    let st : slotStart m ≡ slotStart l = start-stays l e (slotStart l + 24 * j) (omega arith) (omega arith) in
-    let ss : decodeLayout m .slots ≡ set (decodeLayout l .slots) j s = ap (λ (L : Layout). L .slots) (rewritten l j s a f t h) in
-    accepted-from m (rw (length-sets, st, ct) (k .size)) (rw hd (k .known)) (rw ct (k .few))
-    (rw (hd, ss) (allowed-set (withHoles (decodeHeader l)) (decodeLayout l .slots) j s (k .slots) t))
+-- in the bytes that were read: the slot's 24 bytes alone
+pub spliced : (l : List ℕ) (j : ℕ) (s : Slot) → Bytes l → exactLength l ≡ true → j < stripeCount l →
+    sets l (slotStart l + slotSize * j) (encodeSlot s) ≡ encodeLayout (changed (decodeLayout l) j s)
+spliced l j s b x h =
+    let L : Layout = decodeLayout l in
+    let p = pool-length l x in
+    let m = start-least l refl in
+    let q : plainHeader + length (L .pool) ≡ slotStart l = omega arith in
+    rw (changed-bytes L j s (rw (slots-many l) h), q, exact-back l b x)
+
+changed-writable : (L : Layout) (j : ℕ) (s : Slot) → Writable L → FitSlot s → allowedSlot (withHoles (L .header)) s ≡ true → Writable (changed L j s)
+unfolding changed layoutRules
+changed-writable L j s w f t =
+    let few : Bool = knownVersion (L .header) && knownPattern (L .header) && fewSlots (length (L .slots)) in
+    record {
+      header = w .header;
+      fits = fit-set (L .slots) j s (w .fits) f;
+      pool = w .pool;
+      rules =
+          rw (length-set (L .slots) j s)
+          (and-both few (allowedSlots (withHoles (L .header)) (set (L .slots) j s)) (and-first few (allowedSlots (withHoles (L .header)) (L .slots)) (w .rules))
+          (allowed-set (withHoles (L .header)) (L .slots) j s (rules-slots (L .header) (L .slots) (w .rules)) t));
+    }
+
+-- a rewrite that is not refused
+pub rewrite-taken : (l : List ℕ) (j : ℕ) (s : Slot) → rewriteAnswer l j s ≡ 0 →
+    (acceptedLayout l ≡ true) × (allowedSlot (withHoles (decodeHeader l)) s ≡ true) × (j < stripeCount l)
+unfolding rewriteAnswer
+rewrite-taken l j s = go (acceptedLayout l) (allowedSlot (withHoles (decodeHeader l)) s) (ltb j (stripeCount l)) refl
+  where
+    go : (a t u : Bool) → ltb j (stripeCount l) ≡ u → cond {A = ℕ} (a && t) (cond u 0 16) 13 ≡ 0 → (a ≡ true) × (t ≡ true) × (j < stripeCount l)
+    go true true true q e = (refl, refl, ltb-true j (stripeCount l) q)
+    go true true false q e = absurd (omega (arith, e))
+    go true false u q e = absurd (omega (arith, e))
+    go false t u q e = absurd (omega (arith, e))
+
+-- "Rewriting a slot touches only that slot's 24 bytes inside the lent layout"
+pub rewrite-splices : (l : List ℕ) (j : ℕ) (s : Slot) → Bytes l → rewriteAnswer l j s ≡ 0 →
+    rewriteBytes l j s ≡ sets l (slotStart l + slotSize * j) (encodeSlot s)
+unfolding rewriteBytes
+rewrite-splices l j s b e =
+    let t = rewrite-taken l j s e in
+    rw (eq-eqb (rewriteAnswer l j s) 0 e) (sym (spliced l j s b (accepted-exact l (t .0)) (t .2)))
+
+-- and what was rewritten is accepted and reads back as the layout with that slot changed
+pub rewritten : (l : List ℕ) (j : ℕ) (s : Slot) → Bytes l → FitSlot s → rewriteAnswer l j s ≡ 0 →
+    (acceptedLayout (rewriteBytes l j s) ≡ true) × (decodeLayout (rewriteBytes l j s) ≡ changed (decodeLayout l) j s)
+unfolding rewriteBytes
+rewritten l j s b f e =
+    let t = rewrite-taken l j s e in
+    let M : Layout = changed (decodeLayout l) j s in
+    let w = changed-writable (decodeLayout l) j s (accepted-writable l b (t .0)) f (rw (header-is l) (t .1)) in
+    rw (eq-eqb (rewriteAnswer l j s) 0 e) (written-accepted M w, rw (append-nil (encodeLayout M)) at (read-back M w []))

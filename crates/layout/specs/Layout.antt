@@ -2,10 +2,10 @@
 use Prim.Native.Nat.{ℕ, _+_, _-_, _*_}
 use mathlib.Core.List.{List, _++_}
 use mathlib.Core.Bool.{Bool, cond, _&&_, _||_}
-use lib.ListN.{length, take, drop}
+use lib.ListN.{length, take, drop, set}
 use lib.Dec.{leb, eqb}
 use Rattle.wire.specs.Numbers.{le, bytes}
-use Rattle.layout.specs.Slot.{decodeSlots, encodeSlots, allowedSlots}
+use Rattle.layout.specs.Slot.{slotSize, decodeSlots, encodeSlots, allowedSlots}
 use Rattle.layout.specs.declared.Header.{Header}
 use Rattle.layout.specs.declared.Slot.{Slot}
 
@@ -22,26 +22,54 @@ magicOne = 0x0bd10bd0
 abbrev pub magicThree : ℕ
 magicThree = 0x0bd30bd0
 
--- "header 32 bytes", "the same and 16 bytes of pool name, 48 in all"
-unfoldable pub headerSize : ℕ → ℕ
-headerSize magic = cond (eqb magic magicThree) 48 32
+-- "magic 4, pattern 4, own id 8, own sequence 8, stripe size 4, stripe count 2, generation 2": where each stands
+abbrev pub patternAt : ℕ
+patternAt = 4
 
--- "magic 4, pattern 4, own id 8, own sequence 8, stripe size 4, stripe count 2, generation 2"
+abbrev pub ownIdAt : ℕ
+ownIdAt = patternAt + 4
+
+abbrev pub ownSequenceAt : ℕ
+ownSequenceAt = ownIdAt + 8
+
+abbrev pub stripeSizeAt : ℕ
+stripeSizeAt = ownSequenceAt + 8
+
+abbrev pub stripeCountAt : ℕ
+stripeCountAt = stripeSizeAt + 4
+
+abbrev pub generationAt : ℕ
+generationAt = stripeCountAt + 2
+
+-- "header 32 bytes"
+abbrev pub plainHeader : ℕ
+plainHeader = generationAt + 2
+
+-- "the same and 16 bytes of pool name, 48 in all"
+abbrev pub poolSize : ℕ
+poolSize = 16
+
+abbrev pub poolHeader : ℕ
+poolHeader = plainHeader + poolSize
+
+unfoldable pub headerSize : ℕ → ℕ
+headerSize magic = cond (eqb magic magicThree) poolHeader plainHeader
+
 unfoldable pub decodeHeader : List ℕ → Header
 decodeHeader l =
     record {
       magic = le 4 l;
-      pattern = le 4 (drop 4 l);
-      oid = le 8 (drop 8 l);
-      seq = le 8 (drop 16 l);
-      stripe = le 4 (drop 24 l);
-      generation = le 2 (drop 30 l);
+      pattern = le 4 (drop patternAt l);
+      oid = le 8 (drop ownIdAt l);
+      seq = le 8 (drop ownSequenceAt l);
+      stripe = le 4 (drop stripeSizeAt l);
+      generation = le 2 (drop generationAt l);
     }
 
 unfoldable pub stripeCount : List ℕ → ℕ
-stripeCount l = le 2 (drop 28 l)
+stripeCount l = le 2 (drop stripeCountAt l)
 
--- the 32 bytes of a header with a stripe count
+-- the plain header with a stripe count
 unfoldable pub encodeHeader : Header → ℕ → List ℕ
 encodeHeader h count =
     bytes 4 (h .magic) ++ bytes 4 (h .pattern) ++ bytes 8 (h .oid) ++ bytes 8 (h .seq) ++ bytes 4 (h .stripe)
@@ -56,12 +84,16 @@ unfoldable pub decodeLayout : List ℕ → Layout
 decodeLayout l =
     record {
       header = decodeHeader l;
-      pool = take (slotStart l - 32) (drop 32 l);
+      pool = take (slotStart l - plainHeader) (drop plainHeader l);
       slots = decodeSlots (stripeCount l) (drop (slotStart l) l);
     }
 
 unfoldable pub encodeLayout : Layout → List ℕ
 encodeLayout L = encodeHeader (L .header) (length (L .slots)) ++ L .pool ++ encodeSlots (L .slots)
+
+-- a changed slot: the layout with slot j changed, and nothing else
+unfoldable pub changed : Layout → ℕ → Slot → Layout
+changed L j s = record { header = L .header; pool = L .pool; slots = set (L .slots) j s }
 
 -- ## The rules
 
@@ -88,9 +120,13 @@ maxSlots = 160
 unfoldable pub fewSlots : ℕ → Bool
 fewSlots n = leb n maxSlots
 
+-- the bytes of the longest layout, which the room of a row holds: "3,888 bytes of room for the layout"
+abbrev pub maxLayout : ℕ
+maxLayout = poolHeader + slotSize * maxSlots
+
 -- the bytes of a layout of n slots
 unfoldable pub layoutSize : ℕ → ℕ → ℕ
-layoutSize magic n = headerSize magic + 24 * n
+layoutSize magic n = headerSize magic + slotSize * n
 
 -- "The length is exactly header plus 24 times count"
 unfoldable pub exactLength : List ℕ → Bool

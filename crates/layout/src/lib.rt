@@ -1,14 +1,15 @@
-// Striping layouts, version 1 and 3: reader, slot reader, writer and slot rewrite.
+// Striping layouts, version 1 and 3: reader, slot reader and slot rewrite, and the pieces that the writer is made of.
+use fid::FID_SIZE;
 use fid::Fid;
 use fid::OstFid;
 ghost use mathlib.Core.Path.{_≡_};
 ghost use mathlib.Core.Bool.{true, _&&_};
-ghost use Prim.Native.Nat.{_+_, _*_, _≤_};
+ghost use Prim.Native.Nat.{_+_, _*_, _≤_, _<_};
 ghost use lib.ListN.{length};
 ghost use lib.Seq.{sets};
-ghost use Rattle.layout.specs.Slot.{zeroSlot, slotOf, encodeSlot, decodeSlots, encodeSlots, allowedSlot, allowedSlots, slotNames};
-ghost use Rattle.layout.specs.Layout.{headerSize, decodeHeader, encodeHeader, stripeCount, slotStart, knownVersion, knownPattern, withHoles, exactLength, acceptedLayout};
-ghost use Rattle.layout.specs.Answers.{readLayout, readSlot, rewriteAnswer, rewriteBytes, zeroGiven, givenFrom, givenAt, isSlot, slotGiven, givenSlots, allGiven, writable, writeLayout, writeBytes};
+ghost use Rattle.layout.specs.Slot.{slotSize, zeroSlot, slotOf, encodeSlot, decodeSlots, allowedSlot, allowedSlots, slotNames};
+ghost use Rattle.layout.specs.Layout.{plainHeader, stripeCountAt, headerSize, decodeHeader, encodeHeader, decodeLayout, encodeLayout, changed, stripeCount, slotStart, knownVersion, knownPattern, withHoles, exactLength, acceptedLayout};
+ghost use Rattle.layout.specs.Answers.{readLayout, readSlot, rewriteAnswer, rewriteBytes};
 
 // The greatest number of slots.
 pub const MAX_SLOTS: usize = 160;
@@ -19,6 +20,37 @@ pub const MAX_INDEX: u32 = 65535;
 pub const MAGIC_ONE: u32 = 0x0bd1_0bd0;
 
 pub const MAGIC_THREE: u32 = 0x0bd3_0bd0;
+
+// Where generation and OST index stand in a slot, after its FID.
+const SLOT_GENERATION_AT: usize = FID_SIZE;
+
+const SLOT_INDEX_AT: usize = SLOT_GENERATION_AT + 4;
+
+// The bytes of a slot.
+pub const SLOT_SIZE: usize = SLOT_INDEX_AT + 4;
+
+// Where the fields of a header stand, after the 4 bytes of the magic number.
+const PATTERN_AT: usize = 4;
+
+const OWN_ID_AT: usize = PATTERN_AT + 4;
+
+const OWN_SEQUENCE_AT: usize = OWN_ID_AT + 8;
+
+const STRIPE_SIZE_AT: usize = OWN_SEQUENCE_AT + 8;
+
+const STRIPE_COUNT_AT: usize = STRIPE_SIZE_AT + 4;
+
+const GENERATION_AT: usize = STRIPE_COUNT_AT + 2;
+
+// The bytes of a header, without and with a pool name.
+pub const PLAIN_HEADER: usize = GENERATION_AT + 2;
+
+const POOL_SIZE: usize = 16;
+
+pub const POOL_HEADER: usize = PLAIN_HEADER + POOL_SIZE;
+
+// The bytes of the longest layout.
+pub const MAX_LAYOUT: usize = POOL_HEADER + SLOT_SIZE * MAX_SLOTS;
 
 const PLAIN_PATTERN: u32 = 1;
 
@@ -53,19 +85,6 @@ pub enum SlotRead {
     SlotIs(Slot),
 }
 
-// A slot that is handed in as five numbers.
-pub enum Given {
-    NotSlot,
-    GivenSlot(Slot),
-}
-
-// What the writer says: refused fields, a short destination, or the bytes written.
-pub enum Written {
-    BadFields,
-    TooShort,
-    Bytes(usize),
-}
-
 // Whether the five numbers of a slot are all zero.
 fn is_zero_slot(f: Fid, g: u32, i: u32) -> bool
     ensures { λ r. ⌜ r ≡ zeroSlot f g i ⌝ }
@@ -87,13 +106,13 @@ fn is_zero_slot(f: Fid, g: u32, i: u32) -> bool
 
 // Slot j of the slot area, the part of a layout after its header.
 pub fn slot_at(area: &[u8], j: usize) -> Slot
-    requires { ⌜ 24 * j + 24 ≤ length (now area) ⌝ }
+    requires { ⌜ slotSize * j + slotSize ≤ length (now area) ⌝ }
     ensures { λ r. ⌜ r ≡ slotOf (now (area .entry)) j ⌝ }
 {
-    let at = 24 * j;
+    let at = SLOT_SIZE * j;
     let f = fid::read_fid(area, at);
-    let g = wire::le32(area, at + 16);
-    let i = wire::le32(area, at + 20);
+    let g = wire::le32(area, at + SLOT_GENERATION_AT);
+    let i = wire::le32(area, at + SLOT_INDEX_AT);
     if is_zero_slot(f, g, i) {
         Slot::Hole
     } else {
@@ -118,8 +137,7 @@ pub fn allowed_slot(holes: bool, s: Slot) -> bool
     match s {
         Slot::Hole => holes,
         Slot::Names(f, _, i) => {
-            let g = f.0;
-            if !fid::is_good(g) {
+            if !fid::good_object(f) {
                 return false;
             }
             i <= MAX_INDEX
@@ -129,7 +147,7 @@ pub fn allowed_slot(holes: bool, s: Slot) -> bool
 
 // Whether each of the first slots of a slot area is allowed.
 fn allowed_slots(area: &[u8], count: usize, holes: bool) -> bool
-    requires { ⌜ 24 * count ≤ length (now area) ⌝ }
+    requires { ⌜ slotSize * count ≤ length (now area) ⌝ }
     ensures { λ r. ⌜ r ≡ allowedSlots holes (decodeSlots count (now (area .entry))) ⌝ }
 {
     for j in 0..count {
@@ -143,7 +161,7 @@ fn allowed_slots(area: &[u8], count: usize, holes: bool) -> bool
 
 // Writes a slot over the 24 bytes that it is lent.
 pub fn put_slot(part: &mut [u8], s: Slot)
-    requires { ⌜ length (now part) ≡ 24 ⌝ }
+    requires { ⌜ length (now part) ≡ slotSize ⌝ }
     ensures { λ _. ⌜ now (part .exit) ≡ encodeSlot s ⌝ }
 {
     match s {
@@ -155,27 +173,21 @@ pub fn put_slot(part: &mut [u8], s: Slot)
         Slot::Names(f, g, i) => {
             let named = f.0;
             fid::write_fid(part, 0, named);
-            wire::put_le32(part, 16, g);
-            wire::put_le32(part, 20, i);
+            wire::put_le32(part, SLOT_GENERATION_AT, g);
+            wire::put_le32(part, SLOT_INDEX_AT, i);
         }
     }
-}
-
-// Rewrites slot j in place, the slots starting at h: its 24 bytes are lent to the slot writer.
-pub fn set_slot(layout: &mut [u8], h: usize, j: usize, s: Slot)
-    requires { ⌜ h + 24 * j + 24 ≤ length (now layout) ⌝ }
-    ensures { λ _. ⌜ now (layout .exit) ≡ sets (now (layout .entry)) (h + 24 * j) (encodeSlot s) ⌝ }
-{
-    let a = h + 24 * j;
-    let e = a + 24;
-    put_slot(&mut layout[a..e], s);
 }
 
 // The header's length by the magic number.
 pub fn header_size(magic: u32) -> usize
     ensures { λ r. ⌜ r ≡ headerSize magic ⌝ }
 {
-    if magic == MAGIC_THREE { 48 } else { 32 }
+    if magic == MAGIC_THREE {
+        POOL_HEADER
+    } else {
+        PLAIN_HEADER
+    }
 }
 
 // Where the slots start.
@@ -188,24 +200,24 @@ pub fn slot_start(layout: &[u8]) -> usize
 
 // The stripe count of a header.
 pub fn stripe_count(layout: &[u8]) -> u16
-    requires { ⌜ 30 ≤ length (now layout) ⌝ }
+    requires { ⌜ stripeCountAt + 2 ≤ length (now layout) ⌝ }
     ensures { λ r. ⌜ r ≡ stripeCount (now (layout .entry)) ⌝ }
 {
-    wire::le16(layout, 28)
+    wire::le16(layout, STRIPE_COUNT_AT)
 }
 
 // The header that a layout begins with.
 pub fn read_header(layout: &[u8]) -> Header
-    requires { ⌜ 32 ≤ length (now layout) ⌝ }
+    requires { ⌜ plainHeader ≤ length (now layout) ⌝ }
     ensures { λ r. ⌜ r ≡ decodeHeader (now (layout .entry)) ⌝ }
 {
     Header {
         magic: wire::le32(layout, 0),
-        pattern: wire::le32(layout, 4),
-        oid: wire::le64(layout, 8),
-        seq: wire::le64(layout, 16),
-        stripe: wire::le32(layout, 24),
-        generation: wire::le16(layout, 30),
+        pattern: wire::le32(layout, PATTERN_AT),
+        oid: wire::le64(layout, OWN_ID_AT),
+        seq: wire::le64(layout, OWN_SEQUENCE_AT),
+        stripe: wire::le32(layout, STRIPE_SIZE_AT),
+        generation: wire::le16(layout, GENERATION_AT),
     }
 }
 
@@ -230,7 +242,7 @@ fn known_pattern(h: Header) -> bool
 }
 
 // Whether magic and pattern are known.
-fn known_header(h: Header) -> bool
+pub fn known_header(h: Header) -> bool
     ensures { λ r. ⌜ r ≡ (knownVersion h && knownPattern h) ⌝ }
 {
     if !known_version(h) {
@@ -250,12 +262,23 @@ pub fn with_holes(h: Header) -> bool
 fn exact_length(layout: &[u8]) -> bool
     ensures { λ r. ⌜ r ≡ exactLength (now (layout .entry)) ⌝ }
 {
-    if layout.len() < 32 {
+    if layout.len() < PLAIN_HEADER {
         return false;
     }
     let h = slot_start(layout);
     let n = stripe_count(layout) as usize;
-    layout.len() == h + 24 * n
+    layout.len() == h + SLOT_SIZE * n
+}
+
+// Changes slot j of a layout of exact length in place: the slot's 24 bytes are lent to the slot writer.
+pub fn change_slot(layout: &mut [u8], j: usize, s: Slot)
+    requires { ⌜ (exactLength (now layout) ≡ true) × (j < stripeCount (now layout)) ⌝ }
+    ensures { λ _. ⌜ now (layout .exit) ≡ encodeLayout (changed (decodeLayout (now (layout .entry))) j s) ⌝ }
+{
+    let start = slot_start(layout);
+    let a = start + SLOT_SIZE * j;
+    let e = a + SLOT_SIZE;
+    put_slot(&mut layout[a..e], s);
 }
 
 // Whether a layout meets every rule.
@@ -324,179 +347,20 @@ pub fn rewrite(layout: &mut [u8], j: usize, s: Slot) -> u32
     if n <= j {
         return 16;
     }
-    let start = slot_start(layout);
-    set_slot(layout, start, j, s);
+    change_slot(layout, j, s);
     0
 }
 
-// Whether five numbers are all zero.
-fn is_zero_given(k: u64, s: u64, o: u64, g: u64, i: u64) -> bool
-    ensures { λ r. ⌜ r ≡ zeroGiven k s o g i ⌝ }
-{
-    if k != 0 {
-        return false;
-    }
-    if s != 0 {
-        return false;
-    }
-    if o != 0 {
-        return false;
-    }
-    if g != 0 {
-        return false;
-    }
-    i == 0
-}
-
-// The slot of five numbers, if they are one.
-pub fn given_from(k: u64, s: u64, o: u64, g: u64, i: u64) -> Given
-    ensures { λ r. ⌜ r ≡ givenFrom k s o g i ⌝ }
-{
-    if is_zero_given(k, s, o, g, i) {
-        return Given::GivenSlot(Slot::Hole);
-    }
-    if k != 1 {
-        return Given::NotSlot;
-    }
-    if 0xffff_ffff < o {
-        return Given::NotSlot;
-    }
-    if 0xffff_ffff < g {
-        return Given::NotSlot;
-    }
-    if 0xffff_ffff < i {
-        return Given::NotSlot;
-    }
-    let f = Fid {
-        seq: s,
-        oid: o as u32,
-        ver: 0,
-    };
-    Given::GivenSlot(Slot::Names(OstFid(f), g as u32, i as u32))
-}
-
-// The j-th slot of a list of numbers, five to a slot.
-fn given_at(numbers: &[u64], j: usize) -> Given
-    requires { ⌜ 5 * j + 5 ≤ length (now numbers) ⌝ }
-    ensures { λ r. ⌜ r ≡ givenAt (now (numbers .entry)) j ⌝ }
-{
-    let a = 5 * j;
-    given_from(
-        numbers[a],
-        numbers[a + 1],
-        numbers[a + 2],
-        numbers[a + 3],
-        numbers[a + 4],
-    )
-}
-
-// Whether a slot is given, and allowed.
-fn allowed_given(holes: bool, g: Given) -> bool
-    ensures { λ r. ⌜ r ≡ (isSlot g && allowedSlot holes (slotGiven g)) ⌝ }
-{
-    match g {
-        Given::NotSlot => false,
-        Given::GivenSlot(s) => allowed_slot(holes, s),
-    }
-}
-
-// Whether each of the slots handed in is one, and allowed.
-fn allowed_numbers(numbers: &[u64], count: usize, holes: bool) -> bool
-    requires { ⌜ length (now numbers) ≡ 5 * count ⌝ }
-    ensures { λ r. ⌜ r ≡ (allGiven (now (numbers .entry)) count 0 && allowedSlots holes (givenSlots (now (numbers .entry)) count 0)) ⌝ }
-{
-    for j in 0..count {
-        let g = given_at(numbers, j);
-        if !allowed_given(holes, g) {
-            return false;
-        }
-    }
-    true
-}
-
-// Whether the writer takes these fields, this pool name and these slots.
-pub fn may_write(h: Header, count: usize, pool: &[u8], numbers: &[u64]) -> bool
-    ensures { λ r. ⌜ r ≡ writable h count (now (pool .entry)) (now (numbers .entry)) ⌝ }
-{
-    if MAX_SLOTS < count {
-        return false;
-    }
-    if numbers.len() != 5 * count {
-        return false;
-    }
-    if pool.len() != header_size(h.magic) - 32 {
-        return false;
-    }
-    if !known_header(h) {
-        return false;
-    }
-    allowed_numbers(numbers, count, with_holes(h))
-}
-
-// Writes a header with a stripe count over the first 32 bytes.
+// Writes a header with a stripe count over the first bytes.
 pub fn write_header(dest: &mut [u8], h: Header, count: u16)
-    requires { ⌜ 32 ≤ length (now dest) ⌝ }
+    requires { ⌜ plainHeader ≤ length (now dest) ⌝ }
     ensures { λ _. ⌜ now (dest .exit) ≡ sets (now (dest .entry)) 0 (encodeHeader h count) ⌝ }
 {
     wire::put_le32(dest, 0, h.magic);
-    wire::put_le32(dest, 4, h.pattern);
-    wire::put_le64(dest, 8, h.oid);
-    wire::put_le64(dest, 16, h.seq);
-    wire::put_le32(dest, 24, h.stripe);
-    wire::put_le16(dest, 28, count);
-    wire::put_le16(dest, 30, h.generation);
-}
-
-// Copies the pool name to its place after the 32 bytes.
-fn write_pool(dest: &mut [u8], pool: &[u8])
-    requires { ⌜ 32 + length (now pool) ≤ length (now dest) ⌝ }
-    ensures { λ _. ⌜ now (dest .exit) ≡ sets (now (dest .entry)) 32 (now (pool .entry)) ⌝ }
-{
-    for i in 0..pool.len() {
-        let b = pool[i];
-        dest[32 + i] = b;
-    }
-}
-
-// Writes the j-th of the slots handed in over the 24 bytes that it is lent.
-fn put_given(part: &mut [u8], numbers: &[u64], j: usize)
-    requires { ⌜ (length (now part) ≡ 24) × (5 * j + 5 ≤ length (now numbers)) ⌝ }
-    ensures { λ _. ⌜ now (part .exit) ≡ encodeSlot (slotGiven (givenAt (now (numbers .entry)) j)) ⌝ }
-{
-    let g = given_at(numbers, j);
-    match g {
-        Given::NotSlot => put_slot(part, Slot::Hole),
-        Given::GivenSlot(s) => put_slot(part, s),
-    }
-}
-
-// Writes the slots handed in, from a place on.
-fn write_slots(dest: &mut [u8], start: usize, numbers: &[u64], count: usize)
-    requires { ⌜ (start + 24 * count ≤ length (now dest)) × (length (now numbers) ≡ 5 * count) ⌝ }
-    ensures { λ _. ⌜ now (dest .exit) ≡ sets (now (dest .entry)) start (encodeSlots (givenSlots (now (numbers .entry)) count 0)) ⌝ }
-{
-    for j in 0..count {
-        let a = start + 24 * j;
-        let e = a + 24;
-        put_given(&mut dest[a..e], numbers, j);
-    }
-}
-
-// Writes a layout at the start of the destination: 13 for what it is handed, then 17 for the room.
-pub fn write(h: Header, count: usize, pool: &[u8], numbers: &[u64], dest: &mut [u8]) -> Written
-    ensures answer { λ r. ⌜ r ≡ writeLayout h count (now (pool .entry)) (now (numbers .entry)) (now (dest .entry)) ⌝ }
-    ensures bytes { λ _. ⌜ now (dest .exit) ≡ writeBytes h count (now (pool .entry)) (now (numbers .entry)) (now (dest .entry)) ⌝ }
-{
-    if !may_write(h, count, pool, numbers) {
-        return Written::BadFields;
-    }
-    let start = header_size(h.magic);
-    let size = start + 24 * count;
-    if dest.len() < size {
-        return Written::TooShort;
-    }
-    write_header(dest, h, count as u16);
-    write_pool(dest, pool);
-    write_slots(dest, start, numbers, count);
-    Written::Bytes(size)
+    wire::put_le32(dest, PATTERN_AT, h.pattern);
+    wire::put_le64(dest, OWN_ID_AT, h.oid);
+    wire::put_le64(dest, OWN_SEQUENCE_AT, h.seq);
+    wire::put_le32(dest, STRIPE_SIZE_AT, h.stripe);
+    wire::put_le16(dest, STRIPE_COUNT_AT, count);
+    wire::put_le16(dest, GENERATION_AT, h.generation);
 }

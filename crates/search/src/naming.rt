@@ -1,7 +1,7 @@
 // The slots that name an object, in scan order: parent row, then slot.
 use super::slots;
-use super::slots::SLOT_SIZE;
 use fid::OstFid;
+use layout::SLOT_SIZE;
 use layout::Slot;
 use rules::Found;
 use tables::rows;

@@ -1,5 +1,6 @@
 // The slots of one parent row.
 use fid::OstFid;
+use layout::SLOT_SIZE;
 use layout::Slot;
 use rules::Found;
 use tables::rows;
@@ -15,9 +16,6 @@ ghost use Rattle.tables.specs.Positions.{slotsOf, width};
 ghost use Rattle.tables.specs.Check.{whenUsed, goodLayout, goodLayouts};
 ghost use Rattle.rules.specs.Search.{slotFrom};
 ghost use Rattle.rules.specs.Rows.{slotAt, namesAt};
-
-// The bytes of a slot.
-pub const SLOT_SIZE: usize = 24;
 
 // The slot area of a parent row, the part of its layout after the header: no bytes where the row is unused.
 pub fn slot_area(row: &[u8]) -> &[u8]

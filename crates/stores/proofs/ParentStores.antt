@@ -1,10 +1,9 @@
 -- The stores of a parent row, over what the row says. Assumes nothing.
 use mathlib.Core.Path.{_≡_, refl, sym, ap, _∙_}
-use mathlib.Core.List.{List, [], _∷_, _++_, append-assoc, append-nil}
-use Prim.Native.Nat.{ℕ, zero, suc, _+_, _-_, _*_, _≤_, _<_}
+use mathlib.Core.List.{List, [], _∷_, _++_, append-assoc}
+use Prim.Native.Nat.{ℕ, suc, _+_, _-_, _*_, _≤_, _<_}
 use native.Mathlib.Omega.{arith}
-use native.Mathlib.Nat.{not-suc-le-zero}
-use lib.ListN.{length, take, drop, set, replicate, length-append, length-set, length-replicate, take-append-drop}
+use lib.ListN.{length, take, drop, set, replicate, length-append, length-replicate, take-append-drop}
 use lib.Seq.{sets, sets-eq, drop-drop, length-take-le}
 use Rattle.wire.specs.Numbers.{bytes}
 use Rattle.wire.proofs.NumberLaws.{length-bytes}
@@ -16,9 +15,10 @@ use Rattle.layout.specs.declared.Header.{Header}
 use Rattle.layout.specs.declared.Slot.{Slot}
 use Rattle.layout.specs.declared.Slot.the-variants.{Hole}
 use Rattle.layout.specs.Slot.{encodeSlot, encodeSlots}
-use Rattle.layout.specs.Layout.{Layout, headerSize, magicOne, encodeHeader, encodeLayout, layoutSize}
-use Rattle.layout.proofs.SlotLaws.{length-slot, length-encode-slots}
+use Rattle.layout.specs.Layout.{Layout, headerSize, magicOne, encodeHeader, encodeLayout, layoutSize, changed}
+use Rattle.layout.proofs.SlotLaws.{length-slot, length-encode-slots, encode-append}
 use Rattle.layout.proofs.HeaderLaws.{length-header}
+use Rattle.layout.proofs.LayoutLaws.{changed-bytes, length-changed}
 use Rattle.tables.specs.Records.{Parent, ParentRow, used}
 use Rattle.tables.specs.Bytes.{encodeOwner, encodeParent, renderParent, renderRow}
 use Rattle.tables.specs.Positions.{slotsOf}
@@ -51,6 +51,10 @@ spread : (p : Parent) → renderParent (used p) ≡ front p (length (encodeLayou
 unfolding renderParent renderRow encodeParent encodeLayout lead
 spread p = simp append-assoc
 
+whole : (p : Parent) → renderParent (used p) ≡ front p (length (encodeLayout (p .layout))) ++ (encodeLayout (p .layout) ++ p .tail)
+unfolding renderParent renderRow encodeParent lead
+whole p = simp append-assoc
+
 -- the front's last two bytes apart
 front-spread : (p : Parent) (n : ℕ) (X : List ℕ) → front p n ++ X ≡ (1 ∷ (encodeFid (p .self .0) ++ encodeOwner (p .owner))) ++ (bytes 2 n ++ X)
 unfolding lead
@@ -74,50 +78,40 @@ own-render p =
 
 -- ## A slot
 
-encode-set : (ss : List Slot) (j : ℕ) (s : Slot) → j < length ss → encodeSlots (set ss j s) ≡ sets (encodeSlots ss) (24 * j) (encodeSlot s)
-unfolding encodeSlots
-encode-set [] j s h = absurd (not-suc-le-zero h)
-encode-set (x ∷ ss) zero s h = sym (over [] (encodeSlot x) (encodeSlots ss) (encodeSlot s) 0 refl (length-slot s ∙ sym (length-slot x)))
-encode-set (x ∷ ss) (suc j) s h =
-    let k : 24 * suc j ≡ length (encodeSlot x) + 24 * j = omega (arith, length-slot x) in
-    let m : 24 * j + length (encodeSlot s) ≤ length (encodeSlots ss) = omega (arith, length-slot s, length-encode-slots ss) in
-    let e : sets (encodeSlot x ++ (encodeSlots ss ++ [])) (length (encodeSlot x) + 24 * j) (encodeSlot s) ≡ encodeSlot x ++ (sets (encodeSlots ss) (24 * j) (encodeSlot s) ++ []) =
-    sets-mid (encodeSlot x) [] (encodeSlot s) (encodeSlots ss) (24 * j) m in
-    rw (k, encode-set ss j s (omega arith)) (sym (rw (append-nil (encodeSlots ss), append-nil (sets (encodeSlots ss) (24 * j) (encodeSlot s))) at e))
-
 slotted : Parent → ℕ → Slot → Parent
-slotted p j s = record { self = p .self; owner = p .owner; layout = record { header = p .layout .header; pool = p .layout .pool; slots = set (p .layout .slots) j s }; tail = p .tail }
+slotted p j s = record { self = p .self; owner = p .owner; layout = changed (p .layout) j s; tail = p .tail }
 
 slotted-is : (p : Parent) (j : ℕ) (s : Slot) → withSlot (used p) j s ≡ used (slotted p j s)
-unfolding withSlot withSlots slotsOf tailOf slotted
+unfolding withSlot slotted
 slotted-is p j s = refl
+
+-- a row whose layout is changed in one slot: other bytes of the same number in its place
+changed-render : (p : Parent) (j : ℕ) (s : Slot) → j < length (p .layout .slots) →
+    renderParent (withSlot (used p) j s) ≡ front p (length (encodeLayout (p .layout))) ++ (encodeLayout (changed (p .layout) j s) ++ p .tail)
+unfolding slotted
+changed-render p j s h =
+    ap renderParent (slotted-is p j s) ∙ whole (slotted p j s)
+    ∙ ap (λ (n : ℕ). front p n ++ (encodeLayout (changed (p .layout) j s) ++ p .tail)) (length-changed (p .layout) j s h)
 
 pub slot-render : (p : Parent) (j at : ℕ) (s : Slot) → j < length (p .layout .slots) → at ≡ 59 + length (p .layout .pool) + 24 * j →
     sets (renderParent (used p)) at (encodeSlot s) ≡ renderParent (withSlot (used p) j s)
-unfolding slotted
 slot-render p j at s h a =
     let n : ℕ = length (encodeLayout (p .layout)) in
-    let hd : List ℕ = encodeHeader (p .layout .header) (length (p .layout .slots)) in
-    let pre : List ℕ = front p n ++ (hd ++ p .layout .pool) in
-    let SS : List ℕ = encodeSlots (p .layout .slots) in
-    let r : renderParent (used p) ≡ pre ++ (SS ++ p .tail) = spread p ∙ simp append-assoc in
-    let lp : length pre ≡ 59 + length (p .layout .pool) = rw (length-append, length-append, length-front p n, length-header (p .layout .header) (length (p .layout .slots))) (omega arith) in
-    let k : at ≡ length pre + 24 * j = omega arith in
-    let m : 24 * j + length (encodeSlot s) ≤ length SS = omega (arith, length-slot s, length-encode-slots (p .layout .slots)) in
-    let e : sets (renderParent (used p)) at (encodeSlot s) ≡ pre ++ (encodeSlots (set (p .layout .slots) j s) ++ p .tail) =
-    rw (r, k, sets-mid pre (p .tail) (encodeSlot s) SS (24 * j) m, encode-set (p .layout .slots) j s h) in
-    let z : length (set (p .layout .slots) j s) ≡ length (p .layout .slots) = length-set (p .layout .slots) j s in
-    let q : length (encodeLayout (slotted p j s .layout)) ≡ n = rw (layout-length (slotted p j s .layout), layout-length (p .layout), z) in
-    let w : renderParent (used (slotted p j s)) ≡ pre ++ (encodeSlots (set (p .layout .slots) j s) ++ p .tail) =
-    spread (slotted p j s) ∙ rw (q, z) (simp append-assoc) in
-    e ∙ sym w ∙ ap renderParent (sym (slotted-is p j s))
+    let i : ℕ = 32 + length (p .layout .pool) + 24 * j in
+    let k : at ≡ length (front p n) + i = omega (arith, length-front p n) in
+    let m : i + length (encodeSlot s) ≤ n = omega (arith, length-slot s, layout-length (p .layout)) in
+    rw (whole p, k, sets-mid (front p n) (p .tail) (encodeSlot s) (encodeLayout (p .layout)) i m, ← changed-bytes (p .layout) j s h)
+    (sym (changed-render p j s h))
+
+-- the whole layout, with the slot changed
+pub slot-put : (p : Parent) (j : ℕ) (s : Slot) → j < length (p .layout .slots) →
+    sets (renderParent (used p)) 27 (encodeLayout (changed (p .layout) j s)) ≡ renderParent (withSlot (used p) j s)
+slot-put p j s h =
+    let n : ℕ = length (encodeLayout (p .layout)) in
+    rw (whole p, over (front p n) (encodeLayout (p .layout)) (p .tail) (encodeLayout (changed (p .layout) j s)) 27 (length-front p n) (length-changed (p .layout) j s h))
+    (sym (changed-render p j s h))
 
 -- ## Growth
-
-encode-append : (ss ts : List Slot) → encodeSlots (ss ++ ts) ≡ encodeSlots ss ++ encodeSlots ts
-unfolding encodeSlots
-encode-append [] ts = refl
-encode-append (s ∷ ss) ts = rw (encode-append ss ts) (sym (append-assoc (encodeSlot s) (encodeSlots ss) (encodeSlots ts)))
 
 longer : Parent → ℕ → Parent
 longer p more = record { self = p .self; owner = p .owner; layout = record { header = p .layout .header; pool = p .layout .pool; slots = p .layout .slots ++ replicate more Hole }; tail = drop (24 * more) (p .tail) }

@@ -8,15 +8,17 @@ use borrow.Author.Tests.{eqb-true}
 use lib.ListN.{length, take, drop, set, getD, replicate, length-drop, length-set}
 use lib.Seq.{sets, length-sets, length-take-le}
 use Rattle.wire.specs.Numbers.{bytes, Bytes}
+use Rattle.wire.proofs.NumberLaws.{bytes-drop, bytes-take}
+use borrow.Rule.Slice.PartMut.{putMid}
 use Rattle.fid.specs.Fid.{encodeFid}
 use Rattle.fid.specs.declared.MdtFid.{MdtFid}
 use Rattle.layout.specs.declared.Header.{Header}
 use Rattle.layout.specs.declared.Slot.{Slot}
 use Rattle.layout.specs.declared.Slot.the-variants.{Hole}
 use Rattle.layout.specs.Slot.{encodeSlot, encodeSlots}
-use Rattle.layout.specs.Layout.{maxSlots, decodeHeader, encodeHeader, stripeCount, slotStart, decodeLayout}
+use Rattle.layout.specs.Layout.{Layout, maxSlots, decodeHeader, encodeHeader, stripeCount, slotStart, decodeLayout, encodeLayout, changed, exactLength}
 use Rattle.layout.proofs.SlotLaws.{length-slots}
-use Rattle.layout.proofs.LayoutLaws.{start-most}
+use Rattle.layout.proofs.LayoutLaws.{start-most, accepted-exact, length-changed, written-back}
 use Rattle.tables.specs.Records.{Parent, ParentRow, used}
 use Rattle.tables.specs.Bytes.{parentSize, layoutRoom, isUsed, encodeOwner, layoutLength, layoutBytes, decodeParent, parseParent, renderParent}
 use Rattle.tables.specs.Check.{whenUsed, goodSelf}
@@ -27,7 +29,8 @@ use Rattle.rules.specs.Repairs.{withSlot, ownHeader, withOwn, made, grown}
 use Rattle.search.proofs.ParsedRows.{parent-used}
 use Rattle.stores.specs.Made.{madeHeader}
 use Rattle.stores.specs.UsedRow.{UsedRow}
-use Rattle.stores.proofs.ParentStores.{own-render, slot-render, grown-render, grown-slot, made-render, made-slot}
+use Rattle.stores.proofs.StoreLaws.{part-whole}
+use Rattle.stores.proofs.ParentStores.{own-render, slot-put, grown-render, grown-slot, made-render, made-slot}
 
 -- ## What is known of a used row
 
@@ -77,6 +80,14 @@ tail-of : (row : List ℕ) → ParentFacts row → length (decodeParent row .tai
 unfolding decodeParent
 tail-of row f = rw length-drop (ap (λ (n : ℕ). n - (27 + layoutLength row)) (f .size))
 
+-- the layout of a used row, lent as a part of it, has exact length, and slot j lies in it
+pub part-layout : (row : List ℕ) (n j : ℕ) → UsedRow row → n ≡ layoutLength row → j < stripeCount (layoutBytes row) →
+    (exactLength (take (27 + n - 27) (drop 27 row)) ≡ true) × (j < stripeCount (take (27 + n - 27) (drop 27 row)))
+unfolding layoutBytes
+part-layout row n j u q h =
+    let z : 27 + n - 27 ≡ n = omega arith in
+    rw (z, q) (accepted-exact (layoutBytes row) (used-facts row u .accepted), h)
+
 -- where the slots of a used row start, as the code reads it
 pub record RowStart (row : List ℕ) (n : ℕ) : Type 0 where
   pub is : n ≡ slotStart (layoutBytes row)
@@ -115,18 +126,30 @@ module _ (row : List ℕ) (b : Bytes row) (u : UsedRow row) where
   own-length = ap length (sym own-nested) ∙ length-sets row 27 (encodeHeader (ownHeader (decodeHeader (layoutBytes row)) (decodeParent row .self)) (stripeCount (layoutBytes row))) ∙ u .size
 
   module _ (j : ℕ) (s : Slot) (h : j < stripeCount (layoutBytes row)) where
-    pub slot-nested : sets row (27 + slotStart (layoutBytes row) + 24 * j) (encodeSlot s) ≡ renderParent (withSlot (parseParent row) j s)
+    pub slot-nested : sets row 27 (encodeLayout (changed (decodeLayout (layoutBytes row)) j s)) ≡ renderParent (withSlot (parseParent row) j s)
+    unfolding decodeParent
     slot-nested =
         let p : Parent = decodeParent row in
         let n : length (p .layout .slots) ≡ stripeCount (layoutBytes row) = count-of row in
-        let k : 32 + length (p .layout .pool) ≡ slotStart (layoutBytes row) = pool-of row (used-facts row u) in
-        let q : sets (renderParent (used p)) (27 + slotStart (layoutBytes row) + 24 * j) (encodeSlot s) ≡ renderParent (withSlot (used p) j s) =
-        slot-render p j (27 + slotStart (layoutBytes row) + 24 * j) s (omega arith) (omega arith) in
-        ap (λ (l : List ℕ). sets l (27 + slotStart (layoutBytes row) + 24 * j) (encodeSlot s)) (sym (used-back row b u)) ∙ q
+        ap (λ (l : List ℕ). sets l 27 (encodeLayout (changed (p .layout) j s))) (sym (used-back row b u)) ∙ slot-put p j s (omega arith)
         ∙ ap (λ (w : ParentRow). renderParent (withSlot w j s)) (sym (parent-used row (u .used)))
 
+    -- the layout as a part of the row that comes back changed
+    pub slot-back : (n : ℕ) (y : List ℕ) → n ≡ layoutLength row →
+        y ≡ encodeLayout (changed (decodeLayout (take (27 + n - 27) (drop 27 row))) j s) →
+        putMid 27 (27 + n - 27) row y ≡ renderParent (withSlot (parseParent row) j s)
+    unfolding layoutBytes decodeParent
+    slot-back n y q e =
+        let f = used-facts row u in
+        let L : Layout = decodeLayout (layoutBytes row) in
+        let z : 27 + n - 27 ≡ n = omega arith in
+        let c : length (L .slots) ≡ stripeCount (layoutBytes row) = count-of row in
+        let k : length (encodeLayout (changed L j s)) ≡ layoutLength row =
+        length-changed L j s (omega arith) ∙ ap length (written-back (layoutBytes row) (bytes-take (layoutLength row) (drop 27 row) (bytes-drop 27 row b)) (f .accepted)) ∙ f .bytes in
+        part-whole 27 n row (encodeLayout (changed L j s)) y (rw (z, q) at e) (k ∙ sym q) (omega (arith, f .room, f .size)) ∙ slot-nested
+
     pub slot-length : length (renderParent (withSlot (parseParent row) j s)) ≡ parentSize
-    slot-length = ap length (sym slot-nested) ∙ length-sets row (27 + slotStart (layoutBytes row) + 24 * j) (encodeSlot s) ∙ u .size
+    slot-length = ap length (sym slot-nested) ∙ length-sets row 27 (encodeLayout (changed (decodeLayout (layoutBytes row)) j s)) ∙ u .size
 
   module _ (i : ℕ) (s : Slot) (h : stripeCount (layoutBytes row) ≤ i) (m : i < maxSlots) where
     -- length, header, holes

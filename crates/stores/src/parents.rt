@@ -48,13 +48,13 @@ pub fn put_own(row: &mut [u8])
     pieces::put_header(row, ROOM_AT, own_header(h, f), n);
 }
 
-// Writes slot j.
+// Changes slot j: the row's layout is lent to the layout's own change of a slot.
 pub fn put_slot(row: &mut [u8], j: usize, s: Slot)
     requires { ⌜ UsedRow (now row) × (j < stripeCount (layoutBytes (now row))) ⌝ }
     ensures { λ _. ⌜ now (row .exit) ≡ renderParent (withSlot (parseParent (now (row .entry))) j s) ⌝ }
 {
-    let start = layout::slot_start(rows::layout_of(row));
-    pieces::put_slot(row, ROOM_AT + start + 24 * j, s);
+    let end = ROOM_AT + rows::layout_len(row) as usize;
+    layout::change_slot(&mut row[ROOM_AT..end], j, s);
 }
 
 // Grows the layout to i + 1 slots, the last of which is s and the others new are holes.

@@ -1,25 +1,18 @@
 -- Tables that pass the check are tables whose rows can be written. Assumes nothing.
 use mathlib.Core.Path.{_≡_, refl, ap, _∙_}
-use mathlib.Core.List.{List, [], _∷_}
+use mathlib.Core.List.{List}
 use mathlib.Core.Bool.{Bool, true, false, cond, _||_}
-use Prim.Native.Nat.{ℕ, zero, suc, _+_, _-_, _*_, _/_, _<_, _^_}
-use native.Mathlib.Nat.{pow-suc, one-le-pow}
+use Prim.Native.Nat.{ℕ, zero, _+_, _-_, _*_, _/_, _<_}
 use native.Mathlib.Omega.{arith}
 use borrow.Author.Tests.{eqb-true}
 use lib.ListN.{length, getD, take, drop, length-drop}
-use lib.Seq.{length-take-le}
-use Rattle.wire.specs.Numbers.{le}
-use Rattle.wire.proofs.Both.{and-second, and-both}
-use Rattle.wire.proofs.NumberLaws.{Bytes, bytes-head, bytes-tail, bytes-drop, bytes-take}
+use Rattle.wire.proofs.Both.{and-both}
+use Rattle.wire.proofs.NumberLaws.{Bytes, bytes-drop, bytes-take, le-small, le-small-at}
 use Rattle.fid.specs.Fid.{decodeFid, goodFid, goodNumber, sameFid, zeroFid}
 use Rattle.fid.specs.declared.Fid.{Fid}
-use Rattle.fid.proofs.FidLaws.{Fits}
-use Rattle.layout.specs.Slot.{decodeSlot, decodeSlots, slotFrom, zeroSlot}
-use Rattle.layout.specs.Layout.{decodeHeader, decodeLayout, encodeLayout, slotStart, exactLength, layoutRules, acceptedLayout}
-use Rattle.layout.specs.declared.Slot.the-variants.{Hole, Names}
-use Rattle.layout.proofs.SlotLaws.{FitSlot, FitSlots}
-use Rattle.layout.proofs.HeaderLaws.{FitHeader}
-use Rattle.layout.proofs.LayoutLaws.{Writable, written-back, accepted-facts}
+use Rattle.fid.proofs.FidLaws.{Fits, fid-fits}
+use Rattle.layout.specs.Layout.{decodeLayout, encodeLayout}
+use Rattle.layout.proofs.LayoutLaws.{written-back, accepted-writable}
 use Rattle.tables.specs.Records.{Tables}
 use Rattle.tables.specs.Bytes.{parentSize, objectSize, isUsed, decodeOwner, layoutLength, layoutBytes, decodeParent, parseParent, claimFrom, decodeObject, parseObject, parse, selfFid, claimedFid}
 use Rattle.tables.specs.Positions.{rowAt}
@@ -33,61 +26,9 @@ use Rattle.tables.proofs.EitherRow.{parsed-fits}
 
 -- ## What is read from bytes fits its fields
 
-pub le-small : (n : ℕ) (l : List ℕ) → Bytes l → le n l < 256 ^ n
-unfolding le
-le-small zero l h = omega arith
-le-small (suc n) [] h = one-le-pow (suc n) 256 (omega arith)
-le-small (suc n) (b ∷ l) h =
-    omega (arith, pow-suc 256 n, bytes-head b l h, le-small n l (bytes-tail b l h))
-
-module _ (l : List ℕ) (h : Bytes l) where
-  number : (n k : ℕ) → le n (drop k l) < 256 ^ n
-  number n k = le-small n (drop k l) (bytes-drop k l h)
-
-  pub fid-fits : Fits (decodeFid l)
-  unfolding decodeFid
-  fid-fits = record { seq = le-small 8 l h; oid = number 4 8; ver = number 4 12 }
-
-  pub owner-fits : FitOwner (decodeOwner l)
-  unfolding decodeOwner
-  owner-fits = record { uid = le-small 4 l h; gid = number 4 4 }
-
-  header-fits : FitHeader (decodeHeader l)
-  unfolding decodeHeader
-  header-fits =
-      record {
-        magic = le-small 4 l h;
-        pattern = number 4 4;
-        oid = number 8 8;
-        seq = number 8 16;
-        stripe = number 4 24;
-        generation = number 2 30;
-      }
-
-  slot-fits : FitSlot (decodeSlot l)
-  unfolding decodeSlot slotFrom FitSlot
-  slot-fits = go (zeroSlot (decodeFid l) (le 4 (drop 16 l)) (le 4 (drop 20 l)))
-    where
-      go : (b : Bool) → FitSlot (cond b Hole (Names (record { 0 = decodeFid l }) (le 4 (drop 16 l)) (le 4 (drop 20 l))))
-      go true = tt
-      go false = (fid-fits, number 4 16, number 4 20)
-
-slots-fit : (n : ℕ) (l : List ℕ) → Bytes l → FitSlots (decodeSlots n l)
-unfolding decodeSlots FitSlots
-slots-fit zero l h = tt
-slots-fit (suc n) l h = (slot-fits l h, slots-fit n (drop 24 l) (bytes-drop 24 l h))
-
--- an accepted layout is one that the writer takes
-pub layout-writable : (l : List ℕ) → Bytes l → acceptedLayout l ≡ true → Writable (decodeLayout l)
-unfolding decodeLayout decodeHeader slotStart acceptedLayout
-layout-writable l h a =
-    let f = accepted-facts l a in
-    record {
-      header = header-fits l h;
-      fits = slots-fit _ (drop (slotStart l) l) (bytes-drop (slotStart l) l h);
-      pool = length-take-le (slotStart l - 32) (drop 32 l) (rw length-drop (omega arith));
-      rules = and-second (exactLength l) (layoutRules (decodeHeader l) (decodeLayout l .slots)) a;
-    }
+owner-fits : (l : List ℕ) → Bytes l → FitOwner (decodeOwner l)
+unfolding decodeOwner
+owner-fits l h = record { uid = le-small 4 l h; gid = le-small-at 4 4 l h }
 
 -- ## Rows
 
@@ -102,7 +43,7 @@ file-fits row b f =
       fits = fid-fits (drop 1 row) (bytes-drop 1 row b);
       good = f .self;
       owner = owner-fits (drop 17 row) (bytes-drop 17 row b);
-      layout = layout-writable (layoutBytes row) lay (f .accepted);
+      layout = accepted-writable (layoutBytes row) lay (f .accepted);
       room = rw (z, length-drop (27 + n) row, f .size) (omega (arith, f .room));
     }
 

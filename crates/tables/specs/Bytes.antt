@@ -9,7 +9,7 @@ use Rattle.wire.specs.Rows.{rows}
 use Rattle.fid.specs.Fid.{fidSize, decodeFid, encodeFid, zeroFid, sameFid}
 use Rattle.fid.specs.declared.Fid.{Fid}
 use Rattle.fid.specs.declared.OstFid.{OstFid}
-use Rattle.layout.specs.Layout.{decodeLayout, encodeLayout}
+use Rattle.layout.specs.Layout.{maxLayout, decodeLayout, encodeLayout}
 use Rattle.tables.specs.Records.{Parent, TableRow, unused, used, ParentRow, ObjectRow, Tables}
 use Rattle.tables.specs.declared.Owner.{Owner}
 use Rattle.tables.specs.declared.Claim.{Claim}
@@ -28,7 +28,7 @@ ownerSize = 8
 
 -- "3,888 bytes of room for the layout"
 abbrev pub layoutRoom : ℕ
-layoutRoom = 3888
+layoutRoom = maxLayout
 
 -- "Parent row, 3,915 bytes: used mark 1 byte, self FID 16, uid 4, gid 4, layout length 2, and 3,888 bytes of room"
 abbrev pub ownerAt : ℕ

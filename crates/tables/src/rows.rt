@@ -20,7 +20,7 @@ pub const SELF_AT: usize = 1;
 pub const OWNER_SIZE: usize = 8;
 
 // The room for a layout.
-pub const LAYOUT_ROOM: usize = 3888;
+pub const LAYOUT_ROOM: usize = layout::MAX_LAYOUT;
 
 // A parent row: mark, self FID, uid and gid, layout length, and the room.
 pub const OWNER_AT: usize = SELF_AT + FID_SIZE;

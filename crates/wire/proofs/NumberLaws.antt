@@ -108,9 +108,13 @@ bytes-take (suc n) [] h i = omega arith
 bytes-take (suc n) (b ∷ l) h zero = h 0
 bytes-take (suc n) (b ∷ l) h (suc i) = bytes-take n l (bytes-tail b l h) i
 
--- a number of n bytes is one of the first n
-pub le-append : (n : ℕ) (p q : List ℕ) → n ≤ length p → le n (p ++ q) ≡ le n p
+-- a number that is read from n bytes fits them
+pub le-small : (n : ℕ) (l : List ℕ) → Bytes l → le n l < 256 ^ n
 unfolding le
-le-append zero p q h = refl
-le-append (suc n) [] q h = absurd (not-suc-le-zero h)
-le-append (suc n) (b ∷ p) q h = rw (le-append n p q (omega arith))
+le-small zero l h = omega arith
+le-small (suc n) [] h = one-le-pow (suc n) 256 (omega arith)
+le-small (suc n) (b ∷ l) h =
+    omega (arith, pow-suc 256 n, bytes-head b l h, le-small n l (bytes-tail b l h))
+
+pub le-small-at : (n k : ℕ) (l : List ℕ) → Bytes l → le n (drop k l) < 256 ^ n
+le-small-at n k l h = le-small n (drop k l) (bytes-drop k l h)

@@ -1,7 +1,7 @@
 use native.Mathlib.Omega.{arith}
 use mathlib.Core.Path.{sym, _∙_}
 use borrow.Author.Tests.{not-true, not-false}
-use Rattle.layout.proofs.LayoutLaws.{rewrite-bad, rewrite-past, rewrite-done, may-accepted, accepted-long, accepted-size}
+use Rattle.layout.proofs.LayoutLaws.{rewrite-bad, rewrite-past, rewrite-done, may-accepted, accepted-exact, accepted-long}
 use borrow.Author.Needs.{needs}
 use Rattle.layout.proofs.rewrite.Statement.{statement}
 use Rattle.layout.proofs.rewrite.Tie as tie
@@ -15,14 +15,17 @@ stripe-count-requires c κs = omega (arith, accepted-long _ (may-accepted _ _ (s
 returns-2 : tie.Need-returns-2
 returns-2 c = rewrite-past _ _ _ _ (sym (c .before .before .before .before .may-rewrite .ensures) ∙ not-false _ (c .before .before .before .if1 .left)) (c .before .stripe-count .ensures) (omega arith)
 
-slot-start-requires : tie.Need-slot-start-requires
-slot-start-requires c κs = omega (arith, accepted-long _ (may-accepted _ _ (sym (c .before .before .before .before .before .may-rewrite .ensures) ∙ not-false _ (c .before .before .before .before .if1 .left))))
-
-set-slot-requires : tie.Need-set-slot-requires
-set-slot-requires c κs = omega (arith, accepted-size _ _ _ (may-accepted _ _ (sym (c .before .before .before .before .before .before .before .may-rewrite .ensures) ∙ not-false _ (c .before .before .before .before .before .before .if1 .left))) (c .before .slot-start .ensures) (c .before .before .before .before .stripe-count .ensures))
+change-slot-requires : tie.Need-change-slot-requires
+change-slot-requires c κs =
+    let k = c .before .before .before .before in
+    (accepted-exact _ (may-accepted _ _ (sym (k .before .may-rewrite .ensures) ∙ not-false _ (k .if1 .left))), omega (arith, c .before .before .stripe-count .ensures))
 
 returns-3 : tie.Need-returns-3
-returns-3 c = rewrite-done _ _ _ _ _ _ (sym (c .before .before .before .before .before .before .before .before .before .before .may-rewrite .ensures) ∙ not-false _ (c .before .before .before .before .before .before .before .before .before .if1 .left)) (c .before .before .before .before .before .before .before .stripe-count .ensures) (c .before .before .before .before .slot-start .ensures) (omega arith) (c .before .before .set-slot .ensures)
+returns-3 c =
+    let a = c .before .before in
+    let n = a .before .before .before in
+    let k = n .before .before in
+    rewrite-done _ _ _ _ _ (sym (k .before .may-rewrite .ensures) ∙ not-false _ (k .if1 .left)) (n .stripe-count .ensures) (omega arith) (a .change-slot .ensures)
 
 pub rewrite-spec : {M : Type 1} → statement M
 rewrite-spec =
@@ -35,7 +38,6 @@ rewrite-spec =
     (λ c. search needs)
     (λ c. search needs)
     returns-2
-    slot-start-requires
-    set-slot-requires
+    change-slot-requires
     (λ c. search needs)
     returns-3)

@@ -1,0 +1,5 @@
+pub mod GivenLaws
+pub mod SlotNumbers
+pub mod WriteLaws
+pub mod RoundTrips
+pub mod Example
