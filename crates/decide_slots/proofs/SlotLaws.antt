@@ -1,0 +1,170 @@
+-- Headers and slots decided, case by case as the code does it. Assumes nothing.
+use mathlib.Core.Path.{_≡_, sym, ap, _∙_}
+use mathlib.Core.List.{List, []}
+use mathlib.Core.Bool.{true, false}
+use Prim.Native.Nat.{ℕ, _*_, _/_, _<_}
+use lib.ListN.{length, take, drop}
+use Rattle.fid.specs.declared.MdtFid.{MdtFid}
+use Rattle.fid.specs.declared.OstFid.{OstFid}
+use Rattle.layout.specs.declared.Slot.{Slot}
+use Rattle.layout.specs.declared.Slot.the-variants.{Hole, Names}
+use Rattle.tables.specs.Records.{used}
+use Rattle.tables.specs.Bytes.{parentSize, objectSize, decodeParent, decodeObject, parseObject, parse, parseReserve}
+use Rattle.tables.specs.Positions.{rowAt}
+use Rattle.tables.specs.Check.{Sound}
+use Rattle.tables.specs.declared.Object.{Object}
+use Rattle.tables.specs.declared.Owner.{Owner}
+use Rattle.tables.specs.declared.Claim.the-variants.{Claims}
+use Rattle.rules.specs.Rows.{selfOf, ownerOf, slotAt, objectRow, objectAt, freeObject}
+use Rattle.rules.specs.Classes.{headerClass, slotClass}
+use Rattle.rules.specs.Repairs.{repairHeader, newObject, withClaim, usable, redirect, redirectTo, makeObject, repairSlot, mendAt, mended, mendObject}
+use Rattle.rules.specs.Steps.{slotStep}
+use Rattle.rules.specs.declared.HeaderClass.{HeaderClass}
+use Rattle.rules.specs.declared.HeaderClass.the-variants.{UNUSED, SELF, CLEAN as CLEAN-HEADER}
+use Rattle.rules.specs.declared.SlotClass.{SlotClass}
+use Rattle.rules.specs.declared.SlotClass.the-variants.{HOLE, MULTIPLE, DANGLING, BLANK, UNMATCHED, OWNER, CLEAN}
+use Rattle.rules.specs.declared.Repair.{Repair}
+use Rattle.rules.specs.declared.Repair.the-variants.{OfSelf, OfMultiple, OfDangling, OfBlank, OfUnmatched, OfOwner}
+use Rattle.rules.specs.declared.Row.the-variants.{RowIs, NoRow}
+use Rattle.rules.specs.declared.Usable.{Usable}
+use Rattle.rules.specs.declared.Usable.the-variants.{Takes, UsedUp}
+use Rattle.search.proofs.ParsedRows.{object-used, parsed-object}
+use Rattle.search.proofs.FoundRows.{object-inside, found-used}
+use Rattle.search.proofs.AloneLaws.{row-alone, slot-alone, object-row-alone, free-object-alone}
+use Rattle.stores.specs.UsedRow.{rowBytes, UsedAt}
+use Rattle.writes.specs.Plan.{Decides}
+use Rattle.rules.specs.declared.Write.the-variants.{Nothing, Object as PutObject, Own, Slot as PutSlot}
+use Rattle.rules.specs.declared.Step.the-variants.{Rests, Repairs, Stops}
+use Rattle.writes.proofs.RowLaws.{decides-rest, decides-stop, row-says}
+use Rattle.rules.specs.Places.{placeAt}
+use Rattle.rules.specs.Settings.{Settings, creates}
+
+-- ## Headers
+
+module _ (p o : List ℕ) (r : ℕ) (h : Sound p o) (k : r < length p / parentSize) (c : HeaderClass) (e : c ≡ headerClass (rowAt (parse p []) r)) where
+  class-is : headerClass (rowAt (parse p o) r) ≡ c
+  class-is = ap headerClass (sym (row-alone p o r)) ∙ sym e
+
+  pub header-unused : c ≡ UNUSED → Decides p o Rests (λ T. repairHeader T r (headerClass (rowAt T r)))
+  unfolding repairHeader
+  header-unused q = decides-rest p o _ (rw (class-is, q))
+
+  pub header-clean : c ≡ CLEAN-HEADER → Decides p o Rests (λ T. repairHeader T r (headerClass (rowAt T r)))
+  unfolding repairHeader
+  header-clean q = decides-rest p o _ (rw (class-is, q))
+
+  pub header-self : c ≡ SELF → Decides p o (Repairs OfSelf (Own r) Nothing Nothing) (λ T. repairHeader T r (headerClass (rowAt T r)))
+  unfolding Decides repairHeader
+  header-self q = rw (class-is, q)
+
+-- ## MULTIPLE and DANGLING
+
+module _ (p o : List ℕ) (r j ost : ℕ) (f : OstFid) where
+  pub redirect-none : freeObject (parse [] o) ≡ NoRow → Decides p o (Stops 22) (λ T. redirectTo T r j ost f (freeObject T))
+  unfolding redirectTo
+  redirect-none e = decides-stop p o _ 22 (rw (← free-object-alone p o, e))
+
+  pub make-none : freeObject (parse [] o) ≡ NoRow → Decides p o (Stops 22) (λ T. makeObject (newObject T f r j ost) (freeObject T))
+  unfolding makeObject
+  make-none e = decides-stop p o _ 22 (rw (← free-object-alone p o, e))
+
+  module _ (i : ℕ) (e : freeObject (parse [] o) ≡ RowIs i) (x : Object) (q : x ≡ newObject (parse p []) f r j ost) where
+    new-is-both : x ≡ newObject (parse p o) f r j ost
+    unfolding newObject
+    new-is-both = q ∙ rw (row-alone p o r)
+
+    pub redirect-done : Decides p o (Repairs OfMultiple (PutObject i x) (PutSlot r j (Names f 0 ost)) Nothing) (λ T. redirectTo T r j ost f (freeObject T))
+    unfolding Decides redirectTo
+    redirect-done = rw (← free-object-alone p o, e, ← new-is-both)
+
+    pub make-done : Decides p o (Repairs OfDangling (PutObject i x) Nothing Nothing) (λ T. makeObject (newObject T f r j ost) (freeObject T))
+    unfolding Decides makeObject
+    make-done = rw (← free-object-alone p o, e, ← new-is-both)
+
+module _ (p o res : List ℕ) (r j ost : ℕ) (v : Usable) (e : v ≡ usable (parse p o) (parseReserve res)) where
+  pub reserve-takes : (f : OstFid) → v ≡ Takes f → redirectTo (parse p o) r j ost f (freeObject (parse p o)) ≡ redirect (parse p o) r j ost (usable (parse p o) (parseReserve res))
+  unfolding redirect
+  reserve-takes f q = rw (← e, q)
+
+  pub reserve-empty : v ≡ UsedUp → Decides p o (Stops 21) (λ T. redirect T r j ost (usable T (parseReserve res)))
+  unfolding redirect
+  reserve-empty q = decides-stop p o _ 21 (rw (← e, q))
+
+-- ## BLANK, UNMATCHED and OWNER
+
+module _ (p o : List ℕ) (f : OstFid) (class : Repair) (r j : ℕ) where
+  pub mend-absent : objectRow (parse [] o) f ≡ NoRow → Decides p o Rests (λ T. mendAt T class r j (objectRow T f))
+  unfolding mendAt
+  mend-absent e = decides-rest p o _ (rw (← object-row-alone p o f, e))
+
+  module _ (i : ℕ) (e : objectRow (parse [] o) f ≡ RowIs i) (row : List ℕ) (at : row ≡ take objectSize (drop (objectSize * i) o)) (x : Object) (q : x ≡ decodeObject row) (y : Object) where
+    object-is : objectAt (parse p o) i ≡ used x
+    object-is =
+        parsed-object p o i (object-inside [] o f i e) ∙ ap parseObject (sym at) ∙ object-used row (found-used [] o f i row e at) ∙ ap (λ (v : Object). used v) (sym q)
+
+    pub mend-done : y ≡ mended (parse p []) r j x → Decides p o (Repairs class (PutObject i y) Nothing Nothing) (λ T. mendAt T class r j (objectRow T f))
+    unfolding mendAt mendObject mended Decides
+    mend-done g = rw (← object-row-alone p o f, e, object-is, g, row-alone p o r)
+
+-- ## Objects made
+
+module _ (p : List ℕ) (r : ℕ) (u : UsedAt p r) (row : List ℕ) (e : row ≡ rowBytes p r) (w : Owner) (g : w ≡ decodeParent row .owner) (m : MdtFid)
+    (k : m ≡ decodeParent row .self) where
+  pub mended-is : (j : ℕ) (x : Object) →
+      _≡_ {A = Object} (record { fid = x .fid; ost = x .ost; owner = w; claim = Claims (placeAt m j); fresh = x .fresh }) (mended (parse p []) r j x)
+  unfolding mended withClaim ownerOf selfOf
+  mended-is j x = rw (row-says p r u row e, ← g, ← k)
+
+  pub new-is : (f : OstFid) (j ost : ℕ) →
+      _≡_ {A = Object} (record { fid = f; ost = ost; owner = w; claim = Claims (placeAt m j); fresh = true }) (newObject (parse p []) f r j ost)
+  unfolding newObject ownerOf selfOf
+  new-is f j ost = rw (row-says p r u row e, ← g, ← k)
+
+-- ## A slot by its class
+
+module _ (p o : List ℕ) (settings : Settings) (r j : ℕ) (f : OstFid) (ost : ℕ) (c : SlotClass) (e : c ≡ slotClass (parse p o) r j) where
+  pub slot-hole : c ≡ HOLE → repairSlot settings (parse p o) r j f ost (slotClass (parse p o) r j) ≡ Rests
+  unfolding repairSlot
+  slot-hole q = rw (← e, q)
+
+  pub slot-clean : c ≡ CLEAN → repairSlot settings (parse p o) r j f ost (slotClass (parse p o) r j) ≡ Rests
+  unfolding repairSlot
+  slot-clean q = rw (← e, q)
+
+  pub slot-multiple-off : c ≡ MULTIPLE → creates (settings .policy) ≡ false → repairSlot settings (parse p o) r j f ost (slotClass (parse p o) r j) ≡ Rests
+  unfolding repairSlot
+  slot-multiple-off q t = rw (← e, q, t)
+
+  pub slot-dangling-off : c ≡ DANGLING → creates (settings .policy) ≡ false → repairSlot settings (parse p o) r j f ost (slotClass (parse p o) r j) ≡ Rests
+  unfolding repairSlot
+  slot-dangling-off q t = rw (← e, q, t)
+
+  pub slot-multiple : c ≡ MULTIPLE → creates (settings .policy) ≡ true → redirect (parse p o) r j ost (usable (parse p o) (settings .reserve)) ≡ repairSlot settings (parse p o) r j f ost (slotClass (parse p o) r j)
+  unfolding repairSlot
+  slot-multiple q t = rw (← e, q, t)
+
+  pub slot-dangling : c ≡ DANGLING → creates (settings .policy) ≡ true → makeObject (newObject (parse p o) f r j ost) (freeObject (parse p o)) ≡ repairSlot settings (parse p o) r j f ost (slotClass (parse p o) r j)
+  unfolding repairSlot
+  slot-dangling q t = rw (← e, q, t)
+
+  pub slot-blank : c ≡ BLANK → mendAt (parse p o) OfBlank r j (objectRow (parse p o) f) ≡ repairSlot settings (parse p o) r j f ost (slotClass (parse p o) r j)
+  unfolding repairSlot
+  slot-blank q = rw (← e, q)
+
+  pub slot-unmatched : (g : MdtFid) (i : ℕ) → c ≡ UNMATCHED g i → mendAt (parse p o) OfUnmatched r j (objectRow (parse p o) f) ≡ repairSlot settings (parse p o) r j f ost (slotClass (parse p o) r j)
+  unfolding repairSlot
+  slot-unmatched g i q = rw (← e, q)
+
+  pub slot-owner : c ≡ OWNER → mendAt (parse p o) OfOwner r j (objectRow (parse p o) f) ≡ repairSlot settings (parse p o) r j f ost (slotClass (parse p o) r j)
+  unfolding repairSlot
+  slot-owner q = rw (← e, q)
+
+module _ (p o : List ℕ) (settings : Settings) (r j : ℕ) (s : Slot) (e : s ≡ slotAt (parse p []) r j) where
+  pub step-hole : s ≡ Hole → slotStep settings (parse p o) r j (slotAt (parse p o) r j) ≡ Rests
+  unfolding slotStep
+  step-hole q = rw (← slot-alone p o r j, ← e, q)
+
+  pub step-names : (f : OstFid) (n i : ℕ) → s ≡ Names f n i →
+      repairSlot settings (parse p o) r j f i (slotClass (parse p o) r j) ≡ slotStep settings (parse p o) r j (slotAt (parse p o) r j)
+  unfolding slotStep
+  step-names f n i q = rw (← slot-alone p o r j, ← e, q)
