@@ -44,6 +44,15 @@ pub struct Shape {
     pub fids: usize,
 }
 
+/// Few files and few objects, so that slots, claims and rows name the same ones.
+pub const TINY: Shape = Shape {
+    parents: 4,
+    objects: 6,
+    slots: 3,
+    files: 3,
+    fids: 4,
+};
+
 /// Tables within a shape.
 pub fn random_tables(shape: Shape, random: &mut Random) -> Tables {
     let mut files = FILES[..shape.files].to_vec();
@@ -195,4 +204,35 @@ pub fn to_bytes(tables: &Tables, random: &mut Random) -> (Vec<u8>, Vec<u8>) {
         }
     }
     (parents, objects)
+}
+
+/// Now and then damages tables so that most of them no longer pass the check, with any of its
+/// answers; tells whether it did.
+pub fn damage(parents: &mut Vec<u8>, objects: &mut Vec<u8>, random: &mut Random) -> bool {
+    match random.below(16) {
+        0 => parents.truncate(parents.len().saturating_sub(1)),
+        1 => objects.truncate(objects.len().saturating_sub(1)),
+        2 => parents.iter_mut().take(1).for_each(|mark| *mark |= 2),
+        // The lengths of all layouts, the versions of all objects.
+        3 => parents
+            .chunks_mut(PARENT_BYTES)
+            .for_each(|row| row[25] ^= 1),
+        4 => objects.chunks_mut(OBJECT_BYTES).for_each(|row| row[13] = 1),
+        5 => repeat_rows(parents, PARENT_BYTES),
+        6 => repeat_rows(objects, OBJECT_BYTES),
+        _ => return false,
+    }
+    true
+}
+
+/// Every row once more.
+fn repeat_rows(table: &mut Vec<u8>, size: usize) {
+    let whole = table.len() / size * size;
+    table.extend_from_within(..whole);
+}
+
+/// The tables for a message, read as rows where that can be done.
+pub fn describe(parents: &[u8], objects: &[u8]) -> String {
+    let (tables, faults) = reference::check::read_tables(parents, objects);
+    format!("{tables:#?}, with the faults {faults:?}")
 }
