@@ -27,7 +27,7 @@ module _ (T : Tables) (p : Position) where
   unfolding positionsFrom
   none-left n e = rw e
 
-  end-left : (n : ℕ) → isEnd p ≡ true → positionsFrom n T p ≡ []
+  pub end-left : (n : ℕ) → isEnd p ≡ true → positionsFrom n T p ≡ []
   unfolding positionsFrom
   end-left zero e = refl
   end-left (suc n) e = rw e
