@@ -30,6 +30,7 @@ fn main() {
     measure_check(rounds);
     let classes = measure_growth(rounds);
     measure_run(rounds);
+    measure_listing(rounds);
     let [least, most] = [SIZES[0], SIZES[SIZES.len() - 1]];
     println!(
         "\nFrom {} to {} slots, {} times as many, the classes grow by{}.",
@@ -81,19 +82,52 @@ fn measure_classes(slots: usize, objects: usize, rounds: usize) -> Times {
     )
 }
 
-/// A whole run on damaged tables.
-fn measure_run(rounds: usize) {
+/// The tables of the line for a run and of the one for all classes.
+fn damaged() -> Tables {
     let slots = 1000 * SLOTS;
     let mut tables = Tables::clean(slots, 65_536, 65_536);
     tables.damage(slots);
+    tables
+}
+
+/// What they are.
+const DAMAGED: &str = "1,000 files of 160 slots, 65,536 objects, one slot in a hundred damaged";
+
+/// A whole run on damaged tables.
+fn measure_run(rounds: usize) {
+    let tables = damaged();
     let times = side_by_side(
         rounds,
         || repaired(run(&tables, lfsck_run)),
         || repaired(run(&tables, plain::run)),
     );
-    let what =
-        "run, policy 3: 1,000 files of 160 slots, 65,536 objects, one slot in a hundred damaged";
-    print_line(what, times, "");
+    print_line(&format!("run, policy 3: {DAMAGED}"), times, "");
+}
+
+/// All classes of the same tables in one call.
+fn measure_listing(rounds: usize) {
+    let Tables {
+        parents, objects, ..
+    } = &damaged();
+    let mut steps = [0];
+    assert_eq!(lfsck_sys::steps(parents, objects, &mut steps), 0);
+    let places = vec![0; 4 * steps[0] as usize];
+    let list = |call: fn(&[u8], &[u8], &mut [u64; 3], &mut [u64], &mut u64) -> u32| {
+        let (mut position, mut out, mut done) = ([1, 0, 0], places.clone(), 0);
+        let Timed { result, took } =
+            timed(|| call(parents, objects, &mut position, &mut out, &mut done));
+        assert_eq!((result, position, done), (0, [3, 0, 0], steps[0]));
+        Timed { result: out, took }
+    };
+    let library = |parents: &[u8],
+                   objects: &[u8],
+                   position: &mut [u64; 3],
+                   out: &mut [u64],
+                   done: &mut u64| {
+        lfsck_sys::classes(parents, objects, position, out, std::slice::from_mut(done))
+    };
+    let times = side_by_side(rounds, || list(library), || list(plain::classes));
+    print_line(&format!("all classes in one call: {DAMAGED}"), times, "");
 }
 
 /// A run by either side.

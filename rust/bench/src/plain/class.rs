@@ -6,16 +6,49 @@ use super::search::{claim_of, is_named_else, keeper, object_row, parent_row, slo
 
 #[derive(Clone, Copy, PartialEq, Eq)]
 pub enum Class {
-    Quiet,
+    Clean,
     SelfId,
+    Hole,
     Multiple,
     Dangling,
     Blank,
-    Unmatched,
+    Unmatched(Fid),
     Owner,
+    Spare,
     Empty,
     Orphan,
+    Conflict,
+    Kept,
+    Unused,
 }
+
+impl Class {
+    /// The numbers of the C interface.
+    pub fn numbers(self) -> [u64; CLASS_NUMBERS] {
+        let number = match self {
+            Class::Clean => 0,
+            Class::SelfId => 1,
+            Class::Hole => 2,
+            Class::Multiple => 3,
+            Class::Dangling => 4,
+            Class::Blank => 5,
+            Class::Unmatched(claim) => {
+                return [6, claim.sequence, claim.id.into(), claim.version.into()];
+            }
+            Class::Owner => 7,
+            Class::Spare => 8,
+            Class::Empty => 9,
+            Class::Orphan => 10,
+            Class::Conflict => 11,
+            Class::Kept => 12,
+            Class::Unused => 13,
+        };
+        [number, 0, 0, 0]
+    }
+}
+
+/// The numbers of a class.
+pub const CLASS_NUMBERS: usize = 4;
 
 /// How the claimed place of an orphan can be had.
 #[derive(Clone, Copy, PartialEq, Eq)]
@@ -26,10 +59,20 @@ pub enum Way {
     ReplaceFresh(usize),
 }
 
-/// The class of a header. Classes that a repair has nothing to do with are all `Quiet`.
+/// The class at a position that is not the end.
+pub fn at(parents: &[u8], objects: &[u8], [stage, at, part]: [u64; 3]) -> Class {
+    let at = at as usize;
+    match (stage, part) {
+        (1, 0) => header(row(parents, PARENT, at)),
+        (1, part) => slot(parents, objects, at, part as usize - 1),
+        _ => object(parents, objects, at),
+    }
+}
+
+/// The class of a header.
 pub fn header(row: &[u8]) -> Class {
     if !is_used(row) {
-        return Class::Quiet;
+        return Class::Unused;
     }
     let layout = layout_of(row);
     let fid = Fid::read(row, 1);
@@ -38,7 +81,7 @@ pub fn header(row: &[u8]) -> Class {
         super::bytes::number64(layout, 8),
     );
     if own == (fid.sequence, fid.id.into()) {
-        Class::Quiet
+        Class::Clean
     } else {
         Class::SelfId
     }
@@ -47,7 +90,7 @@ pub fn header(row: &[u8]) -> Class {
 /// The class of a slot.
 pub fn slot(parents: &[u8], objects: &[u8], at: usize, index: usize) -> Class {
     let Some(slot) = slot_at(parents, at, index).filter(|slot| !is_hole(slot)) else {
-        return Class::Quiet;
+        return Class::Hole;
     };
     let fid = Fid::read(slot, 0);
     let found = object_row(objects, fid);
@@ -67,11 +110,11 @@ pub fn slot(parents: &[u8], objects: &[u8], at: usize, index: usize) -> Class {
     if claim == NO_FID {
         Class::Blank
     } else if claim != own {
-        Class::Unmatched
+        Class::Unmatched(claim)
     } else if *owner != parent[PARENT_OWNER..PARENT_OWNER + 8] {
         Class::Owner
     } else {
-        Class::Quiet
+        Class::Clean
     }
 }
 
@@ -80,15 +123,17 @@ pub fn slot(parents: &[u8], objects: &[u8], at: usize, index: usize) -> Class {
 pub fn object(parents: &[u8], objects: &[u8], at: usize) -> Class {
     let own = row(objects, OBJECT, at);
     if !is_used(own) {
-        return Class::Quiet;
+        return Class::Unused;
     }
     let claim = Fid::read(own, CLAIM);
-    if keeper(parents, Fid::read(own, 1), claim).is_some() || claim == NO_FID {
-        Class::Quiet
+    if keeper(parents, Fid::read(own, 1), claim).is_some() {
+        Class::Kept
+    } else if claim == NO_FID {
+        Class::Spare
     } else if own[FRESH] == 1 {
         Class::Empty
     } else {
-        way(parents, objects, claim).map_or(Class::Quiet, |_| Class::Orphan)
+        way(parents, objects, claim).map_or(Class::Conflict, |_| Class::Orphan)
     }
 }
 

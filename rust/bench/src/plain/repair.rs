@@ -57,7 +57,7 @@ fn slot_step(lent: &mut Lent, policy: u64, at: usize, index: usize) -> Stepped {
             Ok(Some(2))
         }
         Class::Blank => Ok(write_claim(lent, at, index, fid, 3)),
-        Class::Unmatched => Ok(write_claim(lent, at, index, fid, 4)),
+        Class::Unmatched(_) => Ok(write_claim(lent, at, index, fid, 4)),
         Class::Owner => Ok(write_claim(lent, at, index, fid, 5)),
         _ => Ok(None),
     }
