@@ -106,28 +106,40 @@ fn measure_run(rounds: usize) {
 
 /// All classes of the same tables in one call.
 fn measure_listing(rounds: usize) {
-    let Tables {
-        parents, objects, ..
-    } = &damaged();
+    let tables = damaged();
+    let times = side_by_side(
+        rounds,
+        || list(&tables, lfsck_classes),
+        || list(&tables, plain::classes),
+    );
+    print_line(&format!("all classes in one call: {DAMAGED}"), times, "");
+}
+
+/// All classes by either side.
+type ListCall = fn(&[u8], &[u8], &mut [u64; 3], &mut [u64], &mut u64) -> u32;
+
+/// The library's classes.
+fn lfsck_classes(
+    parents: &[u8],
+    objects: &[u8],
+    position: &mut [u64; 3],
+    out: &mut [u64],
+    done: &mut u64,
+) -> u32 {
+    lfsck_sys::classes(parents, objects, position, out, std::slice::from_mut(done))
+}
+
+/// Times the classes from the start, all of which must be told.
+fn list(tables: &Tables, call: ListCall) -> Timed<Vec<u64>> {
+    let (parents, objects) = (&tables.parents, &tables.objects);
     let mut steps = [0];
     assert_eq!(lfsck_sys::steps(parents, objects, &mut steps), 0);
-    let places = vec![0; 4 * steps[0] as usize];
-    let list = |call: fn(&[u8], &[u8], &mut [u64; 3], &mut [u64], &mut u64) -> u32| {
-        let (mut position, mut out, mut done) = ([1, 0, 0], places.clone(), 0);
-        let Timed { result, took } =
-            timed(|| call(parents, objects, &mut position, &mut out, &mut done));
-        assert_eq!((result, position, done), (0, [3, 0, 0], steps[0]));
-        Timed { result: out, took }
-    };
-    let library = |parents: &[u8],
-                   objects: &[u8],
-                   position: &mut [u64; 3],
-                   out: &mut [u64],
-                   done: &mut u64| {
-        lfsck_sys::classes(parents, objects, position, out, std::slice::from_mut(done))
-    };
-    let times = side_by_side(rounds, || list(library), || list(plain::classes));
-    print_line(&format!("all classes in one call: {DAMAGED}"), times, "");
+    let mut out = vec![0; 4 * steps[0] as usize];
+    let (mut position, mut done) = ([1, 0, 0], 0);
+    let Timed { result, took } =
+        timed(|| call(parents, objects, &mut position, &mut out, &mut done));
+    assert_eq!((result, position, done), (0, [3, 0, 0], steps[0]));
+    Timed { result: out, took }
 }
 
 /// A run by either side.
