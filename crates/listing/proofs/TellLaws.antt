@@ -14,12 +14,7 @@ use Rattle.rules.specs.Classes.{classNumbers}
 use Rattle.rules.specs.Steps.{classAt}
 use Rattle.rules.specs.declared.Class.{Class}
 use Rattle.capi_class.proofs.ClassLaws.{class-four}
-use Rattle.listing.specs.Listing.{room, positionsFrom, onward, classesAt}
-
--- a place that is whole lies in the array
-pub whole-place : (l x : List ℕ) (d : ℕ) → length x ≡ length l → d < room l → 4 * d + 4 ≤ length x
-unfolding room
-whole-place l x d e h = omega arith
+use Rattle.listing.specs.Listing.{positionsFrom, onward, classesAt}
 
 -- the positions that are left
 module _ (T : Tables) (p : Position) where
