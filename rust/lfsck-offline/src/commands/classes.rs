@@ -22,6 +22,7 @@ pub fn classes(directory: &Path, only: Option<usize>, json: bool) -> Result<Outc
     require_sound(&tables)?;
     let site = Site::new(&tables);
     let verdicts = Verdicts::new(&tables, &site);
+    verdicts.tell_all(usize::MAX, |_| ());
     let mut counts = Counts::default();
     let mut findings = Vec::new();
     for position in Position::all(&site) {
