@@ -5,13 +5,14 @@
 //! the case completes a journal that is there, so after opening the files are all old or all
 //! new.
 
-use std::fs::{self, File, TryLockError};
+use std::fs::{self, TryLockError};
 use std::path::Path;
 
 use crate::digest::Digest;
 use crate::disk::{Disk, trouble};
 use crate::journal::{self, Change};
 use crate::outcome::Failure;
+use crate::permissions::{Access, Permissions};
 use crate::saved::{self, POSITION, Saved};
 use crate::tables::{Table, Tables};
 
@@ -26,30 +27,24 @@ const MOST_BYTES: usize = 16 << 20;
 /// A case that this process alone has open.
 pub struct Case {
     disk: Disk,
-    _lock: File,
+}
+
+/// A file as it stands: of what contents, and who may read it.
+struct Stand {
+    digest: Digest,
+    permissions: Permissions,
 }
 
 impl Case {
     /// Opens a case, completing a save that was cut off.
     pub fn open(directory: &Path) -> Result<Case, Failure> {
-        let metadata = fs::metadata(directory).map_err(|error| trouble(directory, &error))?;
-        if !metadata.is_dir() {
-            let message = format!("{}: this is not a directory", directory.display());
-            return Err(Failure::files(message));
-        }
-        let disk = Disk::new(directory);
-        if !disk.has(JOURNAL) {
-            for table in Table::ALL {
-                disk.require(table.file())?;
-            }
-        }
-        Case::lock(directory, disk)
+        Case::lock(directory)
     }
 
     /// Makes a case with these tables in a directory that has none of the files yet.
     pub fn make(directory: &Path, tables: &Tables) -> Result<(), Failure> {
         fs::create_dir_all(directory).map_err(|error| trouble(directory, &error))?;
-        let case = Case::lock(directory, Disk::new(directory))?;
+        let case = Case::lock(directory)?;
         if let Some(name) = SAVED.iter().find(|name| case.disk.has(name)) {
             let path = case.disk.path(name);
             let message = format!("{}: this is already there", path.display());
@@ -60,13 +55,13 @@ impl Case {
             before: None,
             after: tables.of(table).to_vec(),
         };
-        case.save(&Table::ALL.map(change))
+        case.save(&Table::ALL.map(change), Access::Own)
     }
 
     /// Locks the directory itself, so that a case that cannot be written can still be read.
-    fn lock(directory: &Path, disk: Disk) -> Result<Case, Failure> {
-        let lock = File::open(directory).map_err(|error| trouble(directory, &error))?;
-        match lock.try_lock() {
+    fn lock(directory: &Path) -> Result<Case, Failure> {
+        let disk = Disk::open(directory)?;
+        match disk.opened().try_lock() {
             Ok(()) => (),
             Err(TryLockError::WouldBlock) => {
                 let directory = directory.display();
@@ -75,7 +70,7 @@ impl Case {
             }
             Err(TryLockError::Error(error)) => return Err(trouble(directory, &error)),
         }
-        let case = Case { disk, _lock: lock };
+        let case = Case { disk };
         case.recover()?;
         Ok(case)
     }
@@ -84,18 +79,14 @@ impl Case {
     /// one that was cut off before has left. A journal is in place only when the disk has all of
     /// it; one that is not whole was spoilt by somebody else.
     fn recover(&self) -> Result<(), Failure> {
-        if self.disk.has(JOURNAL) {
-            let journal = self.disk.read(JOURNAL, MOST_BYTES)?;
-            let changes = journal::decode(&journal);
+        if let Some(journal) = self.disk.find(JOURNAL, MOST_BYTES)? {
+            let changes = journal::decode(&journal.bytes);
             let broken = || self.journal_trouble(JOURNAL, "this is no whole journal");
-            self.complete(&changes.ok_or_else(broken)?)?;
+            self.replace(&changes.ok_or_else(broken)?)?;
         }
         for name in SAVED.iter().chain([&JOURNAL]) {
-            let unfinished = unfinished(name);
-            if self.disk.has(&unfinished) {
-                // What stays is written over by the next save.
-                let _ = self.disk.remove(&unfinished);
-            }
+            // What stays is removed by the next save.
+            let _ = self.disk.clear(&unfinished(name));
         }
         Ok(())
     }
@@ -109,27 +100,13 @@ impl Case {
         ))
     }
 
-    /// Completes a save. Files that are neither old nor new were changed by somebody since, and
-    /// are not overwritten.
-    fn complete(&self, changes: &[Change]) -> Result<(), Failure> {
-        for change in changes {
-            let stands = self.digest(&change.name)?;
-            let known = stands == change.before || stands == Some(Digest::of(&change.after));
-            if !known || !SAVED.contains(&change.name.as_str()) {
-                let what = "changed since a save was cut off";
-                return Err(self.journal_trouble(&change.name, what));
-            }
-        }
-        self.replace(changes)
-    }
-
-    /// The digest of a file; none where there is none.
-    fn digest(&self, name: &str) -> Result<Option<Digest>, Failure> {
-        if !self.disk.has(name) {
-            return Ok(None);
-        }
-        let bytes = self.disk.read(name, MOST_BYTES)?;
-        Ok(Some(Digest::of(&bytes)))
+    /// A file as it stands, contents and permissions by one opening; none where there is none.
+    fn stand(&self, name: &str) -> Result<Option<Stand>, Failure> {
+        let found = self.disk.find(name, MOST_BYTES)?;
+        Ok(found.map(|found| Stand {
+            digest: Digest::of(&found.bytes),
+            permissions: found.permissions,
+        }))
     }
 
     /// The tables as they stand.
@@ -159,25 +136,20 @@ impl Case {
 
     /// Saves what a run has changed of the tables and the position, all or none.
     pub fn save_run(&self, old: &Tables, new: &Tables, saved: &Saved) -> Result<(), Failure> {
-        let mut changes = Vec::new();
-        for table in Table::ALL {
-            let before = Some(Digest::of(old.of(table)));
-            if self.digest(table.file())? != before {
-                let path = self.disk.path(table.file());
-                let message = format!("{}: changed meanwhile; nothing is saved", path.display());
-                return Err(Failure::files(message));
-            }
-            if old.of(table) != new.of(table) {
-                changes.push(Change {
-                    name: table.file().to_string(),
-                    before,
-                    after: new.of(table).to_vec(),
-                });
-            }
-        }
+        let access = Access::strictest(&self.require_unchanged(old)?);
+        let changed = Table::ALL
+            .into_iter()
+            .filter(|table| old.of(*table) != new.of(*table));
+        let mut changes: Vec<Change> = changed
+            .map(|table| Change {
+                name: table.file().to_string(),
+                before: Some(Digest::of(old.of(table))),
+                after: new.of(table).to_vec(),
+            })
+            .collect();
         let position = Change {
             name: POSITION.to_string(),
-            before: self.digest(POSITION)?,
+            before: self.stand(POSITION)?.map(|stand| stand.digest),
             after: saved.to_text().into_bytes(),
         };
         if position.before != Some(Digest::of(&position.after)) {
@@ -185,16 +157,29 @@ impl Case {
         }
         match changes.len() {
             0 => Ok(()),
-            _ => self.save(&changes),
+            _ => self.save(&changes, access),
         }
     }
 
-    fn save(&self, changes: &[Change]) -> Result<(), Failure> {
+    /// The tables are still those that were read; who may read them.
+    fn require_unchanged(&self, tables: &Tables) -> Result<Vec<Permissions>, Failure> {
+        let stand = |table: Table| match self.stand(table.file())? {
+            Some(stand) if stand.digest == Digest::of(tables.of(table)) => Ok(stand.permissions),
+            _ => {
+                let path = self.disk.path(table.file());
+                let message = format!("{}: changed meanwhile; nothing is saved", path.display());
+                Err(Failure::files(message))
+            }
+        };
+        Table::ALL.into_iter().map(stand).collect()
+    }
+
+    /// Saves changes. The journal has the contents of them all, so it lets in no more people
+    /// than the strictest of the tables.
+    fn save(&self, changes: &[Change], access: Access) -> Result<(), Failure> {
         let unfinished = unfinished(JOURNAL);
         let journal = journal::encode(changes);
-        // Nobody may read it who may not read the tables.
-        self.disk
-            .write(&unfinished, &journal, Table::Parents.file())?;
+        self.disk.write(&unfinished, &journal, access)?;
         self.disk.rename(&unfinished, JOURNAL)?;
         let replaced = self.disk.sync().and_then(|()| self.replace(changes));
         replaced.map_err(|failure| Failure {
@@ -206,17 +191,57 @@ impl Case {
         })
     }
 
-    /// Replaces the files of a journal that is in place, and removes it.
+    /// Replaces the files of a journal that is in place, and removes it. Files that are neither
+    /// old nor new were changed by somebody since, and are not overwritten.
     fn replace(&self, changes: &[Change]) -> Result<(), Failure> {
-        for change in changes {
+        let stands: Result<Vec<_>, _> = changes.iter().map(|it| self.known(it)).collect();
+        let stands = stands?;
+        let strictest = self.strictest(changes, &stands)?;
+        for (change, stand) in changes.iter().zip(&stands) {
+            let access = match stand {
+                _ if !is_table(&change.name) => strictest,
+                Some(stand) => Access::Like(stand.permissions),
+                None => Access::Usual,
+            };
             let unfinished = unfinished(&change.name);
-            self.disk.write(&unfinished, &change.after, &change.name)?;
+            self.disk.write(&unfinished, &change.after, access)?;
             self.disk.rename(&unfinished, &change.name)?;
         }
         self.disk.sync()?;
         self.disk.remove(JOURNAL)?;
         self.disk.sync()
     }
+
+    /// The file that a change is for, where it is old or new.
+    fn known(&self, change: &Change) -> Result<Option<Stand>, Failure> {
+        let changed = || self.journal_trouble(&change.name, "changed since a save was cut off");
+        if !SAVED.contains(&change.name.as_str()) {
+            return Err(changed());
+        }
+        let stand = self.stand(&change.name)?;
+        let digest = stand.as_ref().map(|stand| stand.digest);
+        let known = digest == change.before || digest == Some(Digest::of(&change.after));
+        if known { Ok(stand) } else { Err(changed()) }
+    }
+
+    /// For files that tell of all tables: the tables among the changes as they were found, and
+    /// the others as they are.
+    fn strictest(&self, changes: &[Change], stands: &[Option<Stand>]) -> Result<Access, Failure> {
+        let mut all = Vec::new();
+        for table in Table::ALL {
+            let at = changes.iter().position(|it| it.name == table.file());
+            match at {
+                Some(at) => all.extend(stands[at].as_ref().map(|stand| stand.permissions)),
+                None => all.extend(self.disk.permissions(table.file())?),
+            }
+        }
+        Ok(Access::strictest(&all))
+    }
+}
+
+/// Whether a file of a case is one of its tables.
+fn is_table(name: &str) -> bool {
+    Table::ALL.iter().any(|table| table.file() == name)
 }
 
 /// The name of a file while it is still being written: the tool's own, whatever else there is in

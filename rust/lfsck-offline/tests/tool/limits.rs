@@ -5,7 +5,7 @@ use std::time::{Duration, Instant};
 
 use crate::bytes::{object, object_row, parent_row};
 use crate::json::{Value, parse};
-use crate::tool::{Case, TOOL, Told};
+use crate::tool::{Case, TOOL, Told, skipped};
 
 const PARENTS: usize = 1024;
 const SLOTS: usize = 160;
@@ -19,7 +19,7 @@ fn id(row: usize, slot: usize) -> u32 {
 
 /// Files of 160 slots, the first of them with all slots named; every object is where it
 /// belongs.
-fn clean(files: usize, named: usize) -> (Vec<u8>, Vec<u8>) {
+pub fn clean(files: usize, named: usize) -> (Vec<u8>, Vec<u8>) {
     let (mut parents, mut objects) = (Vec::new(), Vec::new());
     for row in 0..files {
         let name = |slot| if row < named { id(row, slot) } else { 0 };
@@ -134,8 +134,8 @@ fn long_work_has_a_bar_on_a_terminal() {
     let case = Case::with("bar", &parents, &objects, b"");
     let started = Instant::now();
     let Some(told) = on_terminal(&case, "--create --adopt") else {
-        println!("no program `script`: the bar is not tested");
-        return;
+        let why = "there is no program `script`";
+        return skipped("long_work_has_a_bar_on_a_terminal", why);
     };
     let long = started.elapsed() > Duration::from_secs(2);
     println!("on a terminal: {:.1} s", started.elapsed().as_secs_f64());

@@ -9,6 +9,7 @@ mod oracle;
 mod refusals;
 mod resume;
 mod saves;
+mod surroundings;
 mod tool;
 mod tour;
 mod two;

@@ -110,7 +110,7 @@ fn expect_order(operations: &[String]) {
     let last = operations.iter().rposition(|it| it.starts_with("rename"));
     assert_eq!(last, Some(removed - 2));
     for directory_synced in [committed + 1, removed - 1, removed + 1] {
-        assert_eq!(operations[directory_synced], "sync kill");
+        assert_eq!(operations[directory_synced], "sync .");
     }
 }
 

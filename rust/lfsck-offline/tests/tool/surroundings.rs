@@ -1,0 +1,293 @@
+//! Directories that others can write: nobody is let in.
+
+use std::fs::{self, File, Permissions};
+use std::os::unix::fs::{MetadataExt, PermissionsExt, chown, symlink};
+use std::os::unix::process::CommandExt;
+use std::path::{Path, PathBuf};
+use std::process::{Child, Command, Stdio};
+use std::time::Duration;
+
+use crate::limits;
+use crate::tool::{Case, Files, JOURNAL, NOBODY, POSITION, TOOL, Told, skipped};
+
+const TABLES: [&str; 3] = ["parents.tbl", "objects.tbl", "reserve.tbl"];
+const RUN: [&str; 3] = ["run", "--create", "--adopt"];
+
+/// Every file that a save makes, while it is being made.
+const UNFINISHED: [&str; 4] = [
+    "lfsck-offline.journal.new",
+    "lfsck-offline.parents.tbl.new",
+    "lfsck-offline.objects.tbl.new",
+    "lfsck-offline.position.new",
+];
+
+fn set_mode(path: &Path, mode: u32) {
+    fs::set_permissions(path, Permissions::from_mode(mode)).unwrap();
+}
+
+/// Owner, group and mode.
+fn permissions(path: &Path) -> (u32, u32, u32) {
+    let metadata = fs::symlink_metadata(path).expect("a file");
+    (metadata.uid(), metadata.gid(), metadata.mode() & 0o7777)
+}
+
+/// A place that every user can reach, removed at the end.
+struct Place(PathBuf);
+
+impl Place {
+    fn new(name: &str) -> Place {
+        let name = format!("lfsck-offline-{name}-{}", std::process::id());
+        let place = Place(std::env::temp_dir().join(name));
+        fs::create_dir_all(place.case()).unwrap();
+        set_mode(&place.case(), 0o777);
+        place
+    }
+
+    fn case(&self) -> PathBuf {
+        self.0.join("case")
+    }
+
+    fn run(&self, words: &[&str]) -> Told {
+        let mut command = Command::new(TOOL);
+        command.arg(words[0]).arg(self.case()).args(&words[1..]);
+        command.output().expect("the tool").into()
+    }
+
+    fn read(&self, name: &str) -> Vec<u8> {
+        fs::read(self.case().join(name)).expect(name)
+    }
+
+    /// Another user, who plants links to a file in the place of all that a save makes, as fast
+    /// as he can; none where this process cannot be another user.
+    fn planter(&self, target: &Path) -> Option<Child> {
+        let links = UNFINISHED.map(|name| format!("ln -s \"$0\" \"$1/{name}\""));
+        let script = format!("while :; do {}; done 2>/dev/null", links.join("; "));
+        let mut shell = Command::new("sh");
+        shell.args(["-c", &script]).arg(target).arg(self.case());
+        shell.stdin(Stdio::null()).uid(NOBODY).gid(NOBODY);
+        shell.spawn().ok()
+    }
+}
+
+impl Drop for Place {
+    fn drop(&mut self) {
+        let _ = fs::remove_dir_all(&self.0);
+    }
+}
+
+/// The next link that the planter makes, waited for.
+fn wait_for_links(place: &Place) {
+    for name in UNFINISHED {
+        while fs::symlink_metadata(place.case().join(name)).is_err() {
+            std::thread::sleep(Duration::from_millis(1));
+        }
+    }
+}
+
+#[test]
+fn a_link_that_another_user_plants_is_not_followed() {
+    let place = Place::new("links");
+    let victim = place.0.join("victim");
+    fs::write(&victim, b"precious").unwrap();
+    set_mode(&victim, 0o640);
+    let before = permissions(&victim);
+    place.run(&["sample"]).expect(0);
+    let sample = TABLES.map(|name| place.read(name));
+    let Some(mut planter) = place.planter(&victim) else {
+        let why = "no other user can be had";
+        return skipped("a_link_that_another_user_plants_is_not_followed", why);
+    };
+    let mut refused = 0;
+    for _ in 0..40 {
+        wait_for_links(&place);
+        let told = place.run(&[&RUN[..], &["--from-start"]].concat());
+        refused += u32::from(told.status == Some(74));
+        assert!(matches!(told.status, Some(0 | 74)), "{told:?}");
+        assert_eq!(fs::read(&victim).unwrap(), b"precious");
+        assert_eq!(permissions(&victim), before);
+        let _ = fs::remove_file(place.case().join(JOURNAL));
+        for (name, bytes) in TABLES.iter().zip(&sample) {
+            fs::write(place.case().join(name), bytes).unwrap();
+        }
+    }
+    planter.kill().unwrap();
+    planter.wait().unwrap();
+    println!("refused while links were planted: {refused} of 40");
+    place.run(&RUN).expect(0);
+}
+
+/// What is planted before the run is cleared away, and what it points at stays.
+#[test]
+fn what_stands_in_the_place_of_an_unfinished_file_is_removed_and_not_opened() {
+    let case = Case::sample("planted");
+    let start = case.files();
+    case.run(&RUN).expect(0);
+    let end = case.files();
+    let victim = Case::empty("planted-victim");
+    victim.write("victim", b"precious");
+    for name in UNFINISHED {
+        case.restore(&start);
+        let place = case.path().join(name);
+        symlink(victim.path().join("victim"), &place).unwrap();
+        case.run(&RUN).expect(0);
+        assert!(fs::symlink_metadata(&place).is_err(), "{name}");
+        assert_eq!(case.files(), end);
+        assert_eq!(victim.read("victim"), b"precious");
+        fs::write(&place, b"what a crash left").unwrap();
+        case.run(&RUN).expect(0);
+        assert!(fs::symlink_metadata(&place).is_err(), "{name}");
+    }
+}
+
+#[test]
+fn a_link_in_the_place_of_a_file_of_the_tool_is_refused() {
+    let case = Case::sample("own-links");
+    let before = case.files();
+    for name in [POSITION, JOURNAL] {
+        let place = case.path().join(name);
+        symlink("reserve.tbl", &place).unwrap();
+        case.run(&RUN).expect_line(74, "this is not a plain file");
+        fs::remove_file(&place).unwrap();
+        assert_eq!(case.files(), before);
+    }
+}
+
+/// Opening a pipe would wait for somebody at its other end.
+#[test]
+fn a_pipe_in_the_place_of_a_file_is_refused_at_once() {
+    for name in [POSITION, JOURNAL, "objects.tbl"] {
+        let case = Case::sample("pipe");
+        let place = case.path().join(name);
+        let _ = fs::remove_file(&place);
+        let made = Command::new("mkfifo").arg(&place).status().unwrap();
+        assert!(made.success());
+        case.run(&RUN).expect_line(74, "this is not a plain file");
+    }
+}
+
+/// The operation at which the journal is in place, and the state of that moment.
+fn with_journal(case: &Case) {
+    let start = case.files();
+    for number in 1.. {
+        let told = case.run_with_fault(&RUN, format!("abort:{number}"));
+        assert_eq!(told.status, None, "{told:?}");
+        if told.err.contains(&format!("rename to {JOURNAL}")) {
+            return;
+        }
+        restore_contents(case, &start);
+    }
+}
+
+/// The contents alone; owners and modes stay.
+fn restore_contents(case: &Case, files: &Files) {
+    for (name, bytes) in files {
+        case.write(name, bytes);
+    }
+}
+
+#[test]
+fn the_journal_lets_in_no_more_people_than_the_strictest_table() {
+    for (modes, journal) in [
+        ([0o644, 0o644, 0o644], 0o644),
+        ([0o644, 0o640, 0o644], 0o640),
+        ([0o640, 0o604, 0o666], 0o600),
+        ([0o400, 0o444, 0o444], 0o600),
+    ] {
+        let case = Case::sample("journal-mode");
+        for (name, mode) in TABLES.iter().zip(modes) {
+            set_mode(&case.path().join(name), mode);
+        }
+        let (uid, gid, _) = permissions(&case.path().join(TABLES[0]));
+        with_journal(&case);
+        let found = permissions(&case.path().join(JOURNAL));
+        assert_eq!(found, (uid, gid, journal), "{modes:?}");
+        case.run(&["check"]).expect(0);
+        let found = permissions(&case.path().join(POSITION));
+        assert_eq!(found, (uid, gid, journal), "{modes:?}");
+        for (name, mode) in TABLES.iter().zip(modes) {
+            assert_eq!(permissions(&case.path().join(name)), (uid, gid, mode));
+        }
+    }
+}
+
+#[test]
+fn a_journal_of_tables_of_two_owners_is_its_makers_alone() {
+    let case = Case::sample("journal-owner");
+    let objects = case.path().join("objects.tbl");
+    let (uid, _, mode) = permissions(&case.path().join("parents.tbl"));
+    if chown(&objects, Some(NOBODY), Some(NOBODY)).is_err() {
+        let why = "files cannot be given to another user";
+        return skipped("a_journal_of_tables_of_two_owners_is_its_makers_alone", why);
+    }
+    with_journal(&case);
+    let (owner, _, journal) = permissions(&case.path().join(JOURNAL));
+    assert_eq!((owner, journal), (uid, 0o600));
+    case.run(&["check"]).expect(0);
+    assert_eq!(permissions(&objects), (NOBODY, NOBODY, mode));
+}
+
+/// A user who cannot give files away still lets nobody in.
+#[test]
+fn a_user_who_cannot_keep_the_group_lets_nobody_in() {
+    let place = Place::new("group");
+    place.run(&["sample"]).expect(0);
+    fs::copy(TOOL, place.0.join("tool")).unwrap();
+    let names = ["objects.tbl", "parents.tbl"].map(|name| place.case().join(name));
+    set_mode(&names[0], 0o604);
+    let mut tool = Command::new(place.0.join("tool"));
+    tool.arg("run")
+        .arg(place.case())
+        .args(["--create", "--adopt"]);
+    tool.uid(NOBODY).gid(NOBODY);
+    let Ok(told) = tool.output() else {
+        let why = "no other user can be had";
+        return skipped("a_user_who_cannot_keep_the_group_lets_nobody_in", why);
+    };
+    Told::from(told).expect(0);
+    assert_eq!(permissions(&names[0]), (NOBODY, NOBODY, 0o600));
+    assert_eq!(permissions(&names[1]), (NOBODY, NOBODY, 0o644));
+}
+
+/// Whether somebody has a case open.
+fn is_open(directory: &Path) -> bool {
+    File::open(directory).unwrap().try_lock().is_err()
+}
+
+/// The files of the directory that was opened are saved, also where its name is another's now.
+#[test]
+fn a_directory_that_is_exchanged_meanwhile_is_not_written() {
+    let (mut parents, objects) = limits::clean(500, 200);
+    parents[27 + 8] ^= 0x40;
+    let case = Case::empty("exchanged");
+    let (name, moved) = (case.path().join("case"), case.path().join("moved"));
+    fs::create_dir(&name).unwrap();
+    for (table, bytes) in TABLES.iter().zip([&parents, &objects, &Vec::new()]) {
+        fs::write(name.join(table), bytes).unwrap();
+    }
+    let mut command = Command::new(TOOL);
+    command.arg("run").arg(&name).stdout(Stdio::null());
+    let mut child = command.spawn().expect("the tool");
+    while !is_open(&name) && child.try_wait().unwrap().is_none() {
+        std::thread::yield_now();
+    }
+    fs::rename(&name, &moved).unwrap();
+    fs::create_dir(&name).unwrap();
+    let meanwhile = is_open(&moved);
+    assert!(child.wait().unwrap().success());
+    assert!(meanwhile, "the run was over too soon");
+    assert_eq!(fs::read_dir(&name).unwrap().count(), 0);
+    assert_ne!(fs::read(moved.join(TABLES[0])).unwrap(), parents);
+    assert!(moved.join(POSITION).exists());
+}
+
+#[test]
+fn the_released_command_has_no_hook_for_faults() {
+    let case = Case::sample("no-hook");
+    let mut command = case.command(&RUN);
+    command.env("LFSCK_OFFLINE_FAULT", "fail:1");
+    Told::from(command.output().unwrap()).expect(0);
+    let program = fs::read(TOOL).unwrap();
+    let variable = b"LFSCK_OFFLINE_FAULT";
+    let mut parts = program.windows(variable.len());
+    assert!(parts.all(|part| part != variable));
+}
