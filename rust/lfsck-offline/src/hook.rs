@@ -2,7 +2,8 @@
 //! has nothing of it.
 //!
 //! With `LFSCK_OFFLINE_FAULT=abort:N` the process dies after the N-th operation, with `fail:N`
-//! the N-th fails. Half of a file is an operation too.
+//! the N-th fails, and with `wait:N` it waits for a line on standard input after each from the
+//! N-th on. Half of a file is an operation too.
 
 #[cfg(feature = "faults")]
 use std::cell::Cell;
@@ -17,6 +18,7 @@ const FAULT: &str = "LFSCK_OFFLINE_FAULT";
 enum Fault {
     AbortAfter(u64),
     FailAt(u64),
+    WaitFrom(u64),
 }
 
 /// The fault, and the operations so far.
@@ -47,6 +49,7 @@ impl Hook {
         match kind {
             "abort" => Some(Fault::AbortAfter(number)),
             "fail" => Some(Fault::FailAt(number)),
+            "wait" => Some(Fault::WaitFrom(number)),
             _ => None,
         }
     }
@@ -63,11 +66,18 @@ impl Hook {
         }
     }
 
-    /// Dies after an operation.
+    /// Dies or waits after an operation.
     pub fn after(&self, what: &str, name: &str) {
-        if matches!(self.fault, Some(Fault::AbortAfter(at)) if at == self.done.get()) {
-            eprintln!("aborted after: {what} {name}");
-            std::process::abort();
+        match self.fault {
+            Some(Fault::AbortAfter(at)) if at == self.done.get() => {
+                eprintln!("aborted after: {what} {name}");
+                std::process::abort();
+            }
+            Some(Fault::WaitFrom(at)) if at <= self.done.get() => {
+                eprintln!("waiting after: {what} {name}");
+                let _ = io::stdin().read_line(&mut String::new());
+            }
+            _ => (),
         }
     }
 }

@@ -1,14 +1,14 @@
 //! Directories that others can write: nobody is let in.
 
 use std::fs::{self, File, Permissions};
+use std::io::{BufRead, BufReader, Write};
 use std::os::unix::fs::{MetadataExt, PermissionsExt, chown, symlink};
 use std::os::unix::process::CommandExt;
 use std::path::{Path, PathBuf};
-use std::process::{Child, Command, Stdio};
-use std::time::Duration;
+use std::process::{Command, Stdio};
 
 use crate::limits;
-use crate::tool::{Case, Files, JOURNAL, NOBODY, POSITION, TOOL, Told, skipped};
+use crate::tool::{Case, Files, JOURNAL, NOBODY, POSITION, TOOL, Told, faulty, skipped};
 
 const TABLES: [&str; 3] = ["parents.tbl", "objects.tbl", "reserve.tbl"];
 const RUN: [&str; 3] = ["run", "--create", "--adopt"];
@@ -57,30 +57,60 @@ impl Place {
         fs::read(self.case().join(name)).expect(name)
     }
 
-    /// Another user, who plants links to a file in the place of all that a save makes, as fast
-    /// as he can; none where this process cannot be another user.
-    fn planter(&self, target: &Path) -> Option<Child> {
-        let links = UNFINISHED.map(|name| format!("ln -s \"$0\" \"$1/{name}\""));
-        let script = format!("while :; do {}; done 2>/dev/null", links.join("; "));
-        let mut shell = Command::new("sh");
-        shell.args(["-c", &script]).arg(target).arg(self.case());
-        shell.stdin(Stdio::null()).uid(NOBODY).gid(NOBODY);
-        shell.spawn().ok()
+    /// Links to a file under the names of all that a save makes.
+    fn make_links(&self, target: &Path) {
+        fs::create_dir(self.0.join("links")).unwrap();
+        for name in UNFINISHED {
+            symlink(target, self.0.join("links").join(name)).unwrap();
+        }
+    }
+
+    /// Lets another user plant these links in the case, where there is nothing yet; whether this
+    /// process can be another user.
+    fn plant(&self) -> bool {
+        let mut copy = Command::new("cp");
+        copy.args(["-P", "-n", "-t"]).arg(self.case());
+        copy.args(UNFINISHED.map(|name| self.0.join("links").join(name)));
+        copy.stderr(Stdio::null()).uid(NOBODY).gid(NOBODY);
+        copy.status().is_ok()
+    }
+
+    /// A run during which that user plants links after each operation from this one on; the
+    /// operations, and how it ended.
+    fn run_among_links(&self, from: usize) -> (Vec<String>, Option<i32>) {
+        let mut command = Command::new(faulty());
+        command.arg("run").arg(self.case()).args(&RUN[1..]);
+        command.env("LFSCK_OFFLINE_FAULT", format!("wait:{from}"));
+        command.stdin(Stdio::piped()).stderr(Stdio::piped());
+        let mut child = command.stdout(Stdio::null()).spawn().expect("the tool");
+        let lines = BufReader::new(child.stderr.take().unwrap()).lines();
+        let mut answers = child.stdin.take().unwrap();
+        let mut operations = Vec::new();
+        for line in lines {
+            let line = line.unwrap();
+            if let Some(operation) = line.strip_prefix("waiting after: ") {
+                operations.push(operation.to_string());
+                self.plant();
+                let _ = answers.write_all(b"\n");
+            }
+        }
+        (operations, child.wait().unwrap().code())
+    }
+
+    /// Removes all but the tables, and makes these as they were.
+    fn restore(&self, tables: &[Vec<u8>; 3]) {
+        for entry in fs::read_dir(self.case()).unwrap() {
+            fs::remove_file(entry.unwrap().path()).unwrap();
+        }
+        for (name, bytes) in TABLES.iter().zip(tables) {
+            fs::write(self.case().join(name), bytes).unwrap();
+        }
     }
 }
 
 impl Drop for Place {
     fn drop(&mut self) {
         let _ = fs::remove_dir_all(&self.0);
-    }
-}
-
-/// The next link that the planter makes, waited for.
-fn wait_for_links(place: &Place) {
-    for name in UNFINISHED {
-        while fs::symlink_metadata(place.case().join(name)).is_err() {
-            std::thread::sleep(Duration::from_millis(1));
-        }
     }
 }
 
@@ -91,29 +121,32 @@ fn a_link_that_another_user_plants_is_not_followed() {
     fs::write(&victim, b"precious").unwrap();
     set_mode(&victim, 0o640);
     let before = permissions(&victim);
-    place.run(&["sample"]).expect(0);
-    let sample = TABLES.map(|name| place.read(name));
-    let Some(mut planter) = place.planter(&victim) else {
+    place.make_links(&victim);
+    if !place.plant() {
         let why = "no other user can be had";
         return skipped("a_link_that_another_user_plants_is_not_followed", why);
-    };
-    let mut refused = 0;
-    for _ in 0..40 {
-        wait_for_links(&place);
-        let told = place.run(&[&RUN[..], &["--from-start"]].concat());
-        refused += u32::from(told.status == Some(74));
-        assert!(matches!(told.status, Some(0 | 74)), "{told:?}");
-        assert_eq!(fs::read(&victim).unwrap(), b"precious");
-        assert_eq!(permissions(&victim), before);
-        let _ = fs::remove_file(place.case().join(JOURNAL));
-        for (name, bytes) in TABLES.iter().zip(&sample) {
-            fs::write(place.case().join(name), bytes).unwrap();
+    }
+    place.run(&["sample"]).expect(0);
+    let sample = TABLES.map(|name| place.read(name));
+    let mut refused = Vec::new();
+    for from in 1.. {
+        place.restore(&sample);
+        place.plant();
+        let (operations, status) = place.run_among_links(from);
+        assert_eq!(fs::read(&victim).unwrap(), b"precious", "{operations:?}");
+        assert_eq!(permissions(&victim), before, "{operations:?}");
+        match status {
+            Some(74) => refused.extend(operations.last().cloned()),
+            _ => assert_eq!(status, Some(0)),
+        }
+        if operations.is_empty() {
+            break;
         }
     }
-    planter.kill().unwrap();
-    planter.wait().unwrap();
-    println!("refused while links were planted: {refused} of 40");
-    place.run(&RUN).expect(0);
+    // A link in the moment between the removal of the last one and the making of the file.
+    for name in UNFINISHED {
+        assert!(refused.contains(&format!("remove {name}")), "{refused:?}");
+    }
 }
 
 /// What is planted before the run is cleared away, and what it points at stays.

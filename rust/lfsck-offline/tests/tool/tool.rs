@@ -20,7 +20,7 @@ pub const JOURNAL: &str = "lfsck-offline.journal";
 pub const NOBODY: u32 = 65_534;
 
 /// The program with the hook for faults, which the released one has not: built here.
-fn faulty() -> &'static Path {
+pub fn faulty() -> &'static Path {
     static BUILT: OnceLock<PathBuf> = OnceLock::new();
     BUILT.get_or_init(|| {
         let target = Path::new(env!("CARGO_TARGET_TMPDIR")).join("with-faults");
