@@ -7,6 +7,7 @@ mod answers;
 mod args;
 mod bar;
 mod case;
+mod change;
 mod changes;
 mod class;
 mod columns;
@@ -26,6 +27,7 @@ mod saved;
 mod site;
 mod slices;
 mod tables;
+mod values;
 mod verdict;
 mod why;
 

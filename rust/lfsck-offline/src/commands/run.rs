@@ -6,7 +6,8 @@ use crate::answers::{meaning, refusal};
 use crate::args::RunOptions;
 use crate::bar::Bar;
 use crate::case::Case;
-use crate::changes::{Change, changes};
+use crate::change::Change;
+use crate::changes::changes;
 use crate::columns::{self, Line};
 use crate::json::Json;
 use crate::outcome::{Failure, Outcome, Status};
@@ -176,7 +177,7 @@ impl Report {
             return "Nothing was changed.\n".to_string();
         }
         let line = |change: &Change| {
-            let what = change.what.clone();
+            let what = change.what.words();
             Line::new(change.file, change.slot, change.object, what)
         };
         let lines: Vec<Line> = self.changes.iter().map(line).collect();
@@ -235,18 +236,9 @@ impl Report {
             ),
             (
                 "changes",
-                Json::List(self.changes.iter().map(change_json).collect()),
+                Json::List(self.changes.iter().map(Change::json).collect()),
             ),
         ])
         .line()
     }
-}
-
-fn change_json(change: &Change) -> Json {
-    Json::Object(vec![
-        ("file", Json::maybe(change.file)),
-        ("slot", Json::maybe_number(change.slot)),
-        ("object", Json::maybe(change.object)),
-        ("what", Json::text(&change.what)),
-    ])
 }

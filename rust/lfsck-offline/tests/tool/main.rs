@@ -1,6 +1,7 @@
 //! The tool, tested by running it.
 
 mod bytes;
+mod changes;
 mod commands;
 mod histories;
 mod json;
