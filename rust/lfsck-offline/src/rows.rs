@@ -34,7 +34,7 @@ pub struct Owner {
 }
 
 /// The slot that an object says it belongs to.
-#[derive(Clone, Copy, Debug, PartialEq, Eq)]
+#[derive(Clone, Copy, Debug, PartialEq, Eq, Hash)]
 pub struct Claim {
     /// The file.
     pub file: MdtFid,

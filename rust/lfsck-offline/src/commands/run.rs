@@ -32,6 +32,9 @@ const COUNTED: [&str; 8] = [
 /// The number for a position that the tables do not have.
 const NO_POSITION: u32 = 16;
 
+/// What a dry run says beside what the run would.
+const DRY_RUN: &str = "a dry run: nothing is written";
+
 /// Where a run begins, and why there.
 struct Beginning {
     position: [u64; 3],
@@ -69,7 +72,7 @@ pub fn run(directory: &Path, options: RunOptions, json: bool) -> Result<Outcome,
             number => refusal(number, &old),
         });
     }
-    if run.steps > 0 {
+    if run.steps > 0 && !options.dry_run {
         let saved = Saved::new(run.position, options.policy, &tables);
         case.save_run(&old, &tables, &saved)?;
     }
@@ -84,13 +87,14 @@ pub fn run(directory: &Path, options: RunOptions, json: bool) -> Result<Outcome,
         left: position.steps_left(&after),
         changes: changes(&before, &after),
     };
+    let text = if json {
+        report.machine()
+    } else {
+        report.people()
+    };
     Ok(Outcome {
-        text: if json {
-            report.machine()
-        } else {
-            report.people()
-        },
-        status: status(run.answer),
+        note: options.dry_run.then_some(DRY_RUN),
+        ..Outcome::ended(text, status(run.answer))
     })
 }
 

@@ -284,5 +284,8 @@ fn more(finding: &Finding) -> String {
     if let Some(repair) = &finding.repair {
         add(format!("repair, {}: {}", repair.needs.words(), repair.does));
     }
+    if let Some(turn) = &finding.turn {
+        add(turn.words());
+    }
     text
 }

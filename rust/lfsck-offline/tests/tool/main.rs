@@ -3,6 +3,7 @@
 mod bytes;
 mod changes;
 mod commands;
+mod foresee;
 mod histories;
 mod json;
 mod limits;
