@@ -34,6 +34,8 @@ pub struct RunOptions {
     pub steps: Option<u64>,
     /// Leave the saved position aside.
     pub from_start: bool,
+    /// Write nothing.
+    pub dry_run: bool,
 }
 
 /// A command, the case and the form of the output.
@@ -56,6 +58,7 @@ struct Words {
     create: bool,
     adopt: bool,
     from_start: bool,
+    dry_run: bool,
     steps: Option<String>,
     only: Option<String>,
 }
@@ -126,6 +129,7 @@ impl Words {
             (Topic::Run, "--create") => self.create = true,
             (Topic::Run, "--adopt") => self.adopt = true,
             (Topic::Run, "--from-start") => self.from_start = true,
+            (Topic::Run, "--dry-run" | "-n") => self.dry_run = true,
             _ => return Err(unknown(option)),
         }
         Ok(())
@@ -167,6 +171,7 @@ impl Words {
             policy: u64::from(self.create) + 2 * u64::from(self.adopt),
             steps: self.steps.as_ref().map(number).transpose()?,
             from_start: self.from_start,
+            dry_run: self.dry_run,
         })
     }
 }
@@ -207,10 +212,11 @@ mod tests {
             policy: 3,
             steps: Some(7),
             from_start: true,
+            dry_run: true,
         });
         for line in [
-            "run d --create --adopt --steps 7 --from-start --json",
-            "run --json --from-start --steps=7 --adopt --create d",
+            "run d --create --adopt --steps 7 --from-start --dry-run --json",
+            "run --json --from-start --steps=7 -n --adopt --create d",
         ] {
             let call = call(line);
             assert_eq!(call.command, expected);

@@ -92,7 +92,9 @@ const CLASSES: &str = "\
 Usage: lfsck-offline classes DIR [--only CLASS] [--json]
 
 Lists every finding: file, slot, object, class, and what its repair would do and
-under which policy. Ends with the number of positions of each class.
+under which policy. Where a run does something to the claimed slot of an object
+before it comes to the object, so that its class is another by then, it says so.
+Ends with the number of positions of each class.
 
   --only CLASS   list the positions of this class alone, of any class:
                  CLEAN SELF HOLE MULTIPLE DANGLING BLANK UNMATCHED OWNER
@@ -100,7 +102,8 @@ under which policy. Ends with the number of positions of each class.
 ";
 
 const RUN: &str = "\
-Usage: lfsck-offline run DIR [--create] [--adopt] [--steps N] [--from-start] [--json]
+Usage: lfsck-offline run DIR [--create] [--adopt] [--steps N] [--from-start]
+                         [--dry-run] [--json]
 
 Repairs step by step and saves tables and position together. Goes on from the
 saved position if policy, reserve and tables are those that it was saved with,
@@ -113,6 +116,7 @@ repaired under every policy.
                  destroy empty ones (ORPHAN, EMPTY)
   --steps N      make at most N steps
   --from-start   leave the saved position aside
+  --dry-run, -n  make the run on a copy: print what it would, write nothing
 
 Exit status: 0 the end is reached, 1 steps are left, 2 input refused, 3 the
 reserve or the unused rows of a table ran out.

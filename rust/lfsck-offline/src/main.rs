@@ -7,6 +7,7 @@ mod answers;
 mod args;
 mod bar;
 mod case;
+mod change;
 mod changes;
 mod class;
 mod columns;
@@ -16,6 +17,7 @@ mod disk;
 mod faults;
 mod fid;
 mod finding;
+mod foretell;
 mod help;
 mod hook;
 mod journal;
@@ -29,6 +31,7 @@ mod saved;
 mod site;
 mod slices;
 mod tables;
+mod values;
 mod verdict;
 mod why;
 
@@ -43,16 +46,22 @@ fn main() -> ExitCode {
     let status = match outcome.and_then(print) {
         Ok(status) => status,
         Err(failure) => {
-            let message = failure.message.replace(char::is_control, " ");
-            let _ = writeln!(io::stderr(), "lfsck-offline: {message}");
+            tell(&failure.message);
             failure.status
         }
     };
     ExitCode::from(status as u8)
 }
 
+/// A line on standard error.
+fn tell(message: &str) {
+    let message = message.replace(char::is_control, " ");
+    let _ = writeln!(io::stderr(), "lfsck-offline: {message}");
+}
+
 /// Prints what a command has to say. A reader that has heard enough is no trouble.
 fn print(outcome: Outcome) -> Result<Status, Failure> {
+    outcome.note.into_iter().for_each(tell);
     let mut out = io::stdout().lock();
     let printed = out
         .write_all(outcome.text.as_bytes())

@@ -26,14 +26,22 @@ pub struct Outcome {
     pub text: String,
     /// The exit status.
     pub status: Status,
+    /// A line for standard error.
+    pub note: Option<&'static str>,
 }
 
 impl Outcome {
     /// A command that did what it was asked.
     pub fn done(text: String) -> Outcome {
+        Outcome::ended(text, Status::Done)
+    }
+
+    /// A command that ended with this status.
+    pub fn ended(text: String, status: Status) -> Outcome {
         Outcome {
             text,
-            status: Status::Done,
+            status,
+            note: None,
         }
     }
 }

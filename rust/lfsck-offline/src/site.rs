@@ -34,6 +34,7 @@ pub struct Site {
     file_rows: HashMap<MdtFid, usize>,
     object_rows: HashMap<OstFid, usize>,
     named_by: HashMap<OstFid, Vec<Place>>,
+    first_claimants: HashMap<Claim, OstFid>,
 }
 
 impl Site {
@@ -45,14 +46,22 @@ impl Site {
             file_rows: HashMap::new(),
             object_rows: HashMap::new(),
             named_by: HashMap::new(),
+            first_claimants: HashMap::new(),
         };
         site.find_files();
-        for (row, object) in site.objects.iter().enumerate() {
-            if let Some(object) = object {
-                site.object_rows.insert(object.fid, row);
+        site.find_objects();
+        site
+    }
+
+    fn find_objects(&mut self) {
+        for (row, object) in self.objects.iter().enumerate() {
+            let Some(object) = object else { continue };
+            self.object_rows.insert(object.fid, row);
+            let unnamed = !self.named_by.contains_key(&object.fid);
+            if let Some(claim) = object.claim.filter(|_| unnamed && !object.fresh) {
+                self.first_claimants.entry(claim).or_insert(object.fid);
             }
         }
-        site
     }
 
     fn find_files(&mut self) {
@@ -96,6 +105,11 @@ impl Site {
     /// The slots that name an object, in scan order.
     pub fn named_by(&self, fid: OstFid) -> &[Place] {
         self.named_by.get(&fid).map_or(&[], Vec::as_slice)
+    }
+
+    /// Of the objects with a claim that no slot names and that may hold data, the first.
+    pub fn first_claimant(&self, claim: Claim) -> Option<OstFid> {
+        self.first_claimants.get(&claim).copied()
     }
 
     /// The place of a claim whose file is there, whether or not it has the slot.

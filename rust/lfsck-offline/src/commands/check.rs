@@ -25,7 +25,7 @@ pub fn check(directory: &Path, json: bool) -> Result<Outcome, Failure> {
         0 => Status::Done,
         _ => Status::Refused,
     };
-    Ok(Outcome { text, status })
+    Ok(Outcome::ended(text, status))
 }
 
 fn sound(tables: &Tables) -> String {

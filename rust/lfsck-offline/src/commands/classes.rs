@@ -7,6 +7,7 @@ use crate::case::Case;
 use crate::class::{Class, MEANINGS, NAMES};
 use crate::columns::{self, Line};
 use crate::finding::Finding;
+use crate::foretell::Turn;
 use crate::json::Json;
 use crate::outcome::{Failure, Outcome};
 use crate::position::Position;
@@ -66,20 +67,11 @@ fn section(title: &str, findings: &[&Finding]) -> String {
     let class_and_repair = |class: &str, repair: &str| format!("{class:<9}  {repair}");
     let heading = Line::heading(&class_and_repair("class", "repair"));
     let lines = findings.iter().map(|finding| {
-        let rest = class_and_repair(finding.class.name(), &repair(finding));
+        let rest = class_and_repair(finding.class.name(), &finding.repair_words());
         Line::new(finding.file, finding.slot, finding.object, rest)
     });
     let lines: Vec<Line> = std::iter::once(heading).chain(lines).collect();
     format!("{title}\n{}", columns::text(&lines))
-}
-
-/// What the repair would do, or why there is none.
-fn repair(finding: &Finding) -> String {
-    match (&finding.repair, &finding.denial) {
-        (Some(repair), _) => format!("{}: {}", repair.needs.words(), repair.does),
-        (None, Some(denial)) => format!("none: {denial}"),
-        (None, None) => format!("none: {}", finding.class.meaning()),
-    }
 }
 
 fn summary(counts: &Counts) -> String {
@@ -150,5 +142,14 @@ pub fn finding_json(finding: &Finding) -> Json {
         ),
         ("repair", Json::maybe(repair.map(|repair| &repair.does))),
         ("denial", Json::maybe(finding.denial.as_ref())),
+        ("turn", finding.turn.as_ref().map_or(Json::Null, turn_json)),
+    ])
+}
+
+fn turn_json(turn: &Turn) -> Json {
+    Json::Object(vec![
+        ("class", Json::text(turn.class.name())),
+        ("policy", Json::text(turn.needs.name())),
+        ("why", Json::text(&turn.why)),
     ])
 }

@@ -6,7 +6,8 @@ use crate::answers::{meaning, refusal};
 use crate::args::RunOptions;
 use crate::bar::Bar;
 use crate::case::Case;
-use crate::changes::{Change, changes};
+use crate::change::Change;
+use crate::changes::changes;
 use crate::columns::{self, Line};
 use crate::json::Json;
 use crate::outcome::{Failure, Outcome, Status};
@@ -30,6 +31,9 @@ const COUNTED: [&str; 8] = [
 
 /// The number for a position that the tables do not have.
 const NO_POSITION: u32 = 16;
+
+/// What a dry run says beside what the run would.
+const DRY_RUN: &str = "a dry run: nothing is written";
 
 /// Where a run begins, and why there.
 struct Beginning {
@@ -68,7 +72,7 @@ pub fn run(directory: &Path, options: RunOptions, json: bool) -> Result<Outcome,
             number => refusal(number, &old),
         });
     }
-    if run.steps > 0 {
+    if run.steps > 0 && !options.dry_run {
         let saved = Saved::new(run.position, options.policy, &tables);
         case.save_run(&old, &tables, &saved)?;
     }
@@ -83,13 +87,14 @@ pub fn run(directory: &Path, options: RunOptions, json: bool) -> Result<Outcome,
         left: position.steps_left(&after),
         changes: changes(&before, &after),
     };
+    let text = if json {
+        report.machine()
+    } else {
+        report.people()
+    };
     Ok(Outcome {
-        text: if json {
-            report.machine()
-        } else {
-            report.people()
-        },
-        status: status(run.answer),
+        note: options.dry_run.then_some(DRY_RUN),
+        ..Outcome::ended(text, status(run.answer))
     })
 }
 
@@ -176,7 +181,7 @@ impl Report {
             return "Nothing was changed.\n".to_string();
         }
         let line = |change: &Change| {
-            let what = change.what.clone();
+            let what = change.what.words();
             Line::new(change.file, change.slot, change.object, what)
         };
         let lines: Vec<Line> = self.changes.iter().map(line).collect();
@@ -235,18 +240,9 @@ impl Report {
             ),
             (
                 "changes",
-                Json::List(self.changes.iter().map(change_json).collect()),
+                Json::List(self.changes.iter().map(Change::json).collect()),
             ),
         ])
         .line()
     }
-}
-
-fn change_json(change: &Change) -> Json {
-    Json::Object(vec![
-        ("file", Json::maybe(change.file)),
-        ("slot", Json::maybe_number(change.slot)),
-        ("object", Json::maybe(change.object)),
-        ("what", Json::text(&change.what)),
-    ])
 }

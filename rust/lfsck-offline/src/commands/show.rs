@@ -13,6 +13,7 @@ use crate::outcome::{Failure, Outcome};
 use crate::position::Position;
 use crate::rows::{File, Object};
 use crate::site::{Place, Site};
+use crate::values;
 use crate::verdict::Verdicts;
 use crate::why;
 
@@ -121,12 +122,7 @@ impl View<'_> {
         );
         for finding in self.file_findings(row, file) {
             text += &match finding.slot {
-                None => format!(
-                    "  header: {}, own sequence {:#x} and id {:#x}\n",
-                    finding.class.name(),
-                    header.own_sequence,
-                    header.own_id
-                ),
+                None => format!("  header: {}, own {}\n", finding.class.name(), header.own),
                 Some(slot) => self.slot_line(file, slot, &finding),
             };
             text += &more(&finding);
@@ -240,52 +236,25 @@ impl View<'_> {
         let Some(file) = self.site.file(row) else {
             return Json::Null;
         };
-        let header = &file.header;
         let findings = self.file_findings(row, file);
-        Json::Object(vec![
-            ("row", Json::Number(row as u64)),
-            ("uid", Json::Number(file.owner.uid.into())),
-            ("gid", Json::Number(file.owner.gid.into())),
-            ("version", Json::Number(header.version)),
-            ("pattern", Json::Number(header.pattern)),
-            (
-                "own_sequence",
-                Json::text(format!("{:#x}", header.own_sequence)),
-            ),
-            ("own_id", Json::text(format!("{:#x}", header.own_id))),
-            ("stripe_size", Json::Number(header.stripe_size)),
-            ("generation", Json::Number(header.generation)),
-            ("slots", Json::Number(file.slots.len() as u64)),
-            (
-                "positions",
-                Json::List(findings.iter().map(finding_json).collect()),
-            ),
-        ])
+        let mut members = vec![("row", Json::Number(row as u64))];
+        members.extend(values::file(file));
+        members.push((
+            "positions",
+            Json::List(findings.iter().map(finding_json).collect()),
+        ));
+        Json::Object(members)
     }
 
     fn object_json(&self, row: usize) -> Json {
         let Some(object) = self.site.objects[row] else {
             return Json::Null;
         };
-        Json::Object(vec![
-            ("row", Json::Number(row as u64)),
-            ("ost", Json::Number(object.ost.into())),
-            ("uid", Json::Number(object.owner.uid.into())),
-            ("gid", Json::Number(object.owner.gid.into())),
-            ("fresh", Json::Bool(object.fresh)),
-            (
-                "claimed_file",
-                Json::maybe(object.claim.map(|claim| claim.file)),
-            ),
-            (
-                "claimed_slot",
-                Json::maybe_number(object.claim.map(|claim| claim.index)),
-            ),
-            (
-                "position",
-                finding_json(&self.finding(Position::Object(row))),
-            ),
-        ])
+        let mut members = vec![("row", Json::Number(row as u64))];
+        members.extend(values::object(&object));
+        let position = finding_json(&self.finding(Position::Object(row)));
+        members.push(("position", position));
+        Json::Object(members)
     }
 }
 
@@ -314,6 +283,9 @@ fn more(finding: &Finding) -> String {
     }
     if let Some(repair) = &finding.repair {
         add(format!("repair, {}: {}", repair.needs.words(), repair.does));
+    }
+    if let Some(turn) = &finding.turn {
+        add(turn.words());
     }
     text
 }

@@ -1,7 +1,9 @@
 //! The tool, tested by running it.
 
 mod bytes;
+mod changes;
 mod commands;
+mod foresee;
 mod histories;
 mod json;
 mod limits;
