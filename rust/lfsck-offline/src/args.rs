@@ -23,6 +23,10 @@ pub enum Command {
     Run(RunOptions),
     /// Show a file or an object.
     Show(Fid),
+    /// Tell what was done, to one file or object or to all.
+    Log(Option<Fid>),
+    /// Take the last run back.
+    Undo,
 }
 
 /// How to repair.
@@ -136,7 +140,10 @@ impl Words {
     }
 
     fn call(mut self, topic: Topic) -> Result<Call, Failure> {
-        let wanted = if topic == Topic::Show { 2 } else { 1 };
+        let wanted = match topic {
+            Topic::Show | Topic::Log => 2,
+            _ => 1,
+        };
         if self.places.len() > wanted {
             let word = self.places[wanted].display().to_string();
             return Err(Failure::usage(format!("'{word}' is one word too many")));
@@ -151,6 +158,9 @@ impl Words {
             Topic::Classes => Command::Classes(self.only.as_deref().map(class_of).transpose()?),
             Topic::Run => Command::Run(self.run_options()?),
             Topic::Show => Command::Show(fid_of(self.places.first())?),
+            Topic::Log if self.places.is_empty() => Command::Log(None),
+            Topic::Log => Command::Log(Some(fid_of(self.places.first())?)),
+            Topic::Undo => Command::Undo,
             Topic::All => Command::Help(topic),
         };
         Ok(Call {
@@ -235,6 +245,14 @@ mod tests {
     }
 
     #[test]
+    fn a_log_is_of_all_or_of_one() {
+        assert_eq!(call("log d").command, Command::Log(None));
+        let one = Command::Log(Some(Fid::new(0x2_0000_0401, 1)));
+        assert_eq!(call("log d 0x200000401:1 --json").command, one);
+        assert_eq!(call("undo d").command, Command::Undo);
+    }
+
+    #[test]
     fn help_is_for_each_command() {
         for (line, topic) in [
             ("--help", Topic::All),
@@ -276,6 +294,11 @@ mod tests {
             "show d",
             "show d 1",
             "show d 1:2:3 e",
+            "log",
+            "log d 1",
+            "log d 1:2 e",
+            "undo d e",
+            "undo d --steps 1",
         ] {
             let failure = parse(line).expect_err(line);
             assert_eq!(failure.status, Status::Usage);

@@ -2,9 +2,11 @@
 
 mod check;
 mod classes;
+mod log;
 mod run;
 mod sample;
 mod show;
+mod undo;
 
 use crate::args::{Call, Command};
 use crate::outcome::{Failure, Outcome};
@@ -19,5 +21,8 @@ pub fn execute(call: &Call) -> Result<Outcome, Failure> {
         Command::Classes(only) => classes::classes(directory, only, json),
         Command::Run(options) => run::run(directory, options, json),
         Command::Show(fid) => show::show(directory, fid, json),
+        Command::Log(None) => log::log(directory, json),
+        Command::Log(Some(fid)) => log::story(directory, fid, json),
+        Command::Undo => undo::undo(directory, json),
     }
 }

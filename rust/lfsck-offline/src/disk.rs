@@ -1,8 +1,9 @@
 //! The file operations on a case, one by one, in the directory that was opened, whatever its
 //! name stands for meanwhile.
 
+use std::cell::Cell;
 use std::fs::{self, File};
-use std::io::{self, Read, Write};
+use std::io::{self, Read, Seek, SeekFrom, Write};
 use std::os::fd::AsRawFd;
 use std::os::unix::fs::MetadataExt;
 use std::path::{Path, PathBuf};
@@ -19,6 +20,8 @@ pub struct Disk {
     opened: File,
     /// The way to its files.
     way: PathBuf,
+    /// Whether the last operation that failed was one that is not allowed here.
+    denied: Cell<bool>,
     hook: Hook,
 }
 
@@ -38,6 +41,7 @@ impl Disk {
             directory: directory.to_path_buf(),
             way: way_to(&opened).unwrap_or_else(|| directory.to_path_buf()),
             opened,
+            denied: Cell::new(false),
             hook: Hook::new(),
         })
     }
@@ -45,6 +49,16 @@ impl Disk {
     /// The directory itself, to be locked.
     pub fn opened(&self) -> &File {
         &self.opened
+    }
+
+    /// Whether the last operation that failed was one that is not allowed here.
+    pub fn denied(&self) -> bool {
+        self.denied.get()
+    }
+
+    /// The name of the directory, for people.
+    pub fn directory(&self) -> &Path {
+        &self.directory
     }
 
     /// The name of a file, for people.
@@ -66,30 +80,44 @@ impl Disk {
         }
     }
 
-    /// Who may read and write a plain file; none where there is nothing under the name.
-    pub fn permissions(&self, name: &str) -> Result<Option<Permissions>, Failure> {
+    /// Something of a plain file; none where there is nothing under the name.
+    fn of_file<Of>(
+        &self,
+        name: &str,
+        read: impl FnOnce(File) -> io::Result<Of>,
+    ) -> Result<Option<Of>, Failure> {
         let Some(file) = self.look(name)? else {
             return Ok(None);
         };
-        let metadata = file.metadata();
-        let metadata = metadata.map_err(|error| trouble(&self.path(name), &error))?;
-        Ok(Some(Permissions::of(&metadata)))
+        let read = read(file).map_err(|error| trouble(&self.path(name), &error))?;
+        Ok(Some(read))
+    }
+
+    /// Who may read and write a plain file; none where there is nothing under the name.
+    pub fn permissions(&self, name: &str) -> Result<Option<Permissions>, Failure> {
+        self.of_file(name, |file| Ok(Permissions::of(&file.metadata()?)))
+    }
+
+    /// The length of a plain file; none where there is nothing under the name.
+    pub fn length(&self, name: &str) -> Result<Option<u64>, Failure> {
+        self.of_file(name, |file| Ok(file.metadata()?.len()))
     }
 
     /// A plain file of at most so many bytes, or so many and one of a longer one; none where
     /// there is nothing under the name.
     pub fn find(&self, name: &str, most: usize) -> Result<Option<Found>, Failure> {
-        let Some(file) = self.look(name)? else {
-            return Ok(None);
-        };
-        let read = || {
+        self.part(name, 0, most)
+    }
+
+    /// The same from a place of the file on.
+    pub fn part(&self, name: &str, at: u64, most: usize) -> Result<Option<Found>, Failure> {
+        self.of_file(name, |mut file| {
             let permissions = Permissions::of(&file.metadata()?);
+            file.seek(SeekFrom::Start(at))?;
             let mut bytes = Vec::new();
-            (&file).take(most as u64 + 1).read_to_end(&mut bytes)?;
+            file.take(most as u64 + 1).read_to_end(&mut bytes)?;
             Ok(Found { bytes, permissions })
-        };
-        let found = read().map_err(|error| trouble(&self.path(name), &error))?;
-        Ok(Some(found))
+        })
     }
 
     /// The bytes of a plain file that must be there.
@@ -106,11 +134,56 @@ impl Disk {
     /// Writes a new file and waits until the disk has it. What an earlier process left under
     /// the name is removed and not opened.
     pub fn write(&self, name: &str, bytes: &[u8], access: Access) -> Result<(), Failure> {
-        let mut file = self.make(name, access)?;
+        let file = self.make(name, access)?;
+        self.fill(name, file, bytes)
+    }
+
+    /// Writes bytes into a file from where it stands, and waits until the disk has them.
+    fn fill(&self, name: &str, mut file: File, bytes: &[u8]) -> Result<(), Failure> {
         let (first, second) = bytes.split_at(bytes.len() / 2);
         self.operation("write half of", name, |_| file.write_all(first))?;
         self.operation("write the rest of", name, |_| file.write_all(second))?;
         self.operation("sync", name, |_| file.sync_all())
+    }
+
+    /// Writes bytes into a file after the first ones, so many, and waits until the disk has
+    /// them; where there is no file, one is made. A file that others could read along with, or
+    /// that this process may not write, is left as it is, and the answer is no.
+    pub fn append(
+        &self,
+        name: &str,
+        from: u64,
+        bytes: &[u8],
+        access: Access,
+    ) -> Result<bool, Failure> {
+        let file = match plain::open(&self.way.join(name), Use::Write) {
+            Err(error) if error.kind() == io::ErrorKind::PermissionDenied => return Ok(false),
+            Err(error) if error.kind() == io::ErrorKind::NotFound => self.make(name, access)?,
+            Err(error) => return Err(trouble(&self.path(name), &error)),
+            Ok(mut file) => {
+                let metadata = file.metadata();
+                let metadata = metadata.map_err(|error| trouble(&self.path(name), &error))?;
+                if metadata.nlink() > 1 || !access.holds(Permissions::of(&metadata)) {
+                    return Ok(false);
+                }
+                self.operation("extend", name, |_| file.seek(SeekFrom::Start(from)))?;
+                file
+            }
+        };
+        self.fill(name, file, bytes)?;
+        Ok(true)
+    }
+
+    /// Sees whether there is room for a file of so many bytes, and removes it again.
+    pub fn reserve(&self, name: &str, bytes: usize) -> Result<(), Failure> {
+        let mut file = self.make(name, Access::Own)?;
+        let zeros = vec![0; bytes];
+        let reserved = self.operation("reserve", name, |_| file.write_all(&zeros));
+        let removed = self.remove(name);
+        reserved.and(removed).map_err(|failure| Failure {
+            message: format!("{}; so a run could not be saved", failure.message),
+            ..failure
+        })
     }
 
     fn make(&self, name: &str, access: Access) -> Result<File, Failure> {
@@ -162,7 +235,13 @@ impl Disk {
             .hook
             .before()
             .and_then(|()| operation(&self.way.join(name)));
-        let done = done.map_err(|error| trouble(&self.path(name), &error))?;
+        let done = done.map_err(|error| {
+            self.denied.set(matches!(
+                error.kind(),
+                io::ErrorKind::PermissionDenied | io::ErrorKind::ReadOnlyFilesystem
+            ));
+            trouble(&self.path(name), &error)
+        })?;
         self.hook.after(what, name);
         Ok(done)
     }

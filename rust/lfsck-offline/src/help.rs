@@ -17,6 +17,10 @@ pub enum Topic {
     Run,
     /// `show`.
     Show,
+    /// `log`.
+    Log,
+    /// `undo`.
+    Undo,
 }
 
 impl Topic {
@@ -29,6 +33,8 @@ impl Topic {
             "classes" => Topic::Classes,
             "run" => Topic::Run,
             "show" => Topic::Show,
+            "log" => Topic::Log,
+            "undo" => Topic::Undo,
             _ => return None,
         })
     }
@@ -42,6 +48,8 @@ impl Topic {
             Topic::Classes => CLASSES,
             Topic::Run => RUN,
             Topic::Show => SHOW,
+            Topic::Log => LOG,
+            Topic::Undo => UNDO,
         }
     }
 }
@@ -57,6 +65,8 @@ case: the directory with parents.tbl, objects.tbl and reserve.tbl.
   classes DIR    list what is wrong with which file, and what a repair would do
   run DIR        repair, going on from where the last run stopped
   show DIR FID   tell everything about one file or object
+  log DIR [FID]  tell what the runs changed, and when; of FID, also why
+  undo DIR       take the last run back
 
 Options of every command:
   --json         print JSON for machines
@@ -130,4 +140,24 @@ Tells everything about one file or object: layout, slots, claims, class, and why
 or without brackets, in hexadecimal or decimal numbers.
 
 Exit status: 2 where nothing in the case has the FID.
+";
+
+const LOG: &str = "\
+Usage: lfsck-offline log DIR [FID] [--json]
+
+Tells what was done in the case, from the log that each run that changes a table
+is written into: when, by which version, under which policy, from where to where,
+the repairs, and every change. With FID, the story of that file or object: the
+changes that concern it, each with the time and the class that was mended.
+";
+
+const UNDO: &str = "\
+Usage: lfsck-offline undo DIR [--json]
+
+Takes the last run of the log back, row by row, and puts the saved position back
+that was there before it. The tables must still be what that run left. The undo
+is written into the log, and is not taken back itself.
+
+Exit status: 2 where there is no run to take back, or the tables were changed
+since.
 ";

@@ -79,6 +79,18 @@ impl Access {
         })
     }
 
+    /// Whether a file that is there lets in nobody whom this does not let in. This process may
+    /// read whatever is to be kept from others.
+    pub fn holds(self, file: Permissions) -> bool {
+        let own = own_uid() == Some(file.uid);
+        match self {
+            Access::Like(like) if file.gid == like.gid && (own || file.uid == like.uid) => {
+                file.mode & !like.mode == 0
+            }
+            _ => own && file.mode & !OWNER_BITS == 0,
+        }
+    }
+
     /// The mode that it is made with; whoever else is let in is let in when it is given.
     pub fn first_mode(self) -> u32 {
         match self {
@@ -94,6 +106,11 @@ impl Access {
             Access::Like(permissions) => permissions.give(file),
         }
     }
+}
+
+/// The user that this process acts as, where the system tells.
+fn own_uid() -> Option<u32> {
+    Some(fs::metadata("/proc/self").ok()?.uid())
 }
 
 #[cfg(test)]
@@ -125,6 +142,27 @@ mod tests {
             assert_eq!(Access::strictest(&all), Access::Own);
         }
         assert_eq!(Access::strictest(&[]), Access::Own);
+    }
+
+    #[test]
+    fn a_file_of_others_is_not_held() {
+        let like = Access::Like(permissions(5, 6, 0o640));
+        let own = own_uid().expect("a user");
+        for (file, held) in [
+            (permissions(5, 6, 0o640), true),
+            (permissions(5, 6, 0o600), true),
+            (permissions(5, 6, 0o644), false),
+            (permissions(5, 6, 0o660), false),
+            (permissions(5, 7, 0o600), false),
+            (permissions(own + 1, 6, 0o600), false),
+            (permissions(own, 6, 0o640), true),
+            (permissions(own, 7, 0o640), false),
+            (permissions(own, 7, 0o600), true),
+        ] {
+            assert_eq!(like.holds(file), held, "{file:?}");
+        }
+        assert!(Access::Own.holds(permissions(own, 7, 0o600)));
+        assert!(!Access::Own.holds(permissions(own, 7, 0o640)));
     }
 
     #[test]

@@ -2,7 +2,20 @@
 
 use std::time::{Duration, Instant};
 
+use crate::json::Json;
 use crate::tables::Tables;
+
+/// The classes whose repairs a run counts, in the order of its counts.
+pub const COUNTED: [&str; 8] = [
+    "SELF",
+    "MULTIPLE",
+    "DANGLING",
+    "BLANK",
+    "UNMATCHED",
+    "OWNER",
+    "EMPTY",
+    "ORPHAN",
+];
 
 /// The answer of a run, where it stands and what it did.
 #[derive(Clone, Copy, Debug, PartialEq, Eq)]
@@ -13,7 +26,7 @@ pub struct Run {
     pub position: [u64; 3],
     /// The steps done.
     pub steps: u64,
-    /// The repairs of SELF, MULTIPLE, DANGLING, BLANK, UNMATCHED, OWNER, EMPTY and ORPHAN.
+    /// The repairs of each class that is counted.
     pub repairs: [u64; 8],
 }
 
@@ -89,6 +102,27 @@ pub fn run_watched(
 }
 
 impl Run {
+    /// The repairs by class, for people.
+    pub fn repairs_words(&self) -> String {
+        let made: Vec<String> = COUNTED
+            .iter()
+            .zip(self.repairs)
+            .filter(|(_, count)| *count > 0)
+            .map(|(class, count)| format!("{class} {count}"))
+            .collect();
+        match made.len() {
+            0 => "none".to_string(),
+            _ => made.join(", "),
+        }
+    }
+
+    /// The repairs by class, for machines.
+    pub fn repairs_json(&self) -> Json {
+        let repairs = COUNTED.iter().zip(self.repairs);
+        let members = repairs.map(|(class, count)| (*class, Json::Number(count)));
+        Json::Object(members.collect())
+    }
+
     /// Adds a later run: counts added, answer and position taken.
     fn add(&mut self, later: Run) {
         self.answer = later.answer;

@@ -75,6 +75,15 @@ impl Tables {
         }
     }
 
+    /// The bytes of a table, to be changed.
+    pub fn of_mut(&mut self, table: Table) -> &mut Vec<u8> {
+        match table {
+            Table::Parents => &mut self.parents,
+            Table::Objects => &mut self.objects,
+            Table::Reserve => &mut self.reserve,
+        }
+    }
+
     /// The whole rows of a table.
     pub fn rows(&self, table: Table) -> impl Iterator<Item = &[u8]> {
         self.of(table).chunks_exact(table.row_bytes())

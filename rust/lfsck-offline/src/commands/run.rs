@@ -17,18 +17,6 @@ use crate::site::Site;
 use crate::slices::{self, Run};
 use crate::tables::Tables;
 
-/// The classes whose repairs a run counts, in the order of its counts.
-const COUNTED: [&str; 8] = [
-    "SELF",
-    "MULTIPLE",
-    "DANGLING",
-    "BLANK",
-    "UNMATCHED",
-    "OWNER",
-    "EMPTY",
-    "ORPHAN",
-];
-
 /// The number for a position that the tables do not have.
 const NO_POSITION: u32 = 16;
 
@@ -55,7 +43,11 @@ struct Report {
 
 /// Runs on a case.
 pub fn run(directory: &Path, options: RunOptions, json: bool) -> Result<Outcome, Failure> {
-    let case = Case::open(directory)?;
+    let case = if options.dry_run {
+        Case::open(directory)?
+    } else {
+        Case::open_alone(directory)?
+    };
     let old = case.tables()?;
     let saved = if options.from_start {
         None
@@ -64,6 +56,9 @@ pub fn run(directory: &Path, options: RunOptions, json: bool) -> Result<Outcome,
     };
     let beginning = beginning(&old, saved, options)?;
     let before = Site::new(&old);
+    if !options.dry_run && steps_ahead(&before, beginning.position, options) > 0 {
+        case.prepare(&old)?;
+    }
     let mut tables = old.clone();
     let run = run_from(&mut tables, &before, beginning.position, options);
     if (11..=17).contains(&run.answer) {
@@ -74,7 +69,7 @@ pub fn run(directory: &Path, options: RunOptions, json: bool) -> Result<Outcome,
     }
     if run.steps > 0 && !options.dry_run {
         let saved = Saved::new(run.position, options.policy, &tables);
-        case.save_run(&old, &tables, &saved)?;
+        case.save_run(&old, &tables, &saved, beginning.position, run)?;
     }
     let after = Site::new(&tables);
     let position = Position::of_numbers(run.position).expect("a position of document 01");
@@ -146,11 +141,16 @@ fn beginning(
     }
 }
 
+/// The steps that a run has before it.
+fn steps_ahead(site: &Site, position: [u64; 3], options: RunOptions) -> u64 {
+    let left = Position::of_numbers(position).map_or(0, |position| position.steps_left(site));
+    left.min(options.steps.unwrap_or(u64::MAX))
+}
+
 /// Runs, with a bar for somebody at a terminal.
 fn run_from(tables: &mut Tables, site: &Site, position: [u64; 3], options: RunOptions) -> Run {
     let most = options.steps.unwrap_or(u64::MAX);
-    let left = Position::of_numbers(position).map_or(0, |position| position.steps_left(site));
-    let steps = left.min(most);
+    let steps = steps_ahead(site, position, options);
     match Bar::on_terminal(steps) {
         None => slices::run(tables, options.policy, most, position),
         Some(mut bar) => {
@@ -171,7 +171,7 @@ impl Report {
             policy_words(self.policy)
         );
         text += &self.changes_for_people();
-        text += &self.repairs_for_people();
+        text += &format!("Repairs: {}.\n", self.run.repairs_words());
         text += &format!("Steps: {} done, {} left.\n", self.run.steps, self.left);
         text + &self.answer_for_people()
     }
@@ -186,18 +186,6 @@ impl Report {
         };
         let lines: Vec<Line> = self.changes.iter().map(line).collect();
         format!("Changed:\n{}", columns::text(&lines))
-    }
-
-    fn repairs_for_people(&self) -> String {
-        let repairs = COUNTED.iter().zip(self.run.repairs);
-        let made: Vec<String> = repairs
-            .filter(|(_, count)| *count > 0)
-            .map(|(class, count)| format!("{class} {count}"))
-            .collect();
-        match made.len() {
-            0 => "Repairs: none.\n".to_string(),
-            _ => format!("Repairs: {}.\n", made.join(", ")),
-        }
     }
 
     fn answer_for_people(&self) -> String {
@@ -217,7 +205,6 @@ impl Report {
 
     fn machine(&self) -> String {
         let [stage, row, part] = self.position.to_numbers();
-        let repairs = COUNTED.iter().zip(self.run.repairs);
         Json::Object(vec![
             ("answer", Json::Number(self.run.answer.into())),
             ("meaning", Json::text(meaning(self.run.answer))),
@@ -230,14 +217,7 @@ impl Report {
             ("place", Json::text(&self.place)),
             ("steps_done", Json::Number(self.run.steps)),
             ("steps_left", Json::Number(self.left)),
-            (
-                "repairs",
-                Json::Object(
-                    repairs
-                        .map(|(class, count)| (*class, Json::Number(count)))
-                        .collect(),
-                ),
-            ),
+            ("repairs", self.run.repairs_json()),
             (
                 "changes",
                 Json::List(self.changes.iter().map(Change::json).collect()),

@@ -107,7 +107,7 @@ fn start_alone(case: &Case, words: &[&str]) -> Child {
         std::thread::sleep(Duration::from_millis(50 * attempt));
         let second = case.run(&["show", "1:1"]);
         if second.status == Some(74) {
-            second.expect_line(74, "another lfsck-offline has this case open");
+            second.expect_line(74, "another process has this case open");
             return child;
         }
         // The second was the first to open the case.

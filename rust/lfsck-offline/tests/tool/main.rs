@@ -7,6 +7,7 @@ mod foresee;
 mod histories;
 mod json;
 mod limits;
+mod logs;
 mod oracle;
 mod refusals;
 mod resume;

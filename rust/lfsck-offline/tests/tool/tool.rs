@@ -16,6 +16,9 @@ pub const POSITION: &str = "lfsck-offline.position";
 /// The journal of a save.
 pub const JOURNAL: &str = "lfsck-offline.journal";
 
+/// The log.
+pub const LOG: &str = "lfsck-offline.log";
+
 /// A user without rights.
 pub const NOBODY: u32 = 65_534;
 
@@ -195,6 +198,19 @@ impl From<Output> for Told {
             err: text(output.stderr),
         }
     }
+}
+
+/// The files without the times in the log, which differ from run to run.
+pub fn timeless(files: &Files) -> Files {
+    let mut files = files.clone();
+    if let Some(log) = files.get_mut(LOG) {
+        let text = String::from_utf8(std::mem::take(log)).expect("a text");
+        let mut parts = text.split_inclusive("\"when\":\"");
+        let first = parts.next().unwrap_or_default().to_string();
+        let rest = parts.map(|part| &part["2026-11-16T01:06:34Z".len()..]);
+        *log = rest.fold(first, |text, part| text + part).into_bytes();
+    }
+    files
 }
 
 /// The SHA-256 digest in hexadecimal digits, by another program.

@@ -22,7 +22,7 @@ fn a_case_that_is_open_is_refused() {
         &["sample"],
     ] {
         case.run(words)
-            .expect_line(74, "another lfsck-offline has this case open");
+            .expect_line(74, "another process has this case open");
     }
     assert_eq!(case.files(), before);
     drop(lock);
@@ -45,7 +45,7 @@ fn of_many_at_once_each_has_the_case_alone() {
             match told.status {
                 Some(0 | 1) => (),
                 _ => {
-                    told.expect_line(74, "another lfsck-offline has this case open");
+                    told.expect_line(74, "another process has this case open");
                 }
             }
         }
