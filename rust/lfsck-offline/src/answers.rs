@@ -50,7 +50,6 @@ pub fn refusal(number: u32, tables: &Tables) -> Failure {
         0 | 1 => "",
         _ => "; lfsck-offline check lists all that is wrong",
     };
-    Failure::refused(format!(
-        "the tables are refused with {number}: {first}{more}"
-    ))
+    let message = format!("the tables are refused with {number}: {first}{more}");
+    Failure::answered(number, message)
 }

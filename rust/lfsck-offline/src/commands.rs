@@ -9,15 +9,19 @@ mod show;
 use crate::args::{Call, Command};
 use crate::outcome::{Failure, Outcome};
 
+/// The line that says which version this is.
+const VERSION: &str = concat!("lfsck-offline ", env!("CARGO_PKG_VERSION"), "\n");
+
 /// Does what is asked.
 pub fn execute(call: &Call) -> Result<Outcome, Failure> {
     let (directory, json) = (&call.directory, call.json);
-    match call.command {
+    match &call.command {
         Command::Help(topic) => Ok(Outcome::done(topic.text().to_string())),
+        Command::Version => Ok(Outcome::done(VERSION.to_string())),
         Command::Sample => sample::sample(directory, json),
         Command::Check => check::check(directory, json),
-        Command::Classes(only) => classes::classes(directory, only, json),
-        Command::Run(options) => run::run(directory, options, json),
-        Command::Show(fid) => show::show(directory, fid, json),
+        Command::Classes(options) => classes::classes(directory, options, json),
+        Command::Run(options) => run::run(directory, *options, json),
+        Command::Show(fid) => show::show(directory, *fid, json),
     }
 }

@@ -3,7 +3,7 @@
 use crate::site::{Place, Site};
 
 /// A step of a run, or its end.
-#[derive(Clone, Copy, Debug, PartialEq, Eq)]
+#[derive(Clone, Copy, Debug, PartialEq, Eq, Hash)]
 pub enum Position {
     /// The header of a parent row; of an unused row, the row.
     Header(usize),

@@ -8,7 +8,7 @@ use crate::rows::{Claim, File, Object, Stripe};
 use crate::tables::{Table, Tables};
 
 /// A slot of a parent row.
-#[derive(Clone, Copy, Debug, PartialEq, Eq)]
+#[derive(Clone, Copy, Debug, PartialEq, Eq, Hash)]
 pub struct Place {
     /// The parent row.
     pub row: usize,

@@ -32,6 +32,9 @@ const COUNTED: [&str; 8] = [
 /// The number for a position that the tables do not have.
 const NO_POSITION: u32 = 16;
 
+/// What is true of a run even where its report is lost.
+const SAVED: &str = "the run was saved";
+
 /// What a dry run says beside what the run would.
 const DRY_RUN: &str = "a dry run: nothing is written";
 
@@ -50,7 +53,8 @@ struct Report {
     position: Position,
     place: String,
     left: u64,
-    changes: Vec<Change>,
+    /// None where they are not asked for.
+    changes: Option<Vec<Change>>,
 }
 
 /// Runs on a case.
@@ -72,7 +76,8 @@ pub fn run(directory: &Path, options: RunOptions, json: bool) -> Result<Outcome,
             number => refusal(number, &old),
         });
     }
-    if run.steps > 0 && !options.dry_run {
+    let saves = run.steps > 0 && !options.dry_run;
+    if saves {
         let saved = Saved::new(run.position, options.policy, &tables);
         case.save_run(&old, &tables, &saved)?;
     }
@@ -85,7 +90,7 @@ pub fn run(directory: &Path, options: RunOptions, json: bool) -> Result<Outcome,
         position,
         place: position.words(&after),
         left: position.steps_left(&after),
-        changes: changes(&before, &after),
+        changes: (!options.summary).then(|| changes(&before, &after)),
     };
     let text = if json {
         report.machine()
@@ -94,17 +99,19 @@ pub fn run(directory: &Path, options: RunOptions, json: bool) -> Result<Outcome,
     };
     Ok(Outcome {
         note: options.dry_run.then_some(DRY_RUN),
+        lasting: saves.then_some(SAVED),
         ..Outcome::ended(text, status(run.answer))
     })
 }
 
 /// The tables are those of the saved position, and still it is none of theirs.
 fn no_such_position([stage, row, part]: [u64; 3]) -> Failure {
-    Failure::refused(format!(
+    let message = format!(
         "the saved position {stage}, {row}, {part} is refused with {NO_POSITION}: {}; \
          --from-start begins without it",
         meaning(NO_POSITION)
-    ))
+    );
+    Failure::answered(NO_POSITION, message)
 }
 
 fn status(answer: u32) -> Status {
@@ -177,15 +184,23 @@ impl Report {
     }
 
     fn changes_for_people(&self) -> String {
-        if self.changes.is_empty() {
+        let Some(changes) = &self.changes else {
+            return String::new();
+        };
+        if changes.is_empty() {
             return "Nothing was changed.\n".to_string();
         }
         let line = |change: &Change| {
             let what = change.what.words();
             Line::new(change.file, change.slot, change.object, what)
         };
-        let lines: Vec<Line> = self.changes.iter().map(line).collect();
+        let lines: Vec<Line> = changes.iter().map(line).collect();
         format!("Changed:\n{}", columns::text(&lines))
+    }
+
+    fn changes_for_machines(&self) -> Json {
+        let list = |changes: &Vec<Change>| Json::List(changes.iter().map(Change::json).collect());
+        self.changes.as_ref().map_or(Json::Null, list)
     }
 
     fn repairs_for_people(&self) -> String {
@@ -238,10 +253,7 @@ impl Report {
                         .collect(),
                 ),
             ),
-            (
-                "changes",
-                Json::List(self.changes.iter().map(Change::json).collect()),
-            ),
+            ("changes", self.changes_for_machines()),
         ])
         .line()
     }

@@ -1,5 +1,6 @@
 //! The tool, tested by running it.
 
+mod asking;
 mod bytes;
 mod changes;
 mod commands;
