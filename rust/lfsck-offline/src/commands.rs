@@ -7,21 +7,23 @@ mod sample;
 mod show;
 
 use crate::args::{Call, Command};
+use crate::bar::{Bar, Work};
 use crate::outcome::{Failure, Outcome};
 
 /// The line that says which version this is.
 const VERSION: &str = concat!("lfsck-offline ", env!("CARGO_PKG_VERSION"), "\n");
 
-/// Does what is asked.
+/// Does what is asked. The bar is gone before anything is printed.
 pub fn execute(call: &Call) -> Result<Outcome, Failure> {
     let (directory, json) = (&call.directory, call.json);
+    let bar = Bar::start(Work::Unmeasured("reading the tables"));
     match &call.command {
         Command::Help(topic) => Ok(Outcome::done(topic.text().to_string())),
         Command::Version => Ok(Outcome::done(VERSION.to_string())),
         Command::Sample => sample::sample(directory, json),
-        Command::Check => check::check(directory, json),
-        Command::Classes(options) => classes::classes(directory, options, json),
-        Command::Run(options) => run::run(directory, *options, json),
-        Command::Show(fid) => show::show(directory, *fid, json),
+        Command::Check => check::check(directory, json, &bar),
+        Command::Classes(options) => classes::classes(directory, options, json, &bar),
+        Command::Run(options) => run::run(directory, *options, json, &bar),
+        Command::Show(fid) => show::show(directory, *fid, json, &bar),
     }
 }

@@ -24,6 +24,7 @@ mod help;
 mod journal;
 mod json;
 mod outcome;
+mod pace;
 mod position;
 mod rows;
 mod saved;

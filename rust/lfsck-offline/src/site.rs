@@ -25,6 +25,17 @@ pub struct Named {
     pub slot: usize,
 }
 
+/// How many slots name objects.
+#[derive(Clone, Copy, Debug, PartialEq, Eq)]
+pub struct NamedCounts {
+    /// The slots that name one.
+    pub slots: usize,
+    /// The objects that are named and absent.
+    pub absent: usize,
+    /// The slots that name an object which another slot keeps.
+    pub surplus: usize,
+}
+
 /// The files and objects of a case; unused rows are `None`.
 pub struct Site {
     /// The parent rows.
@@ -105,6 +116,17 @@ impl Site {
     /// The slots that name an object, in scan order.
     pub fn named_by(&self, fid: OstFid) -> &[Place] {
         self.named_by.get(&fid).map_or(&[], Vec::as_slice)
+    }
+
+    /// How many slots name objects, and how many of these are to be made or redirected.
+    pub fn named(&self) -> NamedCounts {
+        let slots = self.named_by.values().map(Vec::len).sum();
+        let is_absent = |fid: &&OstFid| !self.object_rows.contains_key(fid);
+        NamedCounts {
+            slots,
+            absent: self.named_by.keys().filter(is_absent).count(),
+            surplus: slots - self.named_by.len(),
+        }
     }
 
     /// Of the objects with a claim that no slot names and that may hold data, the first.

@@ -4,6 +4,7 @@ use std::path::Path;
 
 use crate::answers::require_sound;
 use crate::args::ClassesOptions;
+use crate::bar::{Bar, Work};
 use crate::case::Case;
 use crate::class::{Class, MEANINGS, NAMES};
 use crate::classing::classes_at;
@@ -20,16 +21,22 @@ use crate::site::Site;
 type Counts = [u64; NAMES.len()];
 
 /// Lists the findings of a case.
-pub fn classes(directory: &Path, options: &ClassesOptions, json: bool) -> Result<Outcome, Failure> {
+pub fn classes(
+    directory: &Path,
+    options: &ClassesOptions,
+    json: bool,
+    bar: &Bar,
+) -> Result<Outcome, Failure> {
     let tables = Case::open(directory)?.tables()?;
-    require_sound(&tables)?;
+    require_sound(&tables, bar)?;
     let site = Site::new(&tables);
     let filter = &options.filter;
     let admitted = Position::all(&site).filter(|position| filter.admits(&site, *position));
     let positions: Vec<Position> = admitted.collect();
     let mut counts = Counts::default();
     let mut findings = Vec::new();
-    let classes = classes_at(&tables, &site, &positions, |_| ());
+    bar.turn_to(Work::Counted("positions", positions.len() as u64));
+    let classes = classes_at(&tables, &site, &positions, |done| bar.show(done));
     for (position, class) in positions.into_iter().zip(classes) {
         counts[class.number()] += 1;
         if filter.lists(class) {

@@ -1,16 +1,18 @@
 //! `run`: repairs, going on from the saved position.
 
+use std::ops::ControlFlow;
 use std::path::Path;
 
 use crate::answers::{meaning, refusal};
 use crate::args::RunOptions;
-use crate::bar::Bar;
+use crate::bar::{Bar, Work};
 use crate::case::Case;
 use crate::change::Change;
 use crate::changes::changes;
 use crate::columns::{self, Line};
 use crate::json::Json;
 use crate::outcome::{Failure, Outcome, Status};
+use crate::pace::{self, Plan};
 use crate::position::Position;
 use crate::saved::{Saved, policy_words};
 use crate::site::Site;
@@ -58,7 +60,12 @@ struct Report {
 }
 
 /// Runs on a case.
-pub fn run(directory: &Path, options: RunOptions, json: bool) -> Result<Outcome, Failure> {
+pub fn run(
+    directory: &Path,
+    options: RunOptions,
+    json: bool,
+    bar: &Bar,
+) -> Result<Outcome, Failure> {
     let case = Case::open(directory)?;
     let old = case.tables()?;
     let saved = if options.from_start {
@@ -66,10 +73,11 @@ pub fn run(directory: &Path, options: RunOptions, json: bool) -> Result<Outcome,
     } else {
         case.position()?
     };
-    let beginning = beginning(&old, saved, options)?;
     let before = Site::new(&old);
+    let beginning = beginning(&old, &before, saved, options);
     let mut tables = old.clone();
-    let run = run_from(&mut tables, &before, beginning.position, options);
+    let run = run_from(&mut tables, &before, beginning.position, options, bar);
+    bar.turn_to(Work::Unmeasured("saving"));
     if (11..=17).contains(&run.answer) {
         return Err(match run.answer {
             NO_POSITION => no_such_position(beginning.position),
@@ -123,49 +131,51 @@ fn status(answer: u32) -> Status {
 }
 
 /// The saved position where it counts, else the start.
-fn beginning(
-    tables: &Tables,
-    saved: Option<Saved>,
-    options: RunOptions,
-) -> Result<Beginning, Failure> {
+fn beginning(tables: &Tables, site: &Site, saved: Option<Saved>, options: RunOptions) -> Beginning {
     let why = match saved {
         Some(saved) => match saved.differs(options.policy, tables) {
             None => {
-                return Ok(Beginning {
+                return Beginning {
                     position: saved.position,
                     words: "goes on from the saved position".to_string(),
                     resumed: true,
-                });
+                };
             }
             Some(why) => format!("at the start; the saved position does not count: {why}"),
         },
         None if options.from_start => "at the start, as asked".to_string(),
         None => "at the start; there is no saved position".to_string(),
     };
-    let mut position = [0; 3];
-    match lfsck_sys::start(&tables.parents, &tables.objects, &mut position) {
-        0 => Ok(Beginning {
-            position,
-            words: format!("begins {why}"),
-            resumed: false,
-        }),
-        number => Err(refusal(number, tables)),
+    Beginning {
+        position: Position::start(site).to_numbers(),
+        words: format!("begins {why}"),
+        resumed: false,
     }
 }
 
-/// Runs, with a bar for somebody at a terminal.
-fn run_from(tables: &mut Tables, site: &Site, position: [u64; 3], options: RunOptions) -> Run {
+/// Runs, in one call or in slices.
+fn run_from(
+    tables: &mut Tables,
+    site: &Site,
+    position: [u64; 3],
+    options: RunOptions,
+    bar: &Bar,
+) -> Run {
     let most = options.steps.unwrap_or(u64::MAX);
+    let policy = options.policy;
     let left = Position::of_numbers(position).map_or(0, |position| position.steps_left(site));
     let steps = left.min(most);
-    match Bar::on_terminal(steps) {
-        None => slices::run(tables, options.policy, most, position),
-        Some(mut bar) => {
-            let first = (steps / 50).max(200);
-            let show = |done| bar.show(done);
-            let run = slices::run_watched(tables, options.policy, most, position, first, show);
-            bar.clear();
-            run
+    match pace::plan(site, tables, policy, steps) {
+        Plan::Whole => {
+            bar.turn_to(Work::Unmeasured("running"));
+            slices::run(tables, policy, most, position)
+        }
+        Plan::Slices(first) => {
+            bar.turn_to(Work::Counted("steps", steps));
+            slices::run_watched(tables, policy, most, position, first, |done| {
+                bar.show(done);
+                ControlFlow::Continue(())
+            })
         }
     }
 }

@@ -4,6 +4,7 @@ use std::collections::HashMap;
 use std::path::Path;
 
 use crate::answers::require_sound;
+use crate::bar::{Bar, Work};
 use crate::case::Case;
 use crate::class::Class;
 use crate::classing::classes_at;
@@ -25,12 +26,13 @@ struct View<'case> {
 }
 
 /// Shows a file, an object, or both where both have the FID.
-pub fn show(directory: &Path, fid: Fid, json: bool) -> Result<Outcome, Failure> {
+pub fn show(directory: &Path, fid: Fid, json: bool, bar: &Bar) -> Result<Outcome, Failure> {
     let tables = Case::open(directory)?.tables()?;
-    require_sound(&tables)?;
+    require_sound(&tables, bar)?;
     let site = Site::new(&tables);
     let positions = positions(&site, fid);
-    let classes = classes_at(&tables, &site, &positions, |_| ());
+    bar.turn_to(Work::Counted("positions", positions.len() as u64));
+    let classes = classes_at(&tables, &site, &positions, |done| bar.show(done));
     let view = View {
         site: &site,
         classes: positions.into_iter().zip(classes).collect(),

@@ -12,6 +12,7 @@ mod oracle;
 mod refusals;
 mod resume;
 mod saves;
+mod terminal;
 mod tool;
 mod tour;
 mod two;
