@@ -83,7 +83,13 @@ impl Case {
 
     /// The bytes of a file, one more than `most` where it is longer; none where there is none.
     fn find(&self, name: &str, most: usize) -> Result<Option<Vec<u8>>, Failure> {
-        let stands = || Ok(self.disk.find(name, most)?.map(|found| found.bytes));
+        let stands = || match self.disk.find(name, most)? {
+            None => Ok(None),
+            Some(found) => {
+                save::require_ours(&self.disk, name, found.permissions)?;
+                Ok(Some(found.bytes))
+            }
+        };
         let change = self.through.iter().find(|change| change.name == name);
         match change.map(|change| &change.edit) {
             None => stands(),

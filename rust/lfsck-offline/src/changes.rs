@@ -263,7 +263,7 @@ mod tests {
                 reserve,
             };
             let before = Site::new(&tables);
-            let start = Position::all(&before).next().unwrap_or(Position::End);
+            let start = Position::start(&before);
             let most = random.pick(&[1, 7, u64::MAX]);
             let policy = random.below(4) as u64;
             slices::run(&mut tables, policy, most, start.to_numbers());

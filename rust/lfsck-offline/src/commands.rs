@@ -9,20 +9,26 @@ mod show;
 mod undo;
 
 use crate::args::{Call, Command};
+use crate::bar::{Bar, Work};
 use crate::outcome::{Failure, Outcome};
 
-/// Does what is asked.
+/// The line that says which version this is.
+const VERSION: &str = concat!("lfsck-offline ", env!("CARGO_PKG_VERSION"), "\n");
+
+/// Does what is asked. The bar is gone before anything is printed.
 pub fn execute(call: &Call) -> Result<Outcome, Failure> {
     let (directory, json) = (&call.directory, call.json);
-    match call.command {
+    let bar = Bar::start(Work::Unmeasured("reading the tables"));
+    match &call.command {
         Command::Help(topic) => Ok(Outcome::done(topic.text().to_string())),
+        Command::Version => Ok(Outcome::done(VERSION.to_string())),
         Command::Sample => sample::sample(directory, json),
-        Command::Check => check::check(directory, json),
-        Command::Classes(only) => classes::classes(directory, only, json),
-        Command::Run(options) => run::run(directory, options, json),
-        Command::Show(fid) => show::show(directory, fid, json),
+        Command::Check => check::check(directory, json, &bar),
+        Command::Classes(options) => classes::classes(directory, options, json, &bar),
+        Command::Run(options) => run::run(directory, *options, json, &bar),
+        Command::Show(fid) => show::show(directory, *fid, json, &bar),
         Command::Log(None) => log::log(directory, json),
-        Command::Log(Some(fid)) => log::story(directory, fid, json),
+        Command::Log(Some(fid)) => log::story(directory, *fid, json),
         Command::Undo => undo::undo(directory, json),
     }
 }

@@ -147,6 +147,14 @@ impl Finding {
 }
 
 impl Finding {
+    /// Whether a run with create and adopt repairs it.
+    pub fn can_be_mended(&self) -> bool {
+        match &self.turn {
+            Some(turn) => turn.class == Class::Orphan,
+            None => self.repair.is_some(),
+        }
+    }
+
     /// What the repair would do, or why there is none, and what a run does before it comes here.
     pub fn repair_words(&self) -> String {
         let words = match (&self.repair, &self.denial) {

@@ -202,7 +202,7 @@ mod tests {
         let site = Site::new(tables);
         let before = Position::all(&site).take_while(|other| *other != position);
         let steps = before.count() as u64;
-        let start = Position::all(&site).next()?;
+        let start = Position::start(&site);
         let mut tables = tables.clone();
         let run = slices::run(&mut tables, policy, steps, start.to_numbers());
         if run.answer > 1 {

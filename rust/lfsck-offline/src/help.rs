@@ -68,12 +68,15 @@ case: the directory with parents.tbl, objects.tbl and reserve.tbl.
   log DIR [FID]  tell what the runs changed, and when; of FID, also why
   undo DIR       take the last run back
 
+  help COMMAND   tell how a command is used
+  --version      tell which version this is
+
 Options of every command:
-  --json         print JSON for machines
+  --json         print JSON for machines, failures too
   --help         help for the command
 
 Exit status: 0 done, 1 steps left, 2 input refused, 3 something ran out,
-64 wrong usage, 74 trouble with files.
+4 something to mend (classes --exit-code), 64 wrong usage, 74 trouble with files.
 ";
 
 const SAMPLE: &str = "\
@@ -99,7 +102,9 @@ Exit status: 0 sound, 2 not sound.
 ";
 
 const CLASSES: &str = "\
-Usage: lfsck-offline classes DIR [--only CLASS] [--json]
+Usage: lfsck-offline classes DIR [--only CLASS] [--file FID] [--object FID]
+                         [--ost N] [--owner UID[:GID]] [--summary]
+                         [--exit-code] [--json]
 
 Lists every finding: file, slot, object, class, and what its repair would do and
 under which policy. Where a run does something to the claimed slot of an object
@@ -109,11 +114,23 @@ Ends with the number of positions of each class.
   --only CLASS   list the positions of this class alone, of any class:
                  CLEAN SELF HOLE MULTIPLE DANGLING BLANK UNMATCHED OWNER
                  SPARE EMPTY ORPHAN CONFLICT KEPT UNUSED
+  --file FID     the header and slots of this file, and the objects that claim it
+  --object FID   this object, and the slots that name it
+  --ost N        objects on this OST, and slots that say so of theirs
+  --owner UID[:GID]
+                 files of this owner with their slots, and objects of this owner
+  --summary      print the number of positions of each class alone
+  --exit-code    exit with 4 where a run with --create --adopt would repair
+                 something of what is listed
+
+--only, --file, --object, --ost and --owner may be given several times: any of a
+kind may match, and one of each kind must. The numbers of positions are those of
+the files, objects, OSTs and owners that are asked for.
 ";
 
 const RUN: &str = "\
 Usage: lfsck-offline run DIR [--create] [--adopt] [--steps N] [--from-start]
-                         [--dry-run] [--json]
+                         [--dry-run] [--summary] [--json]
 
 Repairs step by step and saves tables and position together. Goes on from the
 saved position if policy, reserve and tables are those that it was saved with,
@@ -127,6 +144,7 @@ repaired under every policy.
   --steps N      make at most N steps
   --from-start   leave the saved position aside
   --dry-run, -n  make the run on a copy: print what it would, write nothing
+  --summary      leave out the list of changes
 
 Exit status: 0 the end is reached, 1 steps are left, 2 input refused, 3 the
 reserve or the unused rows of a table ran out.

@@ -10,6 +10,7 @@ mod case;
 mod change;
 mod changes;
 mod class;
+mod classing;
 mod clock;
 mod columns;
 mod commands;
@@ -17,6 +18,7 @@ mod digest;
 mod disk;
 mod faults;
 mod fid;
+mod filter;
 mod finding;
 mod foretell;
 mod help;
@@ -28,6 +30,7 @@ mod json;
 mod lock;
 mod moments;
 mod outcome;
+mod pace;
 mod permissions;
 mod plain;
 mod position;
@@ -43,22 +46,31 @@ mod values;
 mod verdict;
 mod why;
 
+use std::ffi::OsString;
 use std::io::{self, Write};
 use std::process::ExitCode;
 
 use outcome::{Failure, Outcome, Status};
 
 fn main() -> ExitCode {
-    let outcome =
-        args::Call::parse(std::env::args_os().skip(1)).and_then(|call| commands::execute(&call));
-    let status = match outcome.and_then(print) {
-        Ok(status) => status,
-        Err(failure) => {
-            tell(&failure.message);
-            failure.status
-        }
+    let words: Vec<OsString> = std::env::args_os().skip(1).collect();
+    let json = args::Call::wants_json(words.iter().cloned());
+    let outcome = args::Call::parse(words).and_then(|call| commands::execute(&call));
+    let status = match outcome {
+        Ok(outcome) => print(&outcome),
+        Err(failure) => fail(&failure, json),
     };
     ExitCode::from(status as u8)
+}
+
+/// Says why a command ended early; to machines on standard output too.
+fn fail(failure: &Failure, json: bool) -> Status {
+    tell(&failure.message);
+    if json {
+        // Where it cannot be written, the line above has said it.
+        let _ = write_out(&failure.json().line());
+    }
+    failure.status
 }
 
 /// A line on standard error.
@@ -67,17 +79,21 @@ fn tell(message: &str) {
     let _ = writeln!(io::stderr(), "lfsck-offline: {message}");
 }
 
-/// Prints what a command has to say. A reader that has heard enough is no trouble.
-fn print(outcome: Outcome) -> Result<Status, Failure> {
-    outcome.note.into_iter().for_each(tell);
+fn write_out(text: &str) -> io::Result<()> {
     let mut out = io::stdout().lock();
-    let printed = out
-        .write_all(outcome.text.as_bytes())
-        .and_then(|()| out.flush());
-    match printed {
+    out.write_all(text.as_bytes()).and_then(|()| out.flush())
+}
+
+/// Prints what a command has to say. A reader that has heard enough is no trouble.
+fn print(outcome: &Outcome) -> Status {
+    outcome.note.into_iter().for_each(tell);
+    match write_out(&outcome.text) {
         Err(error) if error.kind() != io::ErrorKind::BrokenPipe => {
-            Err(Failure::files(format!("standard output: {error}")))
+            let lasting = outcome.lasting.map(|done| format!("; {done}"));
+            let lasting = lasting.unwrap_or_default();
+            tell(&format!("standard output: {error}{lasting}"));
+            Status::Files
         }
-        _ => Ok(outcome.status),
+        _ => outcome.status,
     }
 }

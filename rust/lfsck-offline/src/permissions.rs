@@ -10,6 +10,8 @@ const ALL_BITS: u32 = 0o777;
 const DATA_BITS: u32 = 0o666;
 /// The owner's, who can give them to himself anyway.
 const OWNER_BITS: u32 = 0o600;
+/// The user who may do everything.
+const ROOT: u32 = 0;
 /// The bits of one of the three.
 const CLASS_BITS: u32 = 0o7;
 
@@ -40,6 +42,13 @@ impl Permissions {
             gid: metadata.gid(),
             mode: metadata.mode() & ALL_BITS,
         }
+    }
+
+    /// Whether the word of a file's owner is taken: he is this user, the system's, or the owner
+    /// of one of these.
+    pub fn is_trusted(self, beside: &[Permissions]) -> bool {
+        let own = own_uid() == Some(self.uid);
+        own || self.uid == ROOT || beside.iter().any(|other| other.uid == self.uid)
     }
 
     /// Gives a file that this process has made to the owner and the group. A process that may

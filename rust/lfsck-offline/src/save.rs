@@ -53,10 +53,29 @@ pub fn pending(disk: &Disk) -> Result<Option<Vec<Change>>, Failure> {
     let Some(journal) = disk.find(JOURNAL, MOST_BYTES)? else {
         return Ok(None);
     };
+    require_ours(disk, JOURNAL, journal.permissions)?;
     match journal::decode(&journal.bytes) {
         Some(changes) => Ok(Some(changes)),
         None => Err(spoilt(disk, JOURNAL, "this is no whole journal")),
     }
+}
+
+/// The word of a file of the tool's own is taken from this user, from root and from an owner of
+/// the tables: where everybody may make files, others must not say what stands in the tables.
+pub fn require_ours(disk: &Disk, name: &str, permissions: Permissions) -> Result<(), Failure> {
+    let tables: Result<Vec<_>, _> = Table::ALL
+        .iter()
+        .map(|table| disk.permissions(table.file()))
+        .collect();
+    let tables: Vec<Permissions> = tables?.into_iter().flatten().collect();
+    if is_table(name) || permissions.is_trusted(&tables) {
+        return Ok(());
+    }
+    let path = disk.path(name);
+    Err(Failure::files(format!(
+        "{}: this belongs to another user, who owns none of the tables",
+        path.display()
+    )))
 }
 
 /// Clears away what a save that was cut off before its journal was in place has left.
@@ -71,7 +90,9 @@ pub fn clear(disk: &Disk) -> Result<(), Failure> {
 /// a directory that cannot be written, a disk without room.
 pub fn prepare(disk: &Disk, bytes: usize) -> Result<(), Failure> {
     for name in SAVED {
-        disk.permissions(name)?;
+        if let Some(permissions) = disk.permissions(name)? {
+            require_ours(disk, name, permissions)?;
+        }
     }
     clear(disk)?;
     disk.reserve(&unfinished(JOURNAL), bytes)

@@ -8,7 +8,7 @@ use crate::rows::{Claim, File, Object, Stripe};
 use crate::tables::{Table, Tables};
 
 /// A slot of a parent row.
-#[derive(Clone, Copy, Debug, PartialEq, Eq)]
+#[derive(Clone, Copy, Debug, PartialEq, Eq, Hash)]
 pub struct Place {
     /// The parent row.
     pub row: usize,
@@ -23,6 +23,17 @@ pub struct Named {
     pub file: MdtFid,
     /// The slot of its layout.
     pub slot: usize,
+}
+
+/// How many slots name objects.
+#[derive(Clone, Copy, Debug, PartialEq, Eq)]
+pub struct NamedCounts {
+    /// The slots that name one.
+    pub slots: usize,
+    /// The objects that are named and absent.
+    pub absent: usize,
+    /// The slots that name an object which another slot keeps.
+    pub surplus: usize,
 }
 
 /// The files and objects of a case; unused rows are `None`.
@@ -105,6 +116,17 @@ impl Site {
     /// The slots that name an object, in scan order.
     pub fn named_by(&self, fid: OstFid) -> &[Place] {
         self.named_by.get(&fid).map_or(&[], Vec::as_slice)
+    }
+
+    /// How many slots name objects, and how many of these are to be made or redirected.
+    pub fn named(&self) -> NamedCounts {
+        let slots = self.named_by.values().map(Vec::len).sum();
+        let is_absent = |fid: &&OstFid| !self.object_rows.contains_key(fid);
+        NamedCounts {
+            slots,
+            absent: self.named_by.keys().filter(is_absent).count(),
+            surplus: slots - self.named_by.len(),
+        }
     }
 
     /// Of the objects with a claim that no slot names and that may hold data, the first.

@@ -2,7 +2,8 @@
 
 use std::path::Path;
 
-use crate::answers::{fault_line, meaning};
+use crate::answers::{CHECKING, fault_line, meaning};
+use crate::bar::Bar;
 use crate::case::Case;
 use crate::faults::{Fault, faults};
 use crate::json::Json;
@@ -11,10 +12,11 @@ use crate::outcome::{Failure, Outcome, Status};
 use crate::tables::{Table, Tables};
 
 /// Checks a case.
-pub fn check(directory: &Path, json: bool) -> Result<Outcome, Failure> {
+pub fn check(directory: &Path, json: bool, bar: &Bar) -> Result<Outcome, Failure> {
     let case = Case::open(directory)?;
     let tables = case.tables()?;
     let warning = warning(&case, &tables);
+    bar.turn_to(CHECKING);
     let number = tables.check();
     let list = faults(&tables);
     let text = if json {

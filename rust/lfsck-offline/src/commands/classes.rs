@@ -3,52 +3,65 @@
 use std::path::Path;
 
 use crate::answers::require_sound;
+use crate::args::ClassesOptions;
+use crate::bar::{Bar, Work};
 use crate::case::Case;
 use crate::class::{Class, MEANINGS, NAMES};
+use crate::classing::classes_at;
 use crate::columns::{self, Line};
+use crate::filter::Filter;
 use crate::finding::Finding;
 use crate::foretell::Turn;
 use crate::json::Json;
-use crate::outcome::{Failure, Outcome};
+use crate::outcome::{Failure, Outcome, Status};
 use crate::position::Position;
 use crate::site::Site;
-use crate::verdict::Verdicts;
 
 /// The number of positions of each class.
 type Counts = [u64; NAMES.len()];
 
-/// Lists the findings of a case, or the positions of one class.
-pub fn classes(directory: &Path, only: Option<usize>, json: bool) -> Result<Outcome, Failure> {
+/// Lists the findings of a case.
+pub fn classes(
+    directory: &Path,
+    options: &ClassesOptions,
+    json: bool,
+    bar: &Bar,
+) -> Result<Outcome, Failure> {
     let tables = Case::open(directory)?.tables()?;
-    require_sound(&tables)?;
+    require_sound(&tables, bar)?;
     let site = Site::new(&tables);
-    let verdicts = Verdicts::new(&tables, &site);
+    let filter = &options.filter;
+    let admitted = Position::all(&site).filter(|position| filter.admits(&site, *position));
+    let positions: Vec<Position> = admitted.collect();
     let mut counts = Counts::default();
     let mut findings = Vec::new();
-    for position in Position::all(&site) {
-        let class = verdicts.at(position);
+    bar.turn_to(Work::Counted("positions", positions.len() as u64));
+    let classes = classes_at(&tables, &site, &positions, |done| bar.show(done));
+    for (position, class) in positions.into_iter().zip(classes) {
         counts[class.number()] += 1;
-        let wanted = only.map_or(class.is_finding(), |only| class.number() == only);
-        if wanted {
+        if filter.lists(class) {
             findings.push(Finding::new(&site, position, class));
         }
     }
-    let text = if json {
-        machine(&findings, &counts)
-    } else {
-        people(&findings, &counts, only)
+    let text = match (json, options.summary) {
+        (true, summary) => machine((!summary).then_some(&findings), &counts),
+        (false, true) => summary(&counts),
+        (false, false) => people(&findings, &counts, filter),
     };
-    Ok(Outcome::done(text))
+    let to_mend = options.exit_code && findings.iter().any(Finding::can_be_mended);
+    let status = if to_mend {
+        Status::ToMend
+    } else {
+        Status::Done
+    };
+    Ok(Outcome::ended(text, status))
 }
 
-fn people(findings: &[Finding], counts: &Counts, only: Option<usize>) -> String {
+fn people(findings: &[Finding], counts: &Counts, filter: &Filter) -> String {
     let is_object = |finding: &&Finding| matches!(finding.position, Position::Object(_));
     let mut text = String::new();
     if findings.is_empty() {
-        text += &match only {
-            Some(class) => format!("Nothing is {}.\n", NAMES[class]),
-            None => "Nothing to report: every file and object is as it should be.\n".to_string(),
-        };
+        text += &nothing(filter);
     }
     let (objects, files): (Vec<_>, Vec<_>) = findings.iter().partition(is_object);
     text += &section("Files:", &files);
@@ -57,6 +70,18 @@ fn people(findings: &[Finding], counts: &Counts, only: Option<usize>) -> String 
         &objects,
     );
     text + &summary(counts)
+}
+
+/// What is said where nothing is listed.
+fn nothing(filter: &Filter) -> String {
+    let names: Vec<&str> = filter.classes.iter().map(|class| NAMES[*class]).collect();
+    match (names.is_empty(), filter.is_of_places()) {
+        (true, false) => {
+            "Nothing to report: every file and object is as it should be.\n".to_string()
+        }
+        (true, true) => "Nothing to report of what was asked for.\n".to_string(),
+        (false, _) => format!("Nothing is {}.\n", names.join(" or ")),
+    }
 }
 
 /// Findings under a title, if there are any.
@@ -83,13 +108,11 @@ fn summary(counts: &Counts) -> String {
     text
 }
 
-fn machine(findings: &[Finding], counts: &Counts) -> String {
+fn machine(findings: Option<&Vec<Finding>>, counts: &Counts) -> String {
     let counts = NAMES.iter().zip(counts);
+    let list = |list: &Vec<Finding>| Json::List(list.iter().map(finding_json).collect());
     Json::Object(vec![
-        (
-            "findings",
-            Json::List(findings.iter().map(finding_json).collect()),
-        ),
+        ("findings", findings.map_or(Json::Null, list)),
         (
             "summary",
             Json::Object(

@@ -1,16 +1,20 @@
 //! `run`: repairs, going on from the saved position.
 
+use std::ops::ControlFlow;
 use std::path::Path;
+
+use stop::Signal;
 
 use crate::answers::{meaning, refusal};
 use crate::args::RunOptions;
-use crate::bar::Bar;
+use crate::bar::{Bar, Work};
 use crate::case::Case;
 use crate::change::Change;
 use crate::changes::changes;
 use crate::columns::{self, Line};
 use crate::json::Json;
 use crate::outcome::{Failure, Outcome, Status};
+use crate::pace::{self, Plan};
 use crate::position::Position;
 use crate::saved::{Saved, policy_words};
 use crate::site::Site;
@@ -19,6 +23,9 @@ use crate::tables::Tables;
 
 /// The number for a position that the tables do not have.
 const NO_POSITION: u32 = 16;
+
+/// What is true of a run even where its report is lost.
+const SAVED: &str = "the run was saved";
 
 /// What a dry run says beside what the run would.
 const DRY_RUN: &str = "a dry run: nothing is written";
@@ -38,11 +45,19 @@ struct Report {
     position: Position,
     place: String,
     left: u64,
-    changes: Vec<Change>,
+    /// The signal that ended the run before its last step.
+    stopped: Option<Signal>,
+    /// None where they are not asked for.
+    changes: Option<Vec<Change>>,
 }
 
 /// Runs on a case.
-pub fn run(directory: &Path, options: RunOptions, json: bool) -> Result<Outcome, Failure> {
+pub fn run(
+    directory: &Path,
+    options: RunOptions,
+    json: bool,
+    bar: &Bar,
+) -> Result<Outcome, Failure> {
     let case = if options.dry_run {
         Case::open(directory)?
     } else {
@@ -54,20 +69,23 @@ pub fn run(directory: &Path, options: RunOptions, json: bool) -> Result<Outcome,
     } else {
         case.position()?
     };
-    let beginning = beginning(&old, saved, options)?;
     let before = Site::new(&old);
+    let beginning = beginning(&old, &before, saved, options);
     if !options.dry_run && steps_ahead(&before, beginning.position, options) > 0 {
+        stop::listen();
         case.prepare(&old)?;
     }
     let mut tables = old.clone();
-    let run = run_from(&mut tables, &before, beginning.position, options);
+    let run = run_from(&mut tables, &before, beginning.position, options, bar);
+    bar.turn_to(Work::Unmeasured("saving"));
     if (11..=17).contains(&run.answer) {
         return Err(match run.answer {
             NO_POSITION => no_such_position(beginning.position),
             number => refusal(number, &old),
         });
     }
-    if run.steps > 0 && !options.dry_run {
+    let saves = run.steps > 0 && !options.dry_run;
+    if saves {
         let saved = Saved::new(run.position, options.policy, &tables);
         case.save_run(&old, &tables, &saved, beginning.position, run)?;
     }
@@ -80,7 +98,8 @@ pub fn run(directory: &Path, options: RunOptions, json: bool) -> Result<Outcome,
         position,
         place: position.words(&after),
         left: position.steps_left(&after),
-        changes: changes(&before, &after),
+        stopped: stop::asked().filter(|_| run.answer == 1 && options.steps != Some(run.steps)),
+        changes: (!options.summary).then(|| changes(&before, &after)),
     };
     let text = if json {
         report.machine()
@@ -89,17 +108,19 @@ pub fn run(directory: &Path, options: RunOptions, json: bool) -> Result<Outcome,
     };
     Ok(Outcome {
         note: options.dry_run.then_some(DRY_RUN),
+        lasting: saves.then_some(SAVED),
         ..Outcome::ended(text, status(run.answer))
     })
 }
 
 /// The tables are those of the saved position, and still it is none of theirs.
 fn no_such_position([stage, row, part]: [u64; 3]) -> Failure {
-    Failure::refused(format!(
+    let message = format!(
         "the saved position {stage}, {row}, {part} is refused with {NO_POSITION}: {}; \
          --from-start begins without it",
         meaning(NO_POSITION)
-    ))
+    );
+    Failure::answered(NO_POSITION, message)
 }
 
 fn status(answer: u32) -> Status {
@@ -111,33 +132,25 @@ fn status(answer: u32) -> Status {
 }
 
 /// The saved position where it counts, else the start.
-fn beginning(
-    tables: &Tables,
-    saved: Option<Saved>,
-    options: RunOptions,
-) -> Result<Beginning, Failure> {
+fn beginning(tables: &Tables, site: &Site, saved: Option<Saved>, options: RunOptions) -> Beginning {
     let why = match saved {
         Some(saved) => match saved.differs(options.policy, tables) {
             None => {
-                return Ok(Beginning {
+                return Beginning {
                     position: saved.position,
                     words: "goes on from the saved position".to_string(),
                     resumed: true,
-                });
+                };
             }
             Some(why) => format!("at the start; the saved position does not count: {why}"),
         },
         None if options.from_start => "at the start, as asked".to_string(),
         None => "at the start; there is no saved position".to_string(),
     };
-    let mut position = [0; 3];
-    match lfsck_sys::start(&tables.parents, &tables.objects, &mut position) {
-        0 => Ok(Beginning {
-            position,
-            words: format!("begins {why}"),
-            resumed: false,
-        }),
-        number => Err(refusal(number, tables)),
+    Beginning {
+        position: Position::start(site).to_numbers(),
+        words: format!("begins {why}"),
+        resumed: false,
     }
 }
 
@@ -147,18 +160,31 @@ fn steps_ahead(site: &Site, position: [u64; 3], options: RunOptions) -> u64 {
     left.min(options.steps.unwrap_or(u64::MAX))
 }
 
-/// Runs, with a bar for somebody at a terminal.
-fn run_from(tables: &mut Tables, site: &Site, position: [u64; 3], options: RunOptions) -> Run {
+/// Runs, in one call or in slices.
+fn run_from(
+    tables: &mut Tables,
+    site: &Site,
+    position: [u64; 3],
+    options: RunOptions,
+    bar: &Bar,
+) -> Run {
     let most = options.steps.unwrap_or(u64::MAX);
+    let policy = options.policy;
     let steps = steps_ahead(site, position, options);
-    match Bar::on_terminal(steps) {
-        None => slices::run(tables, options.policy, most, position),
-        Some(mut bar) => {
-            let first = (steps / 50).max(200);
-            let show = |done| bar.show(done);
-            let run = slices::run_watched(tables, options.policy, most, position, first, show);
-            bar.clear();
-            run
+    match pace::plan(site, tables, policy, steps) {
+        Plan::Whole => {
+            bar.turn_to(Work::Unmeasured("running"));
+            slices::run(tables, policy, most, position)
+        }
+        Plan::Slices(first) => {
+            bar.turn_to(Work::Counted("steps", steps));
+            slices::run_watched(tables, policy, most, position, first, |done| {
+                bar.show(done);
+                match stop::asked() {
+                    Some(_) => ControlFlow::Break(()),
+                    None => ControlFlow::Continue(()),
+                }
+            })
         }
     }
 }
@@ -177,22 +203,34 @@ impl Report {
     }
 
     fn changes_for_people(&self) -> String {
-        if self.changes.is_empty() {
+        let Some(changes) = &self.changes else {
+            return String::new();
+        };
+        if changes.is_empty() {
             return "Nothing was changed.\n".to_string();
         }
         let line = |change: &Change| {
             let what = change.what.words();
             Line::new(change.file, change.slot, change.object, what)
         };
-        let lines: Vec<Line> = self.changes.iter().map(line).collect();
+        let lines: Vec<Line> = changes.iter().map(line).collect();
         format!("Changed:\n{}", columns::text(&lines))
+    }
+
+    fn changes_for_machines(&self) -> Json {
+        let list = |changes: &Vec<Change>| Json::List(changes.iter().map(Change::json).collect());
+        self.changes.as_ref().map_or(Json::Null, list)
     }
 
     fn answer_for_people(&self) -> String {
         match self.run.answer {
             0 => "Answer 0: the end is reached.\n".to_string(),
             1 => format!(
-                "Answer 1: the steps are used up; the next step is at {}.\n",
+                "Answer 1: {}; the next step is at {}.\n",
+                match self.stopped {
+                    Some(signal) => format!("{} came and the run is stopped", signal.name()),
+                    None => "the steps are used up".to_string(),
+                },
                 self.place
             ),
             number => format!(
@@ -217,11 +255,9 @@ impl Report {
             ("place", Json::text(&self.place)),
             ("steps_done", Json::Number(self.run.steps)),
             ("steps_left", Json::Number(self.left)),
+            ("stopped", Json::maybe(self.stopped.map(Signal::name))),
             ("repairs", self.run.repairs_json()),
-            (
-                "changes",
-                Json::List(self.changes.iter().map(Change::json).collect()),
-            ),
+            ("changes", self.changes_for_machines()),
         ])
         .line()
     }

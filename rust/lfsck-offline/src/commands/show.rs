@@ -1,10 +1,13 @@
 //! `show`: everything about one file or object.
 
+use std::collections::HashMap;
 use std::path::Path;
 
 use crate::answers::require_sound;
+use crate::bar::{Bar, Work};
 use crate::case::Case;
 use crate::class::Class;
+use crate::classing::classes_at;
 use crate::commands::classes::finding_json;
 use crate::fid::{Fid, MdtFid, OstFid};
 use crate::finding::Finding;
@@ -14,23 +17,25 @@ use crate::position::Position;
 use crate::rows::{File, Object};
 use crate::site::{Place, Site};
 use crate::values;
-use crate::verdict::Verdicts;
 use crate::why;
 
-/// A case to look things up in.
+/// What there is to say of a FID.
 struct View<'case> {
     site: &'case Site,
-    verdicts: Verdicts<'case>,
+    classes: HashMap<Position, Class>,
 }
 
 /// Shows a file, an object, or both where both have the FID.
-pub fn show(directory: &Path, fid: Fid, json: bool) -> Result<Outcome, Failure> {
+pub fn show(directory: &Path, fid: Fid, json: bool, bar: &Bar) -> Result<Outcome, Failure> {
     let tables = Case::open(directory)?.tables()?;
-    require_sound(&tables)?;
+    require_sound(&tables, bar)?;
     let site = Site::new(&tables);
+    let positions = positions(&site, fid);
+    bar.turn_to(Work::Counted("positions", positions.len() as u64));
+    let classes = classes_at(&tables, &site, &positions, |done| bar.show(done));
     let view = View {
         site: &site,
-        verdicts: Verdicts::new(&tables, &site),
+        classes: positions.into_iter().zip(classes).collect(),
     };
     let file = view.is_file_known(MdtFid(fid));
     let object = view.is_object_known(OstFid(fid));
@@ -48,6 +53,37 @@ pub fn show(directory: &Path, fid: Fid, json: bool) -> Result<Outcome, Failure> 
     Ok(Outcome::done(text))
 }
 
+/// Every position that is spoken of: those of the file, those of the objects that claim it, those
+/// of the object and of the slots that name it.
+fn positions(site: &Site, fid: Fid) -> Vec<Position> {
+    let (file, object) = (MdtFid(fid), OstFid(fid));
+    let own = site.file_row(file).map(|row| file_positions(site, row));
+    let claimants = claimants(site, file)
+        .into_iter()
+        .map(|(row, _)| Position::Object(row));
+    let row = site.object_row(object).map(Position::Object);
+    let named_by = site.named_by(object).iter().copied().map(Position::Slot);
+    let own = own.into_iter().flatten();
+    own.chain(claimants).chain(row).chain(named_by).collect()
+}
+
+/// The header and the slots of a file.
+fn file_positions(site: &Site, row: usize) -> Vec<Position> {
+    let count = site.file(row).map_or(0, |file| file.slots.len());
+    let slots = (0..count).map(|slot| Position::Slot(Place { row, slot }));
+    std::iter::once(Position::Header(row))
+        .chain(slots)
+        .collect()
+}
+
+/// The objects that claim a slot of the file, with their rows.
+fn claimants(site: &Site, fid: MdtFid) -> Vec<(usize, &Object)> {
+    let objects = site.objects.iter().enumerate();
+    let used = objects.filter_map(|(row, object)| Some((row, object.as_ref()?)));
+    used.filter(|(_, object)| object.claim.is_some_and(|claim| claim.file == fid))
+        .collect()
+}
+
 impl View<'_> {
     /// A row has the FID, or an object claims it.
     fn is_file_known(&self, fid: MdtFid) -> bool {
@@ -61,20 +97,16 @@ impl View<'_> {
 
     /// The objects that claim a slot of the file, with their rows.
     fn claimants(&self, fid: MdtFid) -> Vec<(usize, &Object)> {
-        let objects = self.site.objects.iter().enumerate();
-        let used = objects.filter_map(|(row, object)| Some((row, object.as_ref()?)));
-        used.filter(|(_, object)| object.claim.is_some_and(|claim| claim.file == fid))
-            .collect()
+        claimants(self.site, fid)
     }
 
     fn finding(&self, position: Position) -> Finding {
-        Finding::new(self.site, position, self.verdicts.at(position))
+        Finding::new(self.site, position, self.classes[&position])
     }
 
     /// The findings of a file's header and slots.
-    fn file_findings(&self, row: usize, file: &File) -> Vec<Finding> {
-        let slots = (0..file.slots.len()).map(|slot| Position::Slot(Place { row, slot }));
-        let all = std::iter::once(Position::Header(row)).chain(slots);
+    fn file_findings(&self, row: usize) -> Vec<Finding> {
+        let all = file_positions(self.site, row).into_iter();
         all.map(|position| self.finding(position)).collect()
     }
 
@@ -120,7 +152,7 @@ impl View<'_> {
             header.generation,
             file.slots.len()
         );
-        for finding in self.file_findings(row, file) {
+        for finding in self.file_findings(row) {
             text += &match finding.slot {
                 None => format!("  header: {}, own {}\n", finding.class.name(), header.own),
                 Some(slot) => self.slot_line(file, slot, &finding),
@@ -166,7 +198,7 @@ impl View<'_> {
             let Some(name) = self.site.name(*place) else {
                 continue;
             };
-            let class = self.verdicts.at(Position::Slot(*place));
+            let class = self.classes[&Position::Slot(*place)];
             text += &format!("  named by {name}: {}\n", class.name());
         }
         let keeper = why::keeper(self.site, fid);
@@ -236,7 +268,7 @@ impl View<'_> {
         let Some(file) = self.site.file(row) else {
             return Json::Null;
         };
-        let findings = self.file_findings(row, file);
+        let findings = self.file_findings(row);
         let mut members = vec![("row", Json::Number(row as u64))];
         members.extend(values::file(file));
         members.push((

@@ -1,11 +1,11 @@
 //! The log of a case, and runs that are taken back.
 
 use std::fs;
-use std::os::unix::fs::{MetadataExt, PermissionsExt, chown};
+use std::os::unix::fs::{MetadataExt, PermissionsExt};
 
 use crate::json::{self, Value};
 use crate::oracle;
-use crate::tool::{Case, Files, JOURNAL, LOG, NOBODY, POSITION, Told, sha256, skipped, timeless};
+use crate::tool::{Case, Files, JOURNAL, LOG, POSITION, Told, sha256, timeless};
 
 const TABLES: [(&str, usize); 3] = [
     ("parents.tbl", 3915),
@@ -483,23 +483,6 @@ fn the_log_lets_in_no_more_people_than_the_strictest_table() {
     assert_eq!(fs::read(&other).unwrap(), before);
     assert!(fs::read(&log).unwrap().starts_with(&before));
     assert_eq!(entries(&case).len(), 3);
-}
-
-#[test]
-fn a_log_that_another_user_made_is_replaced() {
-    let case = Case::sample("log-owner");
-    let log = case.path().join(LOG);
-    fs::write(&log, b"").unwrap();
-    fs::set_permissions(&log, fs::Permissions::from_mode(0o600)).unwrap();
-    if chown(&log, Some(NOBODY), Some(NOBODY)).is_err() {
-        let why = "files cannot be given to another user";
-        return skipped("a_log_that_another_user_made_is_replaced", why);
-    }
-    let reader = fs::File::open(&log).unwrap();
-    case.run(&RUN).expect(0);
-    assert_eq!(reader.metadata().unwrap().len(), 0);
-    assert_ne!(fs::metadata(&log).unwrap().uid(), NOBODY);
-    assert_eq!(entries(&case).len(), 1);
 }
 
 /// The saved position and the last entry of the log are of the tables that stand there.

@@ -1,5 +1,7 @@
 //! The tool, tested by running it.
 
+mod asking;
+mod beforehand;
 mod bytes;
 mod changes;
 mod commands;
@@ -12,7 +14,9 @@ mod oracle;
 mod refusals;
 mod resume;
 mod saves;
+mod signals;
 mod surroundings;
+mod terminal;
 mod tool;
 mod tour;
 mod two;

@@ -189,6 +189,40 @@ fn a_link_in_the_place_of_a_file_of_the_tool_is_refused() {
     }
 }
 
+/// Where everybody may make files but not change others', as in /tmp, nobody else says what stands
+/// in the tables.
+#[test]
+fn a_file_of_the_tool_that_another_user_made_is_not_believed() {
+    let case = Case::sample("planted-word");
+    with_journal(&case);
+    let journal = case.read(JOURNAL);
+    case.run(&RUN).expect(0);
+    let (log, position) = (case.read(LOG), case.read(POSITION));
+    for (name, bytes, words) in [
+        (JOURNAL, journal, &["check"][..]),
+        (LOG, log, &["undo"]),
+        (LOG, Vec::new(), &["run"]),
+        (POSITION, position, &["run"]),
+    ] {
+        let case = Case::sample("planted-word-here");
+        case.write(name, &bytes);
+        let place = case.path().join(name);
+        if chown(&place, Some(NOBODY), Some(NOBODY)).is_err() {
+            let why = "files cannot be given to another user";
+            let test = "a_file_of_the_tool_that_another_user_made_is_not_believed";
+            return skipped(test, why);
+        }
+        let before = case.files();
+        case.run(words)
+            .expect_line(74, "this belongs to another user");
+        assert!(case.files() == before, "{name}");
+        // The owner of a table is believed.
+        chown(case.path().join("objects.tbl"), Some(NOBODY), Some(NOBODY)).unwrap();
+        let told = case.run(&["check"]).expect(0);
+        assert_eq!(told.err.contains("completed"), name == JOURNAL, "{told:?}");
+    }
+}
+
 /// Opening a pipe would wait for somebody at its other end.
 #[test]
 fn a_pipe_in_the_place_of_a_file_is_refused_at_once() {
