@@ -97,7 +97,12 @@ impl Call {
             return Err(Failure::usage("a command is missing"));
         };
         if name == "--version" || name == "-V" {
-            return Ok(Call::without_case(Command::Version));
+            let words = Words::sort(words, Topic::All)?;
+            words.expect_places(0)?;
+            return Ok(Call {
+                json: words.json,
+                ..Call::without_case(Command::Version)
+            });
         }
         let topic = topic_of(&name)?;
         let words = Words::sort(words, topic)?;
@@ -423,6 +428,8 @@ mod tests {
             "check d --summary",
             "run d --exit-code",
             "help mend",
+            "--version d",
+            "--version --create",
             "help run show",
             "show d",
             "show d 1",

@@ -40,22 +40,27 @@ pub enum Work {
 }
 
 impl Bar {
-    /// A bar for work that begins now.
+    /// A bar for work that begins now; none where no thread is to be had.
     pub fn start(work: Work) -> Bar {
-        let drawer = io::stderr().is_terminal().then(|| {
-            let shared = Arc::new(Shared {
-                state: Mutex::new(State {
-                    work,
-                    done: 0,
-                    over: false,
-                }),
-                woken: Condvar::new(),
-            });
-            let drawn = Arc::clone(&shared);
-            let thread = thread::spawn(move || drawn.draw(Instant::now()));
-            (shared, thread)
+        let terminal = io::stderr().is_terminal();
+        Bar {
+            drawer: terminal.then(|| Bar::drawer(work)).flatten(),
+        }
+    }
+
+    fn drawer(work: Work) -> Option<(Arc<Shared>, JoinHandle<()>)> {
+        let shared = Arc::new(Shared {
+            state: Mutex::new(State {
+                work,
+                done: 0,
+                over: false,
+            }),
+            woken: Condvar::new(),
         });
-        Bar { drawer }
+        let drawn = Arc::clone(&shared);
+        let draw = move || drawn.draw(Instant::now());
+        let thread = thread::Builder::new().spawn(draw).ok()?;
+        Some((shared, thread))
     }
 
     /// Other work begins.

@@ -10,10 +10,11 @@ mod undo;
 
 use crate::args::{Call, Command};
 use crate::bar::{Bar, Work};
+use crate::json::Json;
 use crate::outcome::{Failure, Outcome};
 
-/// The line that says which version this is.
-const VERSION: &str = concat!("lfsck-offline ", env!("CARGO_PKG_VERSION"), "\n");
+/// Which version this is.
+const VERSION: &str = env!("CARGO_PKG_VERSION");
 
 /// Does what is asked. The bar is gone before anything is printed.
 pub fn execute(call: &Call) -> Result<Outcome, Failure> {
@@ -21,7 +22,7 @@ pub fn execute(call: &Call) -> Result<Outcome, Failure> {
     let bar = Bar::start(Work::Unmeasured("reading the tables"));
     match &call.command {
         Command::Help(topic) => Ok(Outcome::done(topic.text().to_string())),
-        Command::Version => Ok(Outcome::done(VERSION.to_string())),
+        Command::Version => Ok(Outcome::done(version(json))),
         Command::Sample => sample::sample(directory, json),
         Command::Check => check::check(directory, json, &bar),
         Command::Classes(options) => classes::classes(directory, options, json, &bar),
@@ -30,5 +31,12 @@ pub fn execute(call: &Call) -> Result<Outcome, Failure> {
         Command::Log(None) => log::log(directory, json),
         Command::Log(Some(fid)) => log::story(directory, *fid, json),
         Command::Undo => undo::undo(directory, json),
+    }
+}
+
+fn version(json: bool) -> String {
+    match json {
+        true => Json::Object(vec![("version", Json::text(VERSION))]).line(),
+        false => format!("lfsck-offline {VERSION}\n"),
     }
 }

@@ -65,11 +65,11 @@ fn main() -> ExitCode {
 
 /// Says why a command ended early; to machines on standard output too.
 fn fail(failure: &Failure, json: bool) -> Status {
-    tell(&failure.message);
     if json {
-        // Where it cannot be written, the line above has said it.
+        // Where it cannot be written, the line below says it.
         let _ = write_out(&failure.json().line());
     }
+    tell(&failure.message);
     failure.status
 }
 
@@ -86,8 +86,9 @@ fn write_out(text: &str) -> io::Result<()> {
 
 /// Prints what a command has to say. A reader that has heard enough is no trouble.
 fn print(outcome: &Outcome) -> Status {
+    let printed = write_out(&outcome.text);
     outcome.note.into_iter().for_each(tell);
-    match write_out(&outcome.text) {
+    match printed {
         Err(error) if error.kind() != io::ErrorKind::BrokenPipe => {
             let lasting = outcome.lasting.map(|done| format!("; {done}"));
             let lasting = lasting.unwrap_or_default();

@@ -54,13 +54,13 @@ impl Estimate {
         let found = (count(named.slots) - absent - surplus) * objects / 2.0;
         let lost = (absent + surplus) * (objects + slots / 2.0);
         let claims = (count(named.slots) + objects) * files / 2.0;
+        // An object that no slot names is looked for in all of them.
+        let unnamed = (objects - (count(named.objects) - absent)) * slots;
         // Each new FID is looked for after those that were taken before it.
         let taken = surplus * surplus / 2.0 * objects / 4.0 + surplus * (objects + slots);
         let redirects = if policy & 1 == 1 { taken } else { 0.0 };
-        Estimate {
-            check,
-            work: found + lost + claims + redirects + slots + objects,
-        }
+        let work = found + lost + claims + unnamed + redirects + slots + objects;
+        Estimate { check, work }
     }
 }
 
@@ -86,12 +86,14 @@ pub struct Pace {
 }
 
 impl Pace {
-    /// The pace of a run whose check takes so long, from a first slice on.
-    pub fn new(check: Duration, first: u64) -> Pace {
-        Pace {
+    /// The pace of a run whose check takes so long, after a first slice that took so long.
+    pub fn after(first: u64, took: Duration, check: Duration) -> Pace {
+        let mut pace = Pace {
             check,
             steps: first,
-        }
+        };
+        pace.took(took);
+        pace
     }
 
     /// The steps of the slice that is next.
@@ -117,8 +119,7 @@ mod tests {
     fn a_slice_is_a_second_or_twenty_checks() {
         let second = Duration::from_secs(1);
         let next = |check, steps, took| {
-            let mut pace = Pace::new(check, steps);
-            pace.took(took);
+            let pace = Pace::after(steps, took, check);
             pace.steps()
         };
         assert_eq!(next(Duration::ZERO, 1000, second), 1000);

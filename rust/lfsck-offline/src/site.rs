@@ -30,6 +30,8 @@ pub struct Named {
 pub struct NamedCounts {
     /// The slots that name one.
     pub slots: usize,
+    /// The objects that are named.
+    pub objects: usize,
     /// The objects that are named and absent.
     pub absent: usize,
     /// The slots that name an object which another slot keeps.
@@ -124,6 +126,7 @@ impl Site {
         let is_absent = |fid: &&OstFid| !self.object_rows.contains_key(fid);
         NamedCounts {
             slots,
+            objects: self.named_by.len(),
             absent: self.named_by.keys().filter(is_absent).count(),
             surplus: slots - self.named_by.len(),
         }

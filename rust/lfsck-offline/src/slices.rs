@@ -66,8 +66,16 @@ pub fn run_watched(
     mut watch: impl FnMut(u64) -> ControlFlow<()>,
 ) -> Run {
     let started = Instant::now();
-    let mut whole = run(tables, policy, 0, position);
-    let mut pace = Pace::new(started.elapsed(), first);
+    let mut whole = run(tables, policy, first.min(most), position);
+    let took = started.elapsed();
+    let over = whole.answer != 1 || whole.steps == most;
+    if over || watch(whole.steps).is_break() {
+        return whole;
+    }
+    // No steps are a check alone.
+    let started = Instant::now();
+    run(tables, policy, 0, whole.position);
+    let mut pace = Pace::after(first, took, started.elapsed());
     while whole.answer == 1 && whole.steps < most {
         let started = Instant::now();
         let steps = pace.steps().min(most - whole.steps);

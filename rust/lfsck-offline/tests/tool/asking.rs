@@ -27,6 +27,9 @@ fn the_version_is_the_package_s() {
         let told = tool(&[word]).expect(0);
         let line = concat!("lfsck-offline ", env!("CARGO_PKG_VERSION"), "\n");
         assert_eq!(told.out, line);
+        let json = parse(&tool(&[word, "--json"]).expect(0).out);
+        assert_eq!(json.text("version"), env!("CARGO_PKG_VERSION"));
+        tool(&[word, "more"]).expect_line(64, "one word too many");
     }
 }
 

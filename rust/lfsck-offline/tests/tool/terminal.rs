@@ -115,7 +115,7 @@ fn processor_seconds(text: &str) -> f64 {
 
 /// One object in a hundred is damaged.
 fn damaged() -> Case {
-    let (parents, mut objects) = clean(200, 200);
+    let (parents, mut objects) = clean(320, 320);
     for (at, row) in objects.chunks_mut(46).step_by(100).enumerate() {
         match at % 4 {
             0 => row.fill(0),
@@ -130,7 +130,8 @@ fn damaged() -> Case {
     Case::with("bar-cost", &parents, &objects, &reserve)
 }
 
-/// A run on a terminal takes at most 1.2 times the processor's time that it takes in a pipe.
+/// A run on a terminal takes at most 1.2 times the processor's time that it takes in a pipe. What
+/// else the machine does adds to a time and takes nothing away, so the least of some count.
 #[test]
 fn the_bar_costs_little() {
     let case = damaged();
@@ -142,11 +143,16 @@ fn the_bar_costs_little() {
         let told: Told = shell.output().expect("bash").into();
         processor_seconds(&told.err)
     };
-    let least = |times: [f64; 3]| times.into_iter().fold(f64::INFINITY, f64::min);
-    let pipe = least([in_pipe(), in_pipe(), in_pipe()]);
-    let terminal = least([(); 3].map(|()| processor_seconds(&on_terminal(&case, &timed).text)));
-    println!("in a pipe {pipe:.2} s, on a terminal {terminal:.2} s");
-    assert!(terminal <= 1.2 * pipe, "{pipe} {terminal}");
+    let (mut pipe, mut terminal) = (f64::INFINITY, f64::INFINITY);
+    for round in 1..=10 {
+        pipe = in_pipe().min(pipe);
+        terminal = processor_seconds(&on_terminal(&case, &timed).text).min(terminal);
+        println!("round {round}: in a pipe {pipe:.2} s, on a terminal {terminal:.2} s");
+        if round > 1 && terminal <= 1.2 * pipe {
+            return;
+        }
+    }
+    panic!("in a pipe {pipe:.2} s, on a terminal {terminal:.2} s");
 }
 
 /// Work that is long beside the check of its input is made in slices, and the bar has its share.
@@ -167,9 +173,6 @@ fn long_work_shows_how_much_is_done() {
     let total = files * (1 + SLOTS);
     let share = format!(" of {total} steps, ");
     assert!(seen.text.contains(&share) || seen.took < SECOND, "{seen:?}");
-    let printed = seen.printed();
-    let (note, printed) = printed.split_once('\n').expect("a line");
-    assert_eq!(format!("{note}\n"), told.err);
-    assert_eq!(printed, told.out);
+    assert_eq!(seen.printed(), told.out.clone() + &told.err);
     assert!(told.out.contains(&format!("Steps: {total} done, 0 left.")));
 }
