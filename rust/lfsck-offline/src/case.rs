@@ -183,7 +183,8 @@ impl Case {
             run,
             saved: self
                 .find(POSITION, saved::MOST_BYTES)?
-                .and_then(|bytes| Saved::parse(&bytes)),
+                .and_then(|bytes| Saved::parse(&bytes))
+                .map(Box::new),
         };
         let entry = (old != new).then(|| Entry::new(deed, old, new));
         self.save(old, new, Some(saved), entry)
@@ -196,7 +197,7 @@ impl Case {
         };
         let undoes = undone.when.clone();
         let entry = Entry::new(Deed::Undo { undoes }, old, new);
-        self.save(old, new, saved.as_ref(), Some(entry))
+        self.save(old, new, saved.as_deref(), Some(entry))
     }
 
     fn save(

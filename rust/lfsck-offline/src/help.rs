@@ -146,6 +146,9 @@ repaired under every policy.
   --dry-run, -n  make the run on a copy: print what it would, write nothing
   --summary      leave out the list of changes
 
+What it changes stands in the log (see log), and undo takes it back. SIGINT or
+SIGTERM ends it after the slice that it is in, and saves; a second one at once.
+
 Exit status: 0 the end is reached, 1 steps are left, 2 input refused, 3 the
 reserve or the unused rows of a table ran out.
 ";

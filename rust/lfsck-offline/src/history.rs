@@ -43,7 +43,7 @@ pub enum Deed {
         /// Its answer, where it ended and what it counted.
         run: Run,
         /// The position that was saved before.
-        saved: Option<Saved>,
+        saved: Option<Box<Saved>>,
     },
     /// An undo.
     Undo {
@@ -228,7 +228,10 @@ impl Deed {
                 ("steps", Json::Number(run.steps)),
                 ("answer", Json::Number(run.answer.into())),
                 ("repairs", run.repairs_json()),
-                ("saved", Json::maybe(saved.as_ref().map(Saved::to_text))),
+                (
+                    "saved",
+                    Json::maybe(saved.as_ref().map(|saved| saved.to_text())),
+                ),
             ],
         }
     }
@@ -251,7 +254,7 @@ impl Deed {
             },
             saved: match value.get("saved")? {
                 Value::Null => None,
-                _ => Some(Saved::parse(value.text("saved")?.as_bytes())?),
+                _ => Some(Box::new(Saved::parse(value.text("saved")?.as_bytes())?)),
             },
         })
     }

@@ -37,7 +37,7 @@ fn last_run(entry: Option<&Entry>) -> Result<(&Entry, Option<&Saved>), Failure> 
     match entry {
         None => Err(Failure::refused("there is no run in the log to take back")),
         Some(entry) => match &entry.deed {
-            Deed::Run { saved, .. } => Ok((entry, saved.as_ref())),
+            Deed::Run { saved, .. } => Ok((entry, saved.as_deref())),
             Deed::Undo { undoes } => Err(Failure::refused(format!(
                 "the last entry of the log is an undo, of the run of {undoes}; \
                  an undo is not taken back"

@@ -14,7 +14,7 @@ const TABLES: [(&str, usize); 3] = [
 ];
 const RUN: [&str; 3] = ["run", "--create", "--adopt"];
 
-fn run_steps<'words>(steps: &'words str) -> Vec<&'words str> {
+fn run_steps(steps: &str) -> Vec<&str> {
     RUN.into_iter().chain(["--steps", steps]).collect()
 }
 
