@@ -13,6 +13,9 @@ use crate::outcome::Failure;
 use crate::permissions::{Access, Permissions};
 use crate::plain::{self, Use};
 
+/// The bit of a directory like /tmp.
+const STICKY: u32 = 0o1000;
+
 /// The opened directory of a case.
 pub struct Disk {
     /// Its name, for people.
@@ -54,6 +57,13 @@ impl Disk {
     /// Whether the last operation that failed was one that is not allowed here.
     pub fn denied(&self) -> bool {
         self.denied.get()
+    }
+
+    /// Whether here only the owner of a file may remove or replace it, whoever else may make
+    /// files; where that cannot be told, yes.
+    pub fn keeps_files_apart(&self) -> bool {
+        let metadata = self.opened.metadata();
+        metadata.map_or(true, |metadata| metadata.mode() & STICKY != 0)
     }
 
     /// The name of the directory, for people.

@@ -114,9 +114,14 @@ impl Entry {
             Site::new(&tables)
         };
         let mut list = changes(&side(|row| &row.old), &side(|row| &row.new));
+        let numbers = Table::ALL.map(|table| {
+            let rows = self.rows.iter().filter(|row| row.table == table);
+            (table, rows.map(|row| row.row).collect::<Vec<usize>>())
+        });
         for change in &mut list {
-            let mut rows = self.rows.iter().filter(|row| row.table == change.table);
-            change.row = rows.nth(change.row).map_or(change.row, |row| row.row);
+            let of_table = numbers.iter().find(|(table, _)| *table == change.table);
+            let number = of_table.and_then(|(_, numbers)| numbers.get(change.row));
+            change.row = number.copied().unwrap_or(change.row);
         }
         list
     }

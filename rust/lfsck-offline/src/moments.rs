@@ -21,7 +21,8 @@ pub fn two_moments(entry: &Entry, tables: &Tables) -> Option<String> {
     let (before, after) = (before.join(" and "), after.join(" and "));
     let (what, when) = (entry.what(), &entry.when);
     Some(format!(
-        "the tables are of two moments: {before} as before the {what} of {when}, {after} as after it"
+        "the tables are of two moments: {before} as before the {what} of {when}, \
+         {after} as after it"
     ))
 }
 

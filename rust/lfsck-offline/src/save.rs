@@ -60,15 +60,19 @@ pub fn pending(disk: &Disk) -> Result<Option<Vec<Change>>, Failure> {
     }
 }
 
-/// The word of a file of the tool's own is taken from this user, from root and from an owner of
-/// the tables: where everybody may make files, others must not say what stands in the tables.
+/// In a directory where one may make files but not replace others', the word of a file of the
+/// tool's own is taken from this user, from root and from an owner of the tables: nobody else
+/// may say what stands in them. Elsewhere whoever can make such a file can replace the tables.
 pub fn require_ours(disk: &Disk, name: &str, permissions: Permissions) -> Result<(), Failure> {
+    if is_table(name) || !disk.keeps_files_apart() {
+        return Ok(());
+    }
     let tables: Result<Vec<_>, _> = Table::ALL
         .iter()
         .map(|table| disk.permissions(table.file()))
         .collect();
     let tables: Vec<Permissions> = tables?.into_iter().flatten().collect();
-    if is_table(name) || permissions.is_trusted(&tables) {
+    if permissions.is_trusted(&tables) {
         return Ok(());
     }
     let path = disk.path(name);

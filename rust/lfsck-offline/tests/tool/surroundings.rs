@@ -213,6 +213,7 @@ fn a_file_of_the_tool_that_another_user_made_is_not_believed() {
             return skipped(test, why);
         }
         let before = case.files();
+        set_mode(case.path(), 0o1777);
         case.run(words)
             .expect_line(74, "this belongs to another user");
         assert!(case.files() == before, "{name}");
@@ -221,6 +222,25 @@ fn a_file_of_the_tool_that_another_user_made_is_not_believed() {
         let told = case.run(&["check"]).expect(0);
         assert_eq!(told.err.contains("completed"), name == JOURNAL, "{told:?}");
     }
+}
+
+/// Where everybody may replace the tables, a log that another user made is no worse; but he does
+/// not read along.
+#[test]
+fn a_log_that_another_user_made_is_copied() {
+    let case = Case::sample("log-owner");
+    let log = case.path().join(LOG);
+    fs::write(&log, b"").unwrap();
+    set_mode(&log, 0o600);
+    if chown(&log, Some(NOBODY), Some(NOBODY)).is_err() {
+        let why = "files cannot be given to another user";
+        return skipped("a_log_that_another_user_made_is_copied", why);
+    }
+    let reader = File::open(&log).unwrap();
+    case.run(&RUN).expect(0);
+    assert_eq!(reader.metadata().unwrap().len(), 0);
+    assert_ne!(fs::metadata(&log).unwrap().uid(), NOBODY);
+    assert!(!case.read(LOG).is_empty());
 }
 
 /// Opening a pipe would wait for somebody at its other end.
