@@ -66,7 +66,8 @@ Options of every command:
   --help         help for the command
 
 Exit status: 0 done, 1 steps left, 2 input refused, 3 something ran out,
-4 something to mend (classes --exit-code), 64 wrong usage, 74 trouble with files.
+4 something to mend (classes --exit-code), 64 wrong usage, 74 trouble with
+files.
 ";
 
 const SAMPLE: &str = "\
@@ -104,7 +105,7 @@ Ends with the number of positions of each class.
   --only CLASS   list the positions of this class alone, of any class:
                  CLEAN SELF HOLE MULTIPLE DANGLING BLANK UNMATCHED OWNER
                  SPARE EMPTY ORPHAN CONFLICT KEPT UNUSED
-  --file FID     the header and slots of this file, and the objects that claim it
+  --file FID     header and slots of this file, and the objects that claim it
   --object FID   this object, and the slots that name it
   --ost N        objects on this OST, and slots that say so of theirs
   --owner UID[:GID]
