@@ -2,7 +2,7 @@
 
 use crate::fid::{MdtFid, OstFid};
 use crate::json::Json;
-use crate::rows::{Claim, File, Object, OwnFid, Owner, Stripe};
+use crate::rows::{Claim, File, Object, OwnFid, Owner, Stripe, slots_words};
 use crate::tables::Table;
 use crate::values;
 
@@ -75,14 +75,14 @@ impl What {
     pub fn words(&self) -> String {
         match self {
             What::FileMade(file) => {
-                let (owner, slots) = (file.owner, file.slots.len());
-                format!("file made, owner {owner}, {slots} slots")
+                let slots = slots_words(file.slots.len());
+                format!("file made, owner {}, {slots}", file.owner)
             }
             What::FileRemoved(_) => "file removed".to_string(),
             What::Own(own) => format!("own FID written into the layout, it was {}", own.old),
             What::SlotCount(Values { old, new }) => {
                 let done = if new > old { "grown" } else { "cut" };
-                format!("layout {done} from {old} to {new} slots")
+                format!("layout {done} from {old} to {}", slots_words(*new))
             }
             What::Slot(slot) => slot_words(slot.old, slot.new),
             What::ObjectMade(object) => {

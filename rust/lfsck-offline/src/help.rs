@@ -76,7 +76,8 @@ Options of every command:
   --help         help for the command
 
 Exit status: 0 done, 1 steps left, 2 input refused, 3 something ran out,
-4 something to mend (classes --exit-code), 64 wrong usage, 74 trouble with files.
+4 something to mend (classes --exit-code), 64 wrong usage, 74 trouble with
+files.
 ";
 
 const SAMPLE: &str = "\
@@ -114,7 +115,7 @@ Ends with the number of positions of each class.
   --only CLASS   list the positions of this class alone, of any class:
                  CLEAN SELF HOLE MULTIPLE DANGLING BLANK UNMATCHED OWNER
                  SPARE EMPTY ORPHAN CONFLICT KEPT UNUSED
-  --file FID     the header and slots of this file, and the objects that claim it
+  --file FID     header and slots of this file, and the objects that claim it
   --object FID   this object, and the slots that name it
   --ost N        objects on this OST, and slots that say so of theirs
   --owner UID[:GID]
@@ -167,9 +168,9 @@ const LOG: &str = "\
 Usage: lfsck-offline log DIR [FID] [--json]
 
 Tells what was done in the case, from the log that each run that changes a table
-is written into: when, by which version, under which policy, from where to where,
-the repairs, and every change. With FID, the story of that file or object: the
-changes that concern it, each with the time and the class that was mended.
+is written into: when, by which version, under which policy, from where to
+where, the repairs, and every change. With FID, the story of that file or object:
+the changes that concern it, each with the time and the class that was mended.
 ";
 
 const UNDO: &str = "\

@@ -131,6 +131,14 @@ impl Claim {
     }
 }
 
+/// A number of slots in words.
+pub fn slots_words(count: usize) -> String {
+    match count {
+        1 => "1 slot".to_string(),
+        _ => format!("{count} slots"),
+    }
+}
+
 /// The used mark.
 fn is_used(row: &[u8]) -> bool {
     row[0] == 1

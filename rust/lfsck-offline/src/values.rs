@@ -55,7 +55,8 @@ pub fn claim(claim: Option<Claim>) -> Json {
     claim.map_or(Json::Null, |_| Json::Object(claim_members(claim)))
 }
 
-fn claim_members(claim: Option<Claim>) -> Members {
+/// The file and the slot of a claim, or nothing under their names.
+pub fn claim_members(claim: Option<Claim>) -> Members {
     vec![
         ("claimed_file", Json::maybe(claim.map(|claim| claim.file))),
         (

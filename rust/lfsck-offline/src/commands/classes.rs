@@ -16,6 +16,7 @@ use crate::json::Json;
 use crate::outcome::{Failure, Outcome, Status};
 use crate::position::Position;
 use crate::site::Site;
+use crate::values::{self, Members};
 
 /// The number of positions of each class.
 type Counts = [u64; NAMES.len()];
@@ -129,12 +130,7 @@ fn machine(findings: Option<&Vec<Finding>>, counts: &Counts) -> String {
 pub fn finding_json(finding: &Finding) -> Json {
     let [stage, row, part] = finding.position.to_numbers();
     let repair = finding.repair.as_ref();
-    let keeper = finding.keeper;
-    let claimed = match finding.class {
-        Class::Unmatched(claim) => Some(claim),
-        _ => None,
-    };
-    Json::Object(vec![
+    let mut members = vec![
         ("stage", Json::Number(stage)),
         ("row", Json::Number(row)),
         ("part", Json::Number(part)),
@@ -142,23 +138,13 @@ pub fn finding_json(finding: &Finding) -> Json {
         ("slot", Json::maybe_number(finding.slot)),
         ("object", Json::maybe(finding.object)),
         ("class", Json::text(finding.class.name())),
-        ("claimed_file", Json::maybe(claimed.map(|claim| claim.file))),
-        (
-            "claimed_slot",
-            Json::maybe_number(claimed.map(|claim| claim.index)),
-        ),
-        (
-            "keeper_file",
-            Json::maybe(keeper.map(|(keeper, _)| keeper.file)),
-        ),
-        (
-            "keeper_slot",
-            Json::maybe_number(keeper.map(|(keeper, _)| keeper.slot as u64)),
-        ),
-        (
-            "keeper_rule",
-            Json::maybe(keeper.map(|(_, rule)| rule.name())),
-        ),
+    ];
+    members.extend(values::claim_members(match finding.class {
+        Class::Unmatched(claim) => Some(claim),
+        _ => None,
+    }));
+    members.extend(keeper_members(finding));
+    members.extend([
         (
             "policy",
             Json::maybe(repair.map(|repair| repair.needs.name())),
@@ -166,7 +152,25 @@ pub fn finding_json(finding: &Finding) -> Json {
         ("repair", Json::maybe(repair.map(|repair| &repair.does))),
         ("denial", Json::maybe(finding.denial.as_ref())),
         ("turn", finding.turn.as_ref().map_or(Json::Null, turn_json)),
-    ])
+    ]);
+    Json::Object(members)
+}
+
+/// The keeper of the object and the rule that makes it so.
+fn keeper_members(finding: &Finding) -> Members {
+    let keeper = finding.keeper;
+    let place = keeper.map(|(keeper, _)| keeper);
+    vec![
+        ("keeper_file", Json::maybe(place.map(|keeper| keeper.file))),
+        (
+            "keeper_slot",
+            Json::maybe_number(place.map(|keeper| keeper.slot as u64)),
+        ),
+        (
+            "keeper_rule",
+            Json::maybe(keeper.map(|(_, rule)| rule.name())),
+        ),
+    ]
 }
 
 fn turn_json(turn: &Turn) -> Json {

@@ -14,7 +14,7 @@ use crate::finding::Finding;
 use crate::json::Json;
 use crate::outcome::{Failure, Outcome};
 use crate::position::Position;
-use crate::rows::{File, Object};
+use crate::rows::{File, Object, slots_words};
 use crate::site::{Place, Site};
 use crate::values;
 use crate::why;
@@ -143,14 +143,14 @@ impl View<'_> {
         };
         let mut text = format!(
             "File {}, parent row {row}\n  owner {}\n  layout version {}, pattern {:#x} ({holes}), \
-             stripe size {}, generation {}, {} slots\n",
+             stripe size {}, generation {}, {}\n",
             file.fid,
             file.owner,
             header.version,
             header.pattern,
             header.stripe_size,
             header.generation,
-            file.slots.len()
+            slots_words(file.slots.len())
         );
         for finding in self.file_findings(row) {
             text += &match finding.slot {

@@ -38,7 +38,10 @@ fn help_may_be_asked_of_a_command() {
     for command in ["sample", "check", "classes", "run", "show"] {
         let told = tool(&["help", command]).expect(0);
         assert_eq!(told.out, tool(&[command, "--help"]).expect(0).out);
+        assert!(told.out.lines().all(|line| line.len() <= 80), "{command}");
     }
+    let all = tool(&["help"]).expect(0).out;
+    assert!(all.lines().all(|line| line.len() <= 80));
     tool(&["help", "mend"]).expect_line(64, "there is no command 'mend'");
     tool(&["help", "run", "show"]).expect_line(64, "one word too many");
 }
