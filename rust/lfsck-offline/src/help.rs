@@ -169,8 +169,9 @@ Usage: lfsck-offline log DIR [FID] [--json]
 
 Tells what was done in the case, from the log that each run that changes a table
 is written into: when, by which version, under which policy, from where to
-where, the repairs, and every change. With FID, the story of that file or object:
-the changes that concern it, each with the time and the class that was mended.
+where, the repairs, and every change. With FID, the story of that file or
+object: the changes that concern it, each with the time and the class that was
+mended.
 ";
 
 const UNDO: &str = "\

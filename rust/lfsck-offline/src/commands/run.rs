@@ -58,16 +58,14 @@ pub fn run(
     json: bool,
     bar: &Bar,
 ) -> Result<Outcome, Failure> {
-    let case = if options.dry_run {
-        Case::open(directory)?
-    } else {
-        Case::open_alone(directory)?
+    let case = match options.dry_run {
+        true => Case::open(directory)?,
+        false => Case::open_alone(directory)?,
     };
     let old = case.tables()?;
-    let saved = if options.from_start {
-        None
-    } else {
-        case.position()?
+    let saved = match options.from_start {
+        true => None,
+        false => case.position()?,
     };
     let before = Site::new(&old);
     let beginning = beginning(&old, &before, saved, options);
@@ -78,39 +76,31 @@ pub fn run(
     let mut tables = old.clone();
     let run = run_from(&mut tables, &before, beginning.position, options, bar);
     bar.turn_to(Work::Unmeasured("saving"));
-    if (11..=17).contains(&run.answer) {
-        return Err(match run.answer {
-            NO_POSITION => no_such_position(beginning.position),
-            number => refusal(number, &old),
-        });
-    }
+    require_accepted(run, beginning.position, &old)?;
     let saves = run.steps > 0 && !options.dry_run;
     if saves {
         let saved = Saved::new(run.position, options.policy, &tables);
         case.save_run(&old, &tables, &saved, beginning.position, run)?;
     }
-    let after = Site::new(&tables);
-    let position = Position::of_numbers(run.position).expect("a position of document 01");
-    let report = Report {
-        policy: options.policy,
-        beginning,
-        run,
-        position,
-        place: position.words(&after),
-        left: position.steps_left(&after),
-        stopped: stop::asked().filter(|_| run.answer == 1 && options.steps != Some(run.steps)),
-        changes: (!options.summary).then(|| changes(&before, &after)),
-    };
-    let text = if json {
-        report.machine()
-    } else {
-        report.people()
+    let report = Report::new(options, beginning, run, &before, &Site::new(&tables));
+    let text = match json {
+        true => report.machine(),
+        false => report.people(),
     };
     Ok(Outcome {
         note: options.dry_run.then_some(DRY_RUN),
         lasting: saves.then_some(SAVED),
         ..Outcome::ended(text, status(run.answer))
     })
+}
+
+/// The library did not refuse the tables or the position.
+fn require_accepted(run: Run, from: [u64; 3], tables: &Tables) -> Result<(), Failure> {
+    match run.answer {
+        NO_POSITION => Err(no_such_position(from)),
+        number @ 11..=17 => Err(refusal(number, tables)),
+        _ => Ok(()),
+    }
 }
 
 /// The tables are those of the saved position, and still it is none of theirs.
@@ -190,6 +180,27 @@ fn run_from(
 }
 
 impl Report {
+    fn new(
+        options: RunOptions,
+        beginning: Beginning,
+        run: Run,
+        before: &Site,
+        after: &Site,
+    ) -> Report {
+        let position = Position::of_numbers(run.position).expect("a position of document 01");
+        let cut = run.answer == 1 && options.steps != Some(run.steps);
+        Report {
+            policy: options.policy,
+            beginning,
+            run,
+            position,
+            place: position.words(after),
+            left: position.steps_left(after),
+            stopped: stop::asked().filter(|_| cut),
+            changes: (!options.summary).then(|| changes(before, after)),
+        }
+    }
+
     fn people(&self) -> String {
         let mut text = format!(
             "The run {}.\nPolicy: {}.\n",

@@ -184,6 +184,10 @@ fn story(case: &Case, fid: &str) -> Vec<(String, String)> {
         .collect()
 }
 
+fn fid(sequence: u64, id: u32) -> String {
+    format!("[{sequence:#x}:{id:#x}:0x0]")
+}
+
 #[test]
 fn a_file_and_an_object_have_their_story() {
     let case = Case::sample("story");
@@ -193,36 +197,31 @@ fn a_file_and_an_object_have_their_story() {
             .map(|(class, kind)| (class.to_string(), kind.to_string()))
             .collect()
     };
-    let file = |id: u32| format!("[0x200000401:{id:#x}:0x0]");
-    let object = |id: u32| format!("[0x240000400:{id:#x}:0x0]");
-    assert_eq!(story(&case, &file(2)), pairs(&[("SELF", "own_fid")]));
-    let redirected = [("MULTIPLE", "slot"), ("MULTIPLE", "object_made")];
-    assert_eq!(story(&case, &file(3)), pairs(&redirected));
-    assert_eq!(
-        story(&case, &file(4)),
-        pairs(&[("DANGLING", "object_made")])
-    );
-    assert_eq!(
-        story(&case, &object(0x14)),
-        pairs(&[("DANGLING", "object_made")])
-    );
-    assert_eq!(
-        story(&case, &object(0x27)),
-        pairs(&[("EMPTY", "object_destroyed")])
-    );
-    // The object that a slot named before is concerned as well.
-    assert_eq!(story(&case, &object(0x11)), pairs(&[("MULTIPLE", "slot")]));
-    assert_eq!(story(&case, &object(0x10)), []);
+    let [file, object] = [
+        |id: u32| fid(0x2_0000_0401, id),
+        |id: u32| fid(0x2_4000_0400, id),
+    ];
+    let made = ("DANGLING", "object_made");
+    for (fid, expected) in [
+        (file(2), &[("SELF", "own_fid")][..]),
+        (
+            file(3),
+            &[("MULTIPLE", "slot"), ("MULTIPLE", "object_made")],
+        ),
+        (file(4), &[made]),
+        (object(0x14), &[made]),
+        (object(0x27), &[("EMPTY", "object_destroyed")]),
+        // The object that a slot named before is concerned as well.
+        (object(0x11), &[("MULTIPLE", "slot")]),
+        (object(0x10), &[]),
+    ] {
+        assert_eq!(story(&case, &fid), pairs(expected), "{fid}");
+    }
     let told = case.run(&["log", &file(2)]).expect(0).out;
-    assert!(
-        told.contains("SELF: the layout's own FID is not the file's"),
-        "{told}"
-    );
+    let why = "SELF: the layout's own FID is not the file's";
+    assert!(told.contains(why), "{told}");
     let told = case.run(&["log", &object(0x10)]).expect(0).out;
-    assert_eq!(
-        told,
-        format!("Nothing in the log concerns {}.\n", object(0x10))
-    );
+    assert!(told.starts_with("Nothing in the log concerns"), "{told}");
     case.run(&["undo"]).expect(0);
     let twice = pairs(&[("SELF", "own_fid"), ("-", "own_fid")]);
     assert_eq!(story(&case, &file(2)), twice);
@@ -240,7 +239,6 @@ fn without_log(files: &Files) -> Files {
 #[test]
 fn an_undo_puts_back_what_was() {
     let case = Case::sample("undo");
-    let start = case.files();
     case.run(&run_steps("20")).expect(1);
     let middle = case.files();
     case.run(&RUN).expect(0);
@@ -273,7 +271,12 @@ fn an_undo_puts_back_what_was() {
         "{told}"
     );
     assert_eq!(without_log(&case.files()), without_log(&end));
-    case.restore(&start);
+}
+
+#[test]
+fn an_undo_of_the_first_run_leaves_no_position() {
+    let case = Case::sample("undo-first");
+    let start = case.files();
     case.run(&RUN).expect(0);
     let told = case.json(&["undo"], 0);
     assert_eq!(told.get("position"), &Value::Bool(false));
