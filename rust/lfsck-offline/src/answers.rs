@@ -1,5 +1,6 @@
 //! The library's numbers in words.
 
+use crate::bar::{Bar, Work};
 use crate::faults::{Fault, faults};
 use crate::outcome::Failure;
 use crate::tables::Tables;
@@ -33,8 +34,12 @@ pub fn fault_line(fault: &Fault) -> String {
     }
 }
 
+/// What is shown while the library checks the tables.
+pub const CHECKING: Work = Work::Unmeasured("checking the tables");
+
 /// Ends a command on tables that do not pass the check.
-pub fn require_sound(tables: &Tables) -> Result<(), Failure> {
+pub fn require_sound(tables: &Tables, bar: &Bar) -> Result<(), Failure> {
+    bar.turn_to(CHECKING);
     match tables.check() {
         0 => Ok(()),
         number => Err(refusal(number, tables)),
@@ -50,7 +55,6 @@ pub fn refusal(number: u32, tables: &Tables) -> Failure {
         0 | 1 => "",
         _ => "; lfsck-offline check lists all that is wrong",
     };
-    Failure::refused(format!(
-        "the tables are refused with {number}: {first}{more}"
-    ))
+    let message = format!("the tables are refused with {number}: {first}{more}");
+    Failure::answered(number, message)
 }

@@ -3,7 +3,7 @@
 use crate::site::{Place, Site};
 
 /// A step of a run, or its end.
-#[derive(Clone, Copy, Debug, PartialEq, Eq)]
+#[derive(Clone, Copy, Debug, PartialEq, Eq, Hash)]
 pub enum Position {
     /// The header of a parent row; of an unused row, the row.
     Header(usize),
@@ -50,6 +50,11 @@ impl Position {
         parents.chain((0..site.objects.len()).map(Position::Object))
     }
 
+    /// Where a run begins: the first position that there is.
+    pub fn start(site: &Site) -> Position {
+        Position::all(site).next().unwrap_or(Position::End)
+    }
+
     /// The steps from here to the end, by document 01's count. What is no position of the tables
     /// has few or none.
     pub fn steps_left(self, site: &Site) -> u64 {
@@ -93,4 +98,40 @@ impl Position {
 /// The slots of a parent row; an unused one has none.
 fn width(site: &Site, row: usize) -> usize {
     site.file(row).map_or(0, |file| file.slots.len())
+}
+
+#[cfg(test)]
+mod tests {
+    use super::*;
+    use crate::tables::Tables;
+    use difftest::tables::{Shape, random_tables, to_bytes};
+    use difftest::{Coverage, Random};
+
+    const SHAPE: Shape = Shape {
+        parents: 2,
+        objects: 2,
+        slots: 2,
+        files: 2,
+        fids: 2,
+    };
+
+    #[test]
+    fn the_start_is_the_library_s() {
+        let mut random = Random::for_test("start");
+        let mut met = Coverage::of("stages", [1, 2, 3]);
+        for _ in 0..1000 {
+            let (parents, objects) = to_bytes(&random_tables(SHAPE, &mut random), &mut random);
+            let mut start = [0; 3];
+            assert_eq!(lfsck_sys::start(&parents, &objects, &mut start), 0);
+            let reserve = Vec::new();
+            let site = Site::new(&Tables {
+                parents,
+                objects,
+                reserve,
+            });
+            assert_eq!(Position::start(&site).to_numbers(), start);
+            met.met(start[0]);
+        }
+        met.require(10);
+    }
 }

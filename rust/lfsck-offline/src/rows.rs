@@ -34,7 +34,7 @@ pub struct Owner {
 }
 
 /// The slot that an object says it belongs to.
-#[derive(Clone, Copy, Debug, PartialEq, Eq)]
+#[derive(Clone, Copy, Debug, PartialEq, Eq, Hash)]
 pub struct Claim {
     /// The file.
     pub file: MdtFid,
@@ -53,6 +53,15 @@ pub struct Stripe {
     pub ost: u64,
 }
 
+/// The FID in a layout: of its own file, if all is well. Its id has 64 bits.
+#[derive(Clone, Copy, Debug, PartialEq, Eq)]
+pub struct OwnFid {
+    /// The sequence.
+    pub sequence: u64,
+    /// The id.
+    pub id: u64,
+}
+
 /// The header of a layout.
 #[derive(Clone, Copy, Debug, PartialEq, Eq)]
 pub struct Header {
@@ -60,10 +69,8 @@ pub struct Header {
     pub version: u64,
     /// The pattern.
     pub pattern: u64,
-    /// The id of the file that the layout says it belongs to.
-    pub own_id: u64,
-    /// The sequence of that file.
-    pub own_sequence: u64,
+    /// The file that the layout says it belongs to.
+    pub own: OwnFid,
     /// The stripe size in bytes.
     pub stripe_size: u64,
     /// The generation.
@@ -124,6 +131,14 @@ impl Claim {
     }
 }
 
+/// A number of slots in words.
+pub fn slots_words(count: usize) -> String {
+    match count {
+        1 => "1 slot".to_string(),
+        _ => format!("{count} slots"),
+    }
+}
+
 /// The used mark.
 fn is_used(row: &[u8]) -> bool {
     row[0] == 1
@@ -144,8 +159,8 @@ impl File {
         let [
             version,
             pattern,
-            own_id,
-            own_sequence,
+            id,
+            sequence,
             stripe_size,
             count,
             generation,
@@ -157,8 +172,7 @@ impl File {
             header: Header {
                 version,
                 pattern,
-                own_id,
-                own_sequence,
+                own: OwnFid { sequence, id },
                 stripe_size,
                 generation,
             },
@@ -195,6 +209,12 @@ impl Object {
 impl fmt::Display for Owner {
     fn fmt(&self, out: &mut fmt::Formatter<'_>) -> fmt::Result {
         write!(out, "{}:{}", self.uid, self.gid)
+    }
+}
+
+impl fmt::Display for OwnFid {
+    fn fmt(&self, out: &mut fmt::Formatter<'_>) -> fmt::Result {
+        write!(out, "sequence {:#x} and id {:#x}", self.sequence, self.id)
     }
 }
 

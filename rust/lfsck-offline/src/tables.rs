@@ -75,6 +75,15 @@ impl Tables {
         }
     }
 
+    /// The bytes of a table, to be changed.
+    pub fn of_mut(&mut self, table: Table) -> &mut Vec<u8> {
+        match table {
+            Table::Parents => &mut self.parents,
+            Table::Objects => &mut self.objects,
+            Table::Reserve => &mut self.reserve,
+        }
+    }
+
     /// The whole rows of a table.
     pub fn rows(&self, table: Table) -> impl Iterator<Item = &[u8]> {
         self.of(table).chunks_exact(table.row_bytes())
@@ -83,5 +92,10 @@ impl Tables {
     /// The library's number for the tables: 0, 11, 13, 14 or 15. The end is always a position.
     pub fn check(&self) -> u32 {
         lfsck_sys::check(&self.parents, &self.objects, &self.reserve, 0, [3, 0, 0])
+    }
+
+    /// The reserve passes the check, whatever stands in the other tables.
+    pub fn is_reserve_sound(&self) -> bool {
+        lfsck_sys::check(&[], &[], &self.reserve, 0, [3, 0, 0]) == 0
     }
 }

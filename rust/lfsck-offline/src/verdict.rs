@@ -2,7 +2,8 @@
 //!
 //! Each call of the library checks the whole tables first, and at the limits that takes seconds.
 //! So one call tells many classes: where a few positions are asked for, of those that follow
-//! each, and after some calls all that there are.
+//! each, and after some calls all that there are. Its number is handed on where it refuses the
+//! tables.
 
 use std::cell::{Cell, RefCell};
 
@@ -15,12 +16,12 @@ use crate::tables::Tables;
 const FEW_CALLS: u32 = 4;
 
 /// Such a call tells so many classes.
-const BY_CALL: usize = 4096;
+pub const BY_CALL: usize = 4096;
 
 /// The numbers of a class.
 const CLASS_NUMBERS: usize = 4;
 
-/// Verdicts on the positions of a case with sound tables.
+/// Verdicts on the positions of a case.
 pub struct Verdicts<'case> {
     tables: &'case Tables,
     /// Where a run begins.
@@ -49,7 +50,7 @@ impl<'case> Verdicts<'case> {
         let count = starts[starts.len() - 1] + site.objects.len();
         Verdicts {
             tables,
-            first: Position::all(site).next().unwrap_or(Position::End),
+            first: Position::start(site),
             starts,
             known: RefCell::new(vec![None; count]),
             calls: Cell::new(0),
@@ -58,38 +59,39 @@ impl<'case> Verdicts<'case> {
     }
 
     /// The class at a position that is not the end.
-    pub fn at(&self, position: Position) -> Class {
+    pub fn at(&self, position: Position) -> Result<Class, u32> {
         let index = self.index(position);
         if self.known.borrow()[index].is_none() {
-            self.tell_about(position);
+            self.tell_about(position)?;
         }
-        self.known.borrow()[index].expect("every position before the end has a class")
+        Ok(self.known.borrow()[index].expect("every position before the end has a class"))
     }
 
     /// Asks for all classes, so many by a call, and tells after each how many are known.
-    pub fn tell_all(&self, by_call: usize, mut watch: impl FnMut(u64)) {
+    pub fn tell_all(&self, by_call: usize, mut watch: impl FnMut(u64)) -> Result<(), u32> {
         let mut position = self.first;
         let mut done = 0;
         while position != Position::End {
-            let (told, next) = self.tell(position, by_call.max(1));
+            let (told, next) = self.tell(position, by_call.max(1))?;
             done += told;
             position = next;
             watch(done as u64);
         }
+        Ok(())
     }
 
     /// Asks for the classes from a position on; after some calls, for all.
-    fn tell_about(&self, position: Position) {
+    fn tell_about(&self, position: Position) -> Result<(), u32> {
         if self.calls.get() == FEW_CALLS {
             return self.tell_all(self.count(), |_| ());
         }
         self.calls.set(self.calls.get() + 1);
-        self.tell(position, self.by_call);
+        self.tell(position, self.by_call).map(|_| ())
     }
 
     /// One call of the library, for so many classes from a position on: how many it told, and the
     /// first position that it did not.
-    fn tell(&self, from: Position, most: usize) -> (usize, Position) {
+    fn tell(&self, from: Position, most: usize) -> Result<(usize, Position), u32> {
         let mut position = from.to_numbers();
         let first = self.index(from);
         let most = most.min(self.count() - first);
@@ -102,7 +104,9 @@ impl<'case> Verdicts<'case> {
             &mut numbers,
             &mut done,
         );
-        assert_eq!(answer, 0, "the library refused sound tables at {from:?}");
+        if answer != 0 {
+            return Err(answer);
+        }
         let told = done[0] as usize;
         let classes = numbers.as_chunks::<CLASS_NUMBERS>().0.iter().take(told);
         let mut known = self.known.borrow_mut();
@@ -110,7 +114,7 @@ impl<'case> Verdicts<'case> {
             *place = Some(Class::of_numbers(*class).expect("a class of document 01"));
         }
         let next = Position::of_numbers(position).expect("a position of document 01");
-        (told, next)
+        Ok((told, next))
     }
 
     /// How many positions come before this one.
@@ -123,7 +127,8 @@ impl<'case> Verdicts<'case> {
         }
     }
 
-    fn count(&self) -> usize {
+    /// How many positions there are before the end.
+    pub fn count(&self) -> usize {
         self.known.borrow().len()
     }
 }
@@ -167,7 +172,8 @@ mod tests {
             let mut positions: Vec<Position> = Position::all(&site).collect();
             let told = Verdicts::new(&tables, &site);
             let mut counts = Vec::new();
-            told.tell_all(1 + random.below(12), |done| counts.push(done));
+            let by_call = 1 + random.below(12);
+            assert_eq!(told.tell_all(by_call, |done| counts.push(done)), Ok(()));
             assert!(counts.is_sorted());
             assert_eq!(counts.last().copied().unwrap_or(0), positions.len() as u64);
             let asked = Verdicts {
@@ -177,8 +183,8 @@ mod tests {
             random.shuffle(&mut positions);
             for position in positions {
                 let class = alone(&tables, position);
-                assert_eq!(told.at(position), class, "{position:?}");
-                assert_eq!(asked.at(position), class, "{position:?}");
+                assert_eq!(told.at(position), Ok(class), "{position:?}");
+                assert_eq!(asked.at(position), Ok(class), "{position:?}");
                 met[class.number()] += 1;
             }
         }

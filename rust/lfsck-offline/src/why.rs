@@ -207,7 +207,7 @@ mod tests {
                     continue;
                 };
                 let (keeper, _) = keeper(site, stripe.object).expect("a slot that names it");
-                let multiple = verdicts.at(position) == Class::Multiple;
+                let multiple = verdicts.at(position) == Ok(Class::Multiple);
                 assert_eq!(multiple, keeper != place);
             }
         });
@@ -221,7 +221,7 @@ mod tests {
                 else {
                     continue;
                 };
-                let class = verdicts.at(Position::Object(row));
+                let class = verdicts.at(Position::Object(row)).expect("a class");
                 let unnamed = site.named_by(object.fid).is_empty() && !object.fresh;
                 let way = way_to(site, claim).is_ok();
                 assert_eq!(class == Class::Orphan, unnamed && way);

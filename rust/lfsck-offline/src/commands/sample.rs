@@ -38,7 +38,10 @@ pub fn sample(directory: &Path, json: bool) -> Result<Outcome, Failure> {
             directory.display()
         )
     };
-    Ok(Outcome::done(text))
+    Ok(Outcome {
+        lasting: Some("the sample was made"),
+        ..Outcome::done(text)
+    })
 }
 
 /// A file's FID.

@@ -472,7 +472,7 @@ fn the_man_page_has_what_the_help_has() {
     for class in CLASSES {
         assert!(page.contains(class) && help.contains(class), "{class}");
     }
-    for status in [0, 1, 2, 3, 64, 74] {
+    for status in [0, 1, 2, 3, 4, 64, 74] {
         assert!(page.contains(&format!(".B {status}\n")), "{status}");
     }
 }
@@ -512,9 +512,15 @@ fn output_that_cannot_be_written_is_trouble_with_files() {
         let full = std::fs::File::options().write(true).open("/dev/full");
         let mut command = case.command(words);
         let told: Told = command.stdout(full.unwrap()).output().unwrap().into();
-        told.expect_line(74, "standard output");
+        let told = told.expect_line(74, "standard output");
+        let saved = told.err.ends_with("; the run was saved\n");
+        assert_eq!(saved, words[0] == "run", "{told:?}");
     }
     uncut.expect_in(&case);
+    let full = std::fs::File::options().write(true).open("/dev/full");
+    let mut command = case.command(&["run", "--adopt", "-n"]);
+    let told: Told = command.stdout(full.unwrap()).output().unwrap().into();
+    assert!(!told.expect(74).err.contains("saved"), "nothing was");
 }
 
 #[test]

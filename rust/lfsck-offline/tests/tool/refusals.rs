@@ -8,7 +8,7 @@ use std::os::unix::process::CommandExt;
 use std::path::{Path, PathBuf};
 use std::process::Command;
 
-use crate::tool::{Case, JOURNAL, NOBODY, POSITION, TOOL, Told, sha256};
+use crate::tool::{Case, JOURNAL, NOBODY, POSITION, TOOL, Told, sha256, skipped};
 
 /// The commands that read a case.
 const READERS: [&[&str]; 4] = [
@@ -324,8 +324,8 @@ impl Drop for ReadOnly {
 fn a_case_that_cannot_be_written_can_be_read() {
     let place = ReadOnly::new();
     if place.run(&["check"]).is_none() {
-        println!("no other user can be had: reading without the right to write is not tested");
-        return;
+        let why = "no other user can be had";
+        return skipped("a_case_that_cannot_be_written_can_be_read", why);
     }
     let run = |words: &[&str]| place.run(words).expect("the tool");
     let before = names(&place.case());
