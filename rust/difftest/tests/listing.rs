@@ -3,13 +3,11 @@
 
 use difftest::tables::{TINY, damage, describe, random_tables, to_bytes};
 use difftest::{Coverage, Random};
+use numbers::call::CLASS;
 use reference::interface;
 use reference::position::Position;
 
 const TABLES: u64 = 40_000;
-
-/// The numbers of a class.
-const CLASS_NUMBERS: usize = 4;
 
 /// What is lent to be written.
 #[derive(Clone, Debug, PartialEq)]
@@ -47,7 +45,7 @@ impl Seen {
                     "room left at the end",
                 ],
             ),
-            odd: Coverage::of("numbers past the last place", 0..CLASS_NUMBERS),
+            odd: Coverage::of("numbers past the last place", 0..CLASS),
             stages: Coverage::of("stages begun in", 1..=3),
             classes: Coverage::of("classes", 0..=13),
         }
@@ -64,11 +62,11 @@ impl Seen {
 
     /// Notes a call that was not refused.
     fn told(&mut self, before: &Lent, after: &Lent) {
-        let places = before.out.len() / CLASS_NUMBERS;
+        let places = before.out.len() / CLASS;
         let told = after.done[0] as usize;
         let at_end = after.position == [3, 0, 0];
         self.stages.met(before.position[0]);
-        self.odd.met(before.out.len() % CLASS_NUMBERS);
+        self.odd.met(before.out.len() % CLASS);
         self.ends.met(match (told < places, at_end) {
             _ if before.position[0] == 3 => "begun at the end",
             _ if places == 0 => "no whole place",
@@ -76,7 +74,7 @@ impl Seen {
             (false, true) => "room used up at the end",
             (true, _) => "room left at the end",
         });
-        let classes = after.out.chunks(CLASS_NUMBERS).take(told);
+        let classes = after.out.chunks(CLASS).take(told);
         classes.for_each(|class| self.classes.met(class[0]));
     }
 }
@@ -153,7 +151,7 @@ fn random_lent(positions: &[[u64; 3]], random: &mut Random) -> Lent {
         1 => position.push(0),
         _ => (),
     }
-    let room = random.below(CLASS_NUMBERS * (positions.len() + 1) + 1);
+    let room = random.below(CLASS * (positions.len() + 1) + 1);
     let places = random.pick(&[1, 1, 1, 1, 2, 0]);
     Lent {
         position,
@@ -171,20 +169,17 @@ fn compare_whole(
     seen: &mut Seen,
 ) {
     let count = positions.len() - 1;
-    let rest = random.below(2 * CLASS_NUMBERS);
+    let rest = random.below(2 * CLASS);
     let lent = Lent {
         position: positions[0].to_vec(),
-        out: random.numbers(CLASS_NUMBERS * count + rest),
+        out: random.numbers(CLASS * count + rest),
         done: random.numbers(1),
     };
     let (answer, told) = compare(parents, objects, lent, seen);
     assert_eq!((answer, told.done[0]), (0, count as u64));
     assert_eq!(told.position, [3, 0, 0]);
-    for (&position, class) in positions[..count]
-        .iter()
-        .zip(told.out.chunks(CLASS_NUMBERS))
-    {
-        let mut alone = [0; CLASS_NUMBERS];
+    for (&position, class) in positions[..count].iter().zip(told.out.chunks(CLASS)) {
+        let mut alone = [0; CLASS];
         assert_eq!(lfsck_sys::class(parents, objects, position, &mut alone), 0);
         assert_eq!(class, alone, "class at {position:?}");
     }
@@ -202,7 +197,7 @@ fn compare_in_a_row(
     let mut position = positions[0].to_vec();
     let mut told = Vec::new();
     while position != [3, 0, 0] {
-        let room = CLASS_NUMBERS + random.below(3 * CLASS_NUMBERS);
+        let room = CLASS + random.below(3 * CLASS);
         let lent = Lent {
             position,
             out: random.numbers(room),
@@ -210,11 +205,11 @@ fn compare_in_a_row(
         };
         let (answer, after) = compare(parents, objects, lent, seen);
         assert_eq!(answer, 0);
-        told.extend_from_slice(&after.out[..CLASS_NUMBERS * after.done[0] as usize]);
-        assert_eq!(after.position, positions[told.len() / CLASS_NUMBERS]);
+        told.extend_from_slice(&after.out[..CLASS * after.done[0] as usize]);
+        assert_eq!(after.position, positions[told.len() / CLASS]);
         position = after.position;
     }
-    let mut whole = vec![0; CLASS_NUMBERS * count];
+    let mut whole = vec![0; CLASS * count];
     let (mut start, mut done) = (positions[0], [0]);
     let answer = lfsck_sys::classes(parents, objects, &mut start, &mut whole, &mut done);
     assert_eq!((answer, done), (0, [count as u64]));

@@ -1,5 +1,7 @@
 //! The library's numbers in words.
 
+use numbers::answer;
+
 use crate::bar::{Bar, Work};
 use crate::faults::{Fault, faults};
 use crate::outcome::Failure;
@@ -8,18 +10,18 @@ use crate::tables::Tables;
 /// What a number of document 01 means.
 pub fn meaning(number: u32) -> &'static str {
     match number {
-        0 => "end reached",
-        1 => "steps used up, end not reached",
-        11 => "table not whole rows, too long, or a mark not 0 or 1",
-        12 => "policy above 3",
-        13 => "layout against the rules",
-        14 => "bad FID, object index or claim, or fresh without claim",
-        15 => "a FID twice among used parents, or twice among used objects",
-        16 => "no such position",
-        17 => "no room for the answer",
-        21 => "a slot is to be redirected, and no FID of the reserve can be used",
-        22 => "an object is to be made, and no object row is unused",
-        23 => "a file is to be made, and no parent row is unused",
+        answer::OK => "end reached",
+        answer::STEPS_USED => "steps used up, end not reached",
+        answer::BAD_TABLE => "table not whole rows, too long, or a mark not 0 or 1",
+        answer::BAD_POLICY => "policy above 3",
+        answer::BAD_LAYOUT => "layout against the rules",
+        answer::BAD_FID => "bad FID, object index or claim, or fresh without claim",
+        answer::FID_TWICE => "a FID twice among used parents, or twice among used objects",
+        answer::NO_POSITION => "no such position",
+        answer::NO_ROOM => "no room for the answer",
+        answer::NO_RESERVE => "a slot is to be redirected, and no FID of the reserve can be used",
+        answer::NO_OBJECT_ROW => "an object is to be made, and no object row is unused",
+        answer::NO_PARENT_ROW => "a file is to be made, and no parent row is unused",
         _ => "an unknown answer",
     }
 }

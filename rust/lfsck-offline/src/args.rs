@@ -4,6 +4,8 @@ use std::ffi::{OsStr, OsString};
 use std::path::PathBuf;
 use std::str::FromStr;
 
+use numbers::call::{ADOPT, CREATE};
+
 use crate::class;
 use crate::fid::{Fid, MdtFid, OstFid};
 use crate::filter::{Filter, OwnerPattern};
@@ -244,7 +246,7 @@ impl Words {
     fn run_options(&self) -> Result<RunOptions, Failure> {
         let steps = self.steps.as_ref();
         Ok(RunOptions {
-            policy: u64::from(self.create) + 2 * u64::from(self.adopt),
+            policy: CREATE * u64::from(self.create) + ADOPT * u64::from(self.adopt),
             steps: steps
                 .map(|steps| number(steps, "number of steps"))
                 .transpose()?,

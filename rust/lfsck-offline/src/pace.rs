@@ -7,6 +7,8 @@
 
 use std::time::Duration;
 
+use numbers::call::CREATE;
+
 use crate::site::Site;
 use crate::tables::{Table, Tables};
 
@@ -58,7 +60,7 @@ impl Estimate {
         let unnamed = (objects - (count(named.objects) - absent)) * slots;
         // Each new FID is looked for after those that were taken before it.
         let taken = surplus * surplus / 2.0 * objects / 4.0 + surplus * (objects + slots);
-        let redirects = if policy & 1 == 1 { taken } else { 0.0 };
+        let redirects = if policy & CREATE != 0 { taken } else { 0.0 };
         let work = found + lost + claims + unnamed + redirects + slots + objects;
         Estimate { check, work }
     }

@@ -1,5 +1,7 @@
 //! Positions of a run: document 01's stage, row and part.
 
+use numbers::call::{END, STAGE_END, STAGE_OBJECTS, STAGE_PARENTS};
+
 use crate::site::{Place, Site};
 
 /// A step of a run, or its end.
@@ -20,13 +22,13 @@ impl Position {
     pub fn of_numbers([stage, row, part]: [u64; 3]) -> Option<Position> {
         let row = usize::try_from(row).ok()?;
         match (stage, part) {
-            (1, 0) => Some(Position::Header(row)),
-            (1, part) => Some(Position::Slot(Place {
+            (STAGE_PARENTS, 0) => Some(Position::Header(row)),
+            (STAGE_PARENTS, part) => Some(Position::Slot(Place {
                 row,
                 slot: usize::try_from(part).ok()? - 1,
             })),
-            (2, 0) => Some(Position::Object(row)),
-            (3, 0) if row == 0 => Some(Position::End),
+            (STAGE_OBJECTS, 0) => Some(Position::Object(row)),
+            (STAGE_END, 0) if row == 0 => Some(Position::End),
             _ => None,
         }
     }
@@ -34,10 +36,10 @@ impl Position {
     /// Stage, row and part.
     pub fn to_numbers(self) -> [u64; 3] {
         match self {
-            Position::Header(row) => [1, row as u64, 0],
-            Position::Slot(place) => [1, place.row as u64, place.slot as u64 + 1],
-            Position::Object(row) => [2, row as u64, 0],
-            Position::End => [3, 0, 0],
+            Position::Header(row) => [STAGE_PARENTS, row as u64, 0],
+            Position::Slot(place) => [STAGE_PARENTS, place.row as u64, place.slot as u64 + 1],
+            Position::Object(row) => [STAGE_OBJECTS, row as u64, 0],
+            Position::End => END,
         }
     }
 

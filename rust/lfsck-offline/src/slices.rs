@@ -3,12 +3,15 @@
 use std::ops::ControlFlow;
 use std::time::Instant;
 
+use numbers::answer::STEPS_USED;
+use numbers::call;
+
 use crate::json::Json;
 use crate::pace::Pace;
 use crate::tables::Tables;
 
 /// The classes whose repairs a run counts, in the order of its counts.
-pub const COUNTED: [&str; 8] = [
+pub const COUNTED: [&str; call::COUNTED] = [
     "SELF",
     "MULTIPLE",
     "DANGLING",
@@ -29,13 +32,13 @@ pub struct Run {
     /// The steps done.
     pub steps: u64,
     /// The repairs of each class that is counted.
-    pub repairs: [u64; 8],
+    pub repairs: [u64; call::COUNTED],
 }
 
 /// Runs at once.
 pub fn run(tables: &mut Tables, policy: u64, most: u64, position: [u64; 3]) -> Run {
     let mut position = position;
-    let mut report = [0; 9];
+    let mut report = [0; call::REPORT];
     let answer = lfsck_sys::run(
         &mut tables.parents,
         &mut tables.objects,
@@ -68,7 +71,7 @@ pub fn run_watched(
     let started = Instant::now();
     let mut whole = run(tables, policy, first.min(most), position);
     let took = started.elapsed();
-    let over = whole.answer != 1 || whole.steps == most;
+    let over = whole.answer != STEPS_USED || whole.steps == most;
     if over || watch(whole.steps).is_break() {
         return whole;
     }
@@ -76,7 +79,7 @@ pub fn run_watched(
     let started = Instant::now();
     run(tables, policy, 0, whole.position);
     let mut pace = Pace::after(first, took, started.elapsed());
-    while whole.answer == 1 && whole.steps < most {
+    while whole.answer == STEPS_USED && whole.steps < most {
         let started = Instant::now();
         let steps = pace.steps().min(most - whole.steps);
         whole.add(run(tables, policy, steps, whole.position));

@@ -7,6 +7,8 @@
 
 use std::cell::{Cell, RefCell};
 
+use numbers::call::CLASS;
+
 use crate::class::Class;
 use crate::position::Position;
 use crate::site::Site;
@@ -17,9 +19,6 @@ const FEW_CALLS: u32 = 4;
 
 /// Such a call tells so many classes.
 pub const BY_CALL: usize = 4096;
-
-/// The numbers of a class.
-const CLASS_NUMBERS: usize = 4;
 
 /// Verdicts on the positions of a case.
 pub struct Verdicts<'case> {
@@ -95,7 +94,7 @@ impl<'case> Verdicts<'case> {
         let mut position = from.to_numbers();
         let first = self.index(from);
         let most = most.min(self.count() - first);
-        let mut numbers = vec![0; CLASS_NUMBERS * most];
+        let mut numbers = vec![0; CLASS * most];
         let mut done = [0];
         let answer = lfsck_sys::classes(
             &self.tables.parents,
@@ -108,7 +107,7 @@ impl<'case> Verdicts<'case> {
             return Err(answer);
         }
         let told = done[0] as usize;
-        let classes = numbers.as_chunks::<CLASS_NUMBERS>().0.iter().take(told);
+        let classes = numbers.as_chunks::<CLASS>().0.iter().take(told);
         let mut known = self.known.borrow_mut();
         for (place, class) in known[first..].iter_mut().zip(classes) {
             *place = Some(Class::of_numbers(*class).expect("a class of document 01"));
@@ -150,7 +149,7 @@ mod tests {
 
     /// The class that the library tells of a position alone.
     fn alone(tables: &Tables, position: Position) -> Class {
-        let mut numbers = [0; CLASS_NUMBERS];
+        let mut numbers = [0; CLASS];
         let position = position.to_numbers();
         let answer = lfsck_sys::class(&tables.parents, &tables.objects, position, &mut numbers);
         assert_eq!(answer, 0);

@@ -1,12 +1,11 @@
 //! Why a slot is the keeper of an object, and how a claimed place can be had: the rules behind
 //! the library's verdicts, for people to read.
 
+use numbers::layout::MOST_SLOTS;
+
 use crate::fid::OstFid;
 use crate::rows::Claim;
 use crate::site::{Place, Site};
-
-/// The most slots of a layout.
-const MOST_SLOTS: u32 = 160;
 
 /// Which rule makes a slot the keeper.
 #[derive(Clone, Copy, Debug, PartialEq, Eq)]
@@ -132,7 +131,7 @@ fn keeper_by_claim(site: &Site, object: OstFid, claimed: Place) -> Option<(Place
 
 /// How the claimed place can be had, or why it cannot.
 pub fn way_to(site: &Site, claim: Claim) -> Result<Way, Denial> {
-    if claim.index >= MOST_SLOTS {
+    if claim.index as usize >= MOST_SLOTS {
         return Err(Denial::Index);
     }
     let Some(place) = site.claimed_place(claim) else {

@@ -3,6 +3,7 @@
 use std::ops::ControlFlow;
 use std::path::Path;
 
+use numbers::answer::{BAD_TABLE, NO_POSITION, NO_ROOM, OK, STEPS_USED};
 use stop::Signal;
 
 use crate::answers::{meaning, refusal};
@@ -20,9 +21,6 @@ use crate::saved::{Saved, policy_words};
 use crate::site::Site;
 use crate::slices::{self, Run};
 use crate::tables::Tables;
-
-/// The number for a position that the tables do not have.
-const NO_POSITION: u32 = 16;
 
 /// What is true of a run even where its report is lost.
 const SAVED: &str = "the run was saved";
@@ -98,7 +96,7 @@ pub fn run(
 fn require_accepted(run: Run, from: [u64; 3], tables: &Tables) -> Result<(), Failure> {
     match run.answer {
         NO_POSITION => Err(no_such_position(from)),
-        number @ 11..=17 => Err(refusal(number, tables)),
+        number @ BAD_TABLE..=NO_ROOM => Err(refusal(number, tables)),
         _ => Ok(()),
     }
 }
@@ -115,8 +113,8 @@ fn no_such_position([stage, row, part]: [u64; 3]) -> Failure {
 
 fn status(answer: u32) -> Status {
     match answer {
-        0 => Status::Done,
-        1 => Status::StepsLeft,
+        OK => Status::Done,
+        STEPS_USED => Status::StepsLeft,
         _ => Status::RanOut,
     }
 }
@@ -188,7 +186,7 @@ impl Report {
         after: &Site,
     ) -> Report {
         let position = Position::of_numbers(run.position).expect("a position of document 01");
-        let cut = run.answer == 1 && options.steps != Some(run.steps);
+        let cut = run.answer == STEPS_USED && options.steps != Some(run.steps);
         Report {
             policy: options.policy,
             beginning,
@@ -235,8 +233,8 @@ impl Report {
 
     fn answer_for_people(&self) -> String {
         match self.run.answer {
-            0 => "Answer 0: the end is reached.\n".to_string(),
-            1 => format!(
+            OK => "Answer 0: the end is reached.\n".to_string(),
+            STEPS_USED => format!(
                 "Answer 1: {}; the next step is at {}.\n",
                 match self.stopped {
                     Some(signal) => format!("{} came and the run is stopped", signal.name()),
