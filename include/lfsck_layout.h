@@ -1,5 +1,6 @@
 /*
- * The C interface of the verified layout check.
+ * The C interface of the verified layout check. The rules, with the bytes of tables and layouts,
+ * when each class applies and what each repair writes, are in docs/RULES.md.
  *
  * Every function answers one of the numbers below. All other numbers are uint64_t. What is lent
  * is a pointer and a count: of bytes for a table, a layout or a pool, of numbers for an array of
