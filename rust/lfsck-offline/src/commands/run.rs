@@ -56,10 +56,7 @@ pub fn run(
     json: bool,
     bar: &Bar,
 ) -> Result<Outcome, Failure> {
-    let case = match options.dry_run {
-        true => Case::open(directory)?,
-        false => Case::open_alone(directory)?,
-    };
+    let case = open(directory, options)?;
     let old = case.tables()?;
     let saved = match options.from_start {
         true => None,
@@ -90,6 +87,14 @@ pub fn run(
         lasting: saves.then_some(SAVED),
         ..Outcome::ended(text, status(run.answer))
     })
+}
+
+/// The case, among other readers where nothing is written.
+fn open(directory: &Path, options: RunOptions) -> Result<Case, Failure> {
+    match options.dry_run {
+        true => Case::open(directory),
+        false => Case::open_alone(directory),
+    }
 }
 
 /// The library did not refuse the tables or the position.

@@ -370,16 +370,21 @@ fn a_file_is_shown_with_its_slots_and_rules() {
         told.out.contains("the object is fresh, has owner"),
         "{told:?}"
     );
-    let json = case.json(&["show", "0x200000401:5"], 0);
-    let positions = json.get("file").list("positions");
-    let classes: Vec<&str> = positions.iter().map(|it| it.text("class")).collect();
-    assert_eq!(classes, ["CLEAN", "BLANK", "UNMATCHED", "OWNER"]);
-    assert_eq!(json.get("object"), &Value::Null);
     let told = case.run(&["show", "0x200000401:8"]).expect(0);
     assert!(
         told.out
             .contains("object [0x240000400:0x24:0x0] claims slot 0")
     );
+}
+
+#[test]
+fn a_file_is_shown_to_machines_with_its_classes() {
+    let case = Case::sample("show-file-json");
+    let json = case.json(&["show", "0x200000401:5"], 0);
+    let positions = json.get("file").list("positions");
+    let classes: Vec<&str> = positions.iter().map(|it| it.text("class")).collect();
+    assert_eq!(classes, ["CLEAN", "BLANK", "UNMATCHED", "OWNER"]);
+    assert_eq!(json.get("object"), &Value::Null);
 }
 
 #[test]
