@@ -157,6 +157,35 @@ fn a_table_of_broken_rows_is_refused() {
     assert_eq!(case.files(), before);
 }
 
+/// Whoever reads tables that are refused says the same line, in whichever of them the faults are,
+/// and whatever is asked for.
+#[test]
+fn all_refuse_with_the_same_line() {
+    let faults: [(&str, fn(&mut Vec<u8>)); 4] = [
+        ("parents.tbl", |table| table[25] ^= 1),
+        ("objects.tbl", |table| table[13] = 1),
+        ("reserve.tbl", |table| table[..8].fill(0)),
+        ("reserve.tbl", |table| table.push(0)),
+    ];
+    for chosen in 1..1 << faults.len() {
+        let case = Case::sample("refused-alike");
+        for (bit, (table, fault)) in faults.iter().enumerate() {
+            if chosen >> bit & 1 == 1 {
+                case.edit(table, fault);
+            }
+        }
+        let line = case.run(&["run"]).expect_line(2, "refused with").err;
+        for words in [
+            &["classes"][..],
+            &["classes", "--file", "0x200000401:0x77"],
+            &["show", "0x200000401:1"],
+            &["show", "0x200000401:0x77"],
+        ] {
+            assert_eq!(case.run(words).expect(2).err, line, "{words:?}");
+        }
+    }
+}
+
 #[test]
 fn a_position_that_cannot_be_read_is_refused() {
     let case = Case::sample("bad-position");

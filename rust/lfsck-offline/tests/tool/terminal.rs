@@ -113,9 +113,22 @@ fn processor_seconds(text: &str) -> f64 {
         .sum()
 }
 
-/// One object in a hundred is damaged.
-fn damaged() -> Case {
-    let (parents, mut objects) = clean(320, 320);
+/// A command of the shell that tells the processor's time of another.
+fn timed(command: &str) -> String {
+    format!("bash -c \"TIMEFORMAT='spent %U %S'; time {command}\"")
+}
+
+/// The processor's time of a command in a pipe.
+fn in_pipe(case: &Case, command: &str) -> f64 {
+    let mut shell = Command::new("bash");
+    shell.args(["-c", &timed(command)]).current_dir(case.path());
+    let told: Told = shell.output().expect("bash").into();
+    processor_seconds(&told.err)
+}
+
+/// So many files of which one object in a hundred is damaged.
+fn damaged(name: &str, files: usize) -> Case {
+    let (parents, mut objects) = clean(files, files);
     for (at, row) in objects.chunks_mut(46).step_by(100).enumerate() {
         match at % 4 {
             0 => row.fill(0),
@@ -127,32 +140,42 @@ fn damaged() -> Case {
     let reserve: Vec<u8> = (0..9000)
         .flat_map(|id| object(1_000_000 + id).to_bytes())
         .collect();
-    Case::with("bar-cost", &parents, &objects, &reserve)
+    Case::with(name, &parents, &objects, &reserve)
 }
 
 /// A run on a terminal takes at most 1.2 times the processor's time that it takes in a pipe. What
 /// else the machine does adds to a time and takes nothing away, so the least of some count.
 #[test]
 fn the_bar_costs_little() {
-    let case = damaged();
+    let case = damaged("bar-cost", 320);
     let run = tool("run . --create --adopt --dry-run --summary");
-    let timed = format!("bash -c \"TIMEFORMAT='spent %U %S'; time {run}\"");
-    let in_pipe = || {
-        let mut shell = Command::new("bash");
-        shell.args(["-c", &timed]).current_dir(case.path());
-        let told: Told = shell.output().expect("bash").into();
-        processor_seconds(&told.err)
-    };
     let (mut pipe, mut terminal) = (f64::INFINITY, f64::INFINITY);
     for round in 1..=10 {
-        pipe = in_pipe().min(pipe);
-        terminal = processor_seconds(&on_terminal(&case, &timed).text).min(terminal);
+        pipe = in_pipe(&case, &run).min(pipe);
+        terminal = processor_seconds(&on_terminal(&case, &timed(&run)).text).min(terminal);
         println!("round {round}: in a pipe {pipe:.2} s, on a terminal {terminal:.2} s");
         if round > 1 && terminal <= 1.2 * pipe {
             return;
         }
     }
     panic!("in a pipe {pipe:.2} s, on a terminal {terminal:.2} s");
+}
+
+/// All classes take no longer than a run, which asks for them one by one: one check for each.
+#[test]
+fn classes_take_no_longer_than_a_run() {
+    let case = damaged("classes-cost", 160);
+    let (list, run) = (tool("classes ."), tool("run . --create --adopt --dry-run"));
+    let (mut listed, mut ran) = (f64::INFINITY, f64::INFINITY);
+    for round in 1..=20 {
+        listed = in_pipe(&case, &list).min(listed);
+        ran = in_pipe(&case, &run).min(ran);
+        println!("round {round}: classes {listed:.2} s, a run {ran:.2} s");
+        if round > 4 && listed <= ran {
+            return;
+        }
+    }
+    panic!("classes {listed:.2} s, a run {ran:.2} s");
 }
 
 /// Work that is long beside the check of its input is made in slices, and the bar has its share.
@@ -167,12 +190,18 @@ fn long_work_shows_how_much_is_done() {
     };
     let parents: Vec<u8> = (0..files).flat_map(row).collect();
     let case = Case::with("bar-share", &parents, b"", b"");
-    let told = case.run(&["run", "--dry-run"]).expect(0);
-    let seen = on_terminal(&case, &tool("run . --dry-run"));
-    println!("{:?}", seen.took);
     let total = files * (1 + SLOTS);
-    let share = format!(" of {total} steps, ");
-    assert!(seen.text.contains(&share) || seen.took < SECOND, "{seen:?}");
-    assert_eq!(seen.printed(), told.out.clone() + &told.err);
+    for (words, counted) in [
+        (["run", "--dry-run"], "steps"),
+        (["classes", "--summary"], "positions"),
+    ] {
+        let told = case.run(&words).expect(0);
+        let seen = on_terminal(&case, &tool(&format!("{} . {}", words[0], words[1])));
+        println!("{words:?}: {:?}", seen.took);
+        let share = format!(" of {total} {counted}, ");
+        assert!(seen.text.contains(&share) || seen.took < SECOND, "{seen:?}");
+        assert_eq!(seen.printed(), told.out.clone() + &told.err);
+    }
+    let told = case.run(&["run", "--dry-run"]).expect(0);
     assert!(told.out.contains(&format!("Steps: {total} done, 0 left.")));
 }
