@@ -157,11 +157,14 @@ fn a_table_of_broken_rows_is_refused() {
     assert_eq!(case.files(), before);
 }
 
+/// A table, and what is done to it.
+type Harm = (&'static str, fn(&mut Vec<u8>));
+
 /// Whoever reads tables that are refused says the same line, in whichever of them the faults are,
 /// and whatever is asked for.
 #[test]
 fn all_refuse_with_the_same_line() {
-    let faults: [(&str, fn(&mut Vec<u8>)); 4] = [
+    let faults: [Harm; 4] = [
         ("parents.tbl", |table| table[25] ^= 1),
         ("objects.tbl", |table| table[13] = 1),
         ("reserve.tbl", |table| table[..8].fill(0)),
