@@ -16,7 +16,7 @@ bench: $(ARCHIVE)
 
 # The proved library.
 $(ARCHIVE): $(shell find crates crates.txt -type f 2>/dev/null)
-	rt staticlib capi
+	@tests/library
 
 clean:
 	rm -rf target

@@ -1,5 +1,6 @@
 /*
- * The C interface of the verified layout check.
+ * The C interface of the verified layout check. The rules, with the bytes of tables and layouts,
+ * when each class applies and what each repair writes, are in docs/RULES.md.
  *
  * Every function answers one of the numbers below. All other numbers are uint64_t. What is lent
  * is a pointer and a count: of bytes for a table, a layout or a pool, of numbers for an array of
@@ -174,6 +175,31 @@ uint32_t lfsck_class(const uint8_t *parents, size_t parents_bytes,
                      const uint8_t *objects, size_t objects_bytes,
                      uint64_t stage, uint64_t row, uint64_t part,
                      uint64_t *out, size_t out_count);
+
+/*
+ * The classes from a position on, in the order of a run's steps, with one check for all of them:
+ * as many as out has whole places for, or fewer where the end comes first.
+ *
+ *   parents, objects  the tables
+ *   position          exactly 3 numbers, changed: where to begin, then the first position whose
+ *                     class was not told, or the end
+ *   out               4 numbers a position, written: as lfsck_class
+ *   done              1 number, written: how many classes were told; at the end it is 0
+ *
+ * LFSCK_OK           the classes are in the first numbers of out
+ * LFSCK_BAD_TABLE, LFSCK_BAD_LAYOUT, LFSCK_BAD_FID, LFSCK_FID_TWICE
+ *                    the tables do not pass the check
+ * LFSCK_NO_POSITION  there is no such position; fewer or more than 3 numbers are none
+ * LFSCK_NO_ROOM      done has no place
+ *
+ * From the position that lfsck_start hands out, 4 numbers for each step that lfsck_steps counts
+ * are enough for all classes.
+ */
+uint32_t lfsck_classes(const uint8_t *parents, size_t parents_bytes,
+                       const uint8_t *objects, size_t objects_bytes,
+                       uint64_t *position, size_t position_count,
+                       uint64_t *out, size_t out_count,
+                       uint64_t *done, size_t done_count);
 
 /*
  * Checks the input as lfsck_check does, then repairs in place, step by step.

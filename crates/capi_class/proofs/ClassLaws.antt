@@ -11,15 +11,21 @@ use lib.Seq.{sets}
 use Rattle.tables.specs.Bytes.{parse}
 use Rattle.tables.specs.Check.{tablesNumber}
 use Rattle.tables.specs.declared.Position.{Position}
-use Rattle.rules.specs.Classes.{classNumbers}
+use Rattle.rules.specs.Classes.{only, headerNumbers, slotNumbers, objectNumbers, classNumbers}
 use Rattle.rules.specs.Steps.{classAt}
 use Rattle.rules.specs.declared.Class.{Class}
+use Rattle.rules.specs.declared.Class.the-variants.{Header as OfHeader, Slot as OfSlot, Object as OfObject}
+use Rattle.rules.specs.declared.HeaderClass.{HeaderClass}
+use Rattle.rules.specs.declared.HeaderClass.the-variants.{CLEAN as CLEAN-HEADER, SELF, UNUSED as UNUSED-PARENT}
+use Rattle.rules.specs.declared.SlotClass.{SlotClass}
+use Rattle.rules.specs.declared.SlotClass.the-variants.{CLEAN, HOLE, MULTIPLE, DANGLING, BLANK, UNMATCHED, OWNER}
+use Rattle.rules.specs.declared.ObjectClass.{ObjectClass}
+use Rattle.rules.specs.declared.ObjectClass.the-variants.{SPARE, EMPTY, ORPHAN, CONFLICT, KEPT, UNUSED}
 use Rattle.classify.specs.Answer.{hasClass, classAnswer, classNumber}
 use Rattle.classify.specs.declared.ClassAnswer.{ClassAnswer}
 use Rattle.classify.specs.declared.ClassAnswer.the-variants.{NoClass, ClassIs}
 use Rattle.capi_out.specs.Out.{outAnswer, outNumbers}
-use Rattle.capi_class.specs.Classes.{listed, toldNumbers}
-use Rattle.capi_class.specs.declared.ClassNumbers.{ClassNumbers}
+use Rattle.capi_class.specs.Classes.{toldNumbers}
 use Rattle.capi_out.proofs.OutLaws.{out-refused, out-short, out-done}
 
 -- a refusal has a number of its own
@@ -38,22 +44,49 @@ class-none parents objects at out n e =
     (class-refusal t n (eqb t 0) (hasClass parents objects at) (classAt (parse parents objects) at) refl e)
 
 -- the numbers of a class are four
-pub four-listed : (c : ClassNumbers) → length (listed c) ≡ 4
-unfolding listed
-four-listed c = refl
+header-four : (c : HeaderClass) → length (headerNumbers c) ≡ 4
+unfolding headerNumbers only
+header-four CLEAN-HEADER = refl
+header-four SELF = refl
+header-four UNUSED-PARENT = refl
 
-module _ (A : ClassAnswer) (out : List ℕ) (c : Class) (e : A ≡ ClassIs c) (k : ClassNumbers) (q : listed k ≡ classNumbers c) where
+slot-four : (c : SlotClass) → length (slotNumbers c) ≡ 4
+unfolding slotNumbers only
+slot-four CLEAN = refl
+slot-four HOLE = refl
+slot-four MULTIPLE = refl
+slot-four DANGLING = refl
+slot-four BLANK = refl
+slot-four (UNMATCHED f i) = refl
+slot-four OWNER = refl
+
+object-four : (c : ObjectClass) → length (objectNumbers c) ≡ 4
+unfolding objectNumbers only
+object-four SPARE = refl
+object-four EMPTY = refl
+object-four ORPHAN = refl
+object-four CONFLICT = refl
+object-four KEPT = refl
+object-four UNUSED = refl
+
+pub class-four : (c : Class) → length (classNumbers c) ≡ 4
+unfolding classNumbers
+class-four (OfHeader c) = header-four c
+class-four (OfSlot c) = slot-four c
+class-four (OfObject c) = object-four c
+
+module _ (A : ClassAnswer) (out : List ℕ) (c : Class) (e : A ≡ ClassIs c) where
   zero-class : classNumber A ≡ 0
   unfolding classNumber
   zero-class = rw e
 
-  told-are : toldNumbers A ≡ listed k
+  told-are : toldNumbers A ≡ classNumbers c
   unfolding toldNumbers
-  told-are = rw (e, q)
+  told-are = rw e
 
   pub class-short : length out < 4 → (17 ≡ outAnswer (classNumber A) (toldNumbers A) out) × (out ≡ outNumbers (classNumber A) (toldNumbers A) out)
-  class-short h = out-short (classNumber A) (toldNumbers A) out zero-class (rw (told-are, four-listed k) h)
+  class-short h = out-short (classNumber A) (toldNumbers A) out zero-class (rw (told-are, class-four c) h)
 
-  pub class-done : (x : List ℕ) → 4 ≤ length out → x ≡ sets out 0 (listed k) →
+  pub class-done : (x : List ℕ) → 4 ≤ length out → x ≡ sets out 0 (classNumbers c) →
       (0 ≡ outAnswer (classNumber A) (toldNumbers A) out) × (x ≡ outNumbers (classNumber A) (toldNumbers A) out)
-  class-done x h p = out-done (classNumber A) (toldNumbers A) out x zero-class (rw (told-are, four-listed k) h) (rw told-are p)
+  class-done x h p = out-done (classNumber A) (toldNumbers A) out x zero-class (rw (told-are, class-four c) h) (rw told-are p)

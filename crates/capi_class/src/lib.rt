@@ -6,7 +6,7 @@ use rules::ObjectClass;
 use rules::SlotClass;
 use tables::Position;
 ghost use mathlib.Core.Path.{_≡_};
-ghost use Prim.Native.Nat.{_≤_};
+ghost use Prim.Native.Nat.{_+_, _≤_};
 ghost use lib.ListN.{length};
 ghost use lib.Seq.{sets};
 ghost use Rattle.tables.specs.Positions.{place};
@@ -15,12 +15,15 @@ ghost use Rattle.classify.specs.Answer.{classAnswer, classNumber};
 ghost use Rattle.capi_out.specs.Out.{outAnswer, outNumbers};
 ghost use Rattle.capi_class.specs.Classes.{listed, toldNumbers};
 
+// The numbers that a class is told by.
+pub const CLASS_SIZE: usize = 4;
+
 // The numbers of a class: its own, and the sequence, id and index that were claimed.
-pub struct ClassNumbers {
-    pub class: u64,
-    pub seq: u64,
-    pub oid: u64,
-    pub index: u64,
+struct ClassNumbers {
+    class: u64,
+    seq: u64,
+    oid: u64,
+    index: u64,
 }
 
 // A class that carries nothing.
@@ -90,12 +93,13 @@ fn class_numbers(c: Class) -> ClassNumbers
     }
 }
 
-// Stores the four numbers of a class.
-fn put_class(out: &mut [u64], c: ClassNumbers)
-    requires { ⌜ 4 ≤ length (now out) ⌝ }
-    ensures { λ _. ⌜ now (out .exit) ≡ sets (now (out .entry)) 0 (listed c) ⌝ }
+// Stores the four numbers of a class, from a place on.
+pub fn put_class(out: &mut [u64], at: usize, c: Class)
+    requires { ⌜ at + 4 ≤ length (now out) ⌝ }
+    ensures { λ _. ⌜ now (out .exit) ≡ sets (now (out .entry)) at (classNumbers c) ⌝ }
 {
-    capi_out::put_four(out, 0, c.class, c.seq, c.oid, c.index);
+    let n = class_numbers(c);
+    capi_out::put_four(out, at, n.class, n.seq, n.oid, n.index);
 }
 
 // The class at a position: 4 numbers into out.
@@ -119,11 +123,10 @@ pub fn class_at(
     match told {
         ClassAnswer::NoClass(n) => n,
         ClassAnswer::ClassIs(c) => {
-            let numbers = class_numbers(c);
-            if out.len() < 4 {
+            if out.len() < CLASS_SIZE {
                 return 17;
             }
-            put_class(out, numbers);
+            put_class(out, 0, c);
             0
         }
     }

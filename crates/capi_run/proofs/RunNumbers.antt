@@ -2,41 +2,18 @@
 use Prim.Native.Nat.{ℕ, _≤_, _<_}
 use mathlib.Core.Path.{_≡_, refl, sym, ap, _∙_}
 use mathlib.Core.List.{List, [], _∷_}
-use mathlib.Core.Bool.{Bool, true, false, cond, true≢false}
-use borrow.Author.Tests.{eq-eqb, ne-eqb, eqb-true, lt-ltb, le-ltb}
-use lib.Dec.{eqb}
-use lib.ListN.{length, getD, set}
+use borrow.Author.Tests.{eq-eqb, ne-eqb, lt-ltb, le-ltb}
+use lib.ListN.{length, set}
 use lib.Seq.{sets}
 use Rattle.wire.proofs.Splice.{sets-at}
-use Rattle.tables.specs.Records.{Tables}
 use Rattle.tables.specs.Check.{checkNumber}
-use Rattle.tables.specs.Positions.{place, isPosition, isEnd}
 use Rattle.tables.specs.declared.Position.{Position}
 use Rattle.rules.specs.declared.Counts.{Counts}
 use Rattle.rules.specs.declared.Report.{Report}
 use Rattle.engine.specs.RunBytes.{Ran, runBytes}
 use Rattle.engine.specs.Ready.{stepsBytes}
-use Rattle.capi_tables.specs.Tables.{positionNumbers}
-use Rattle.capi_run.specs.Runs.{positionGiven, countNumbers, reportNumbers, Called, unwritten, handedOut, called}
-
--- ## The position
-
-pub given-other : (l : List ℕ) → (length l ≡ 3 → ⊥) → place 0 0 0 ≡ positionGiven l
-unfolding positionGiven
-given-other l h = rw (ne-eqb _ _ h)
-
-pub given-three : (l : List ℕ) → length l ≡ 3 → place (getD l 0 0) (getD l 1 0) (getD l 2 0) ≡ positionGiven l
-unfolding positionGiven
-given-three l h = rw (eq-eqb _ _ h)
-
--- a position that exists was handed in as three numbers
-pub given-is : (T : Tables) (l : List ℕ) (at : Position) → at ≡ positionGiven l → isPosition T at ≡ true → length l ≡ 3
-unfolding positionGiven isPosition isEnd place
-given-is T l at g h = go (eqb (length l) 3) refl (ap (isPosition T) (sym g) ∙ h)
-  where
-    go : (b : Bool) → eqb (length l) 3 ≡ b → isPosition T (cond b (place (getD l 0 0) (getD l 1 0) (getD l 2 0)) (place 0 0 0)) ≡ true → length l ≡ 3
-    go true e k = eqb-true (length l) 3 e
-    go false e k = absurd (true≢false (sym k))
+use Rattle.capi_tables.specs.Tables.{positionNumbers, positionGiven}
+use Rattle.capi_run.specs.Runs.{countNumbers, reportNumbers, Called, unwritten, handedOut, called}
 
 -- ## The report
 

@@ -3,19 +3,13 @@ use Prim.Native.Nat.{ℕ}
 use mathlib.Core.List.{List, [], _∷_}
 use mathlib.Core.Bool.{cond}
 use lib.Dec.{eqb, ltb}
-use lib.ListN.{length, getD}
+use lib.ListN.{length}
 use lib.Seq.{sets}
 use Rattle.tables.specs.Check.{checkNumber}
-use Rattle.tables.specs.Positions.{place}
-use Rattle.tables.specs.declared.Position.{Position}
 use Rattle.rules.specs.declared.Counts.{Counts}
 use Rattle.rules.specs.declared.Report.{Report}
 use Rattle.engine.specs.RunBytes.{Ran, runBytes}
-use Rattle.capi_tables.specs.Tables.{positionNumbers}
-
--- three numbers; another amount is a position that doesn't exist
-unfoldable pub positionGiven : List ℕ → Position
-positionGiven l = cond (eqb (length l) 3) (place (getD l 0 0) (getD l 1 0) (getD l 2 0)) (place 0 0 0)
+use Rattle.capi_tables.specs.Tables.{positionNumbers, positionGiven}
 
 -- "the repairs of SELF, MULTIPLE, DANGLING, BLANK, UNMATCHED, OWNER, EMPTY, ORPHAN"
 unfoldable pub countNumbers : Counts → List ℕ

@@ -1,33 +1,14 @@
 // Runs over the lent tables, as numbers.
 use rules::Counts;
 use rules::Report;
-use tables::Position;
 ghost use mathlib.Core.Path.{_≡_};
 ghost use Prim.Native.Nat.{_≤_};
 ghost use lib.ListN.{length};
 ghost use lib.Seq.{sets};
-ghost use Rattle.capi_run.specs.Runs.{positionGiven, countNumbers, reportNumbers, called};
+ghost use Rattle.capi_run.specs.Runs.{countNumbers, reportNumbers, called};
 
 // The numbers of a report.
 const REPORT_SIZE: usize = 9;
-
-// The position that is handed in; another amount than three numbers is none.
-fn position_given(position: &[u64]) -> Position
-    ensures { λ p. ⌜ p ≡ positionGiven (now (position .entry)) ⌝ }
-{
-    if position.len() != 3 {
-        return Position {
-            stage: 0,
-            row: 0,
-            part: 0,
-        };
-    }
-    Position {
-        stage: position[0],
-        row: position[1],
-        part: position[2],
-    }
-}
 
 // Stores the repairs by class.
 fn put_counts(out: &mut [u64], c: Counts)
@@ -63,7 +44,7 @@ pub fn run(
     ensures position { λ _. ⌜ now (position .exit) ≡ called (now (parents .entry)) (now (objects .entry)) (now (reserve .entry)) policy most (now (position .entry)) (now (report .entry)) .position ⌝ }
     ensures report { λ _. ⌜ now (report .exit) ≡ called (now (parents .entry)) (now (objects .entry)) (now (reserve .entry)) policy most (now (position .entry)) (now (report .entry)) .report ⌝ }
 {
-    let at = position_given(position);
+    let at = capi_tables::position_given(position);
     let number = tables::check(parents, objects, reserve, policy, at);
     if number != 0 {
         return number;

@@ -1,15 +1,16 @@
--- Start and step count as numbers, case by case. Assumes nothing.
-use mathlib.Core.Path.{_≡_, refl}
+-- Positions, start and step count as numbers, case by case. Assumes nothing.
+use mathlib.Core.Path.{_≡_, refl, sym, ap, _∙_}
 use mathlib.Core.List.{List}
-use mathlib.Core.Bool.{Bool, true, false, cond}
+use mathlib.Core.Bool.{Bool, true, false, cond, true≢false}
 use Prim.Native.Nat.{ℕ, _≤_, _<_}
-use borrow.Author.Tests.{eqb-false}
+use borrow.Author.Tests.{eq-eqb, ne-eqb, eqb-true, eqb-false}
 use native.Mathlib.Omega.{arith}
 use lib.Dec.{eqb}
-use lib.ListN.{length, set}
+use lib.ListN.{length, getD, set}
 use lib.Seq.{sets}
+use Rattle.tables.specs.Records.{Tables}
 use Rattle.tables.specs.Bytes.{parse}
-use Rattle.tables.specs.Positions.{start, countSteps}
+use Rattle.tables.specs.Positions.{place, isPosition, isEnd, start, countSteps}
 use Rattle.tables.specs.Check.{tablesNumber}
 use Rattle.tables.specs.Answers.{startAnswer, startNumber, stepsAnswer, stepsNumber}
 use Rattle.tables.specs.declared.Position.{Position}
@@ -18,15 +19,34 @@ use Rattle.tables.specs.declared.StartAnswer.the-variants.{NoStart, StartIs}
 use Rattle.tables.specs.declared.StepsAnswer.{StepsAnswer}
 use Rattle.tables.specs.declared.StepsAnswer.the-variants.{NoSteps, StepsAre}
 use Rattle.capi_out.specs.Out.{outAnswer, outNumbers}
-use Rattle.capi_tables.specs.Tables.{positionNumbers, startNumbers, stepsNumbers}
+use Rattle.capi_tables.specs.Tables.{positionNumbers, positionGiven, startNumbers, stepsNumbers}
 use Rattle.capi_out.proofs.OutLaws.{out-refused, out-short, out-done}
 
--- ## The start
+-- ## The position
 
 pub position-put : (l x y z : List ℕ) (p : Position) → x ≡ set l 0 (p .stage) → y ≡ set x 1 (p .row) → z ≡ set y 2 (p .part) →
     z ≡ sets l 0 (positionNumbers p)
 unfolding positionNumbers
 position-put l x y z p a b c = rw (c, b, a)
+
+pub given-other : (l : List ℕ) → (length l ≡ 3 → ⊥) → place 0 0 0 ≡ positionGiven l
+unfolding positionGiven
+given-other l h = rw (ne-eqb _ _ h)
+
+pub given-three : (l : List ℕ) → length l ≡ 3 → place (getD l 0 0) (getD l 1 0) (getD l 2 0) ≡ positionGiven l
+unfolding positionGiven
+given-three l h = rw (eq-eqb _ _ h)
+
+-- a position that exists was handed in as three numbers
+pub given-is : (T : Tables) (l : List ℕ) (at : Position) → at ≡ positionGiven l → isPosition T at ≡ true → length l ≡ 3
+unfolding positionGiven isPosition isEnd place
+given-is T l at g h = go (eqb (length l) 3) refl (ap (isPosition T) (sym g) ∙ h)
+  where
+    go : (b : Bool) → eqb (length l) 3 ≡ b → isPosition T (cond b (place (getD l 0 0) (getD l 1 0) (getD l 2 0)) (place 0 0 0)) ≡ true → length l ≡ 3
+    go true e k = eqb-true (length l) 3 e
+    go false e k = absurd (true≢false (sym k))
+
+-- ## The start
 
 -- a refusal has a number of its own
 start-refusal : (t n : ℕ) (b : Bool) (p : Position) → eqb t 0 ≡ b → cond b (StartIs p) (NoStart t) ≡ NoStart n → n ≡ 0 → ⊥

@@ -1,4 +1,4 @@
-// Where a run starts and how many steps it takes, as numbers.
+// Positions, where a run starts and how many steps it takes, as numbers.
 use tables::Position;
 use tables::StartAnswer;
 use tables::StepsAnswer;
@@ -8,7 +8,25 @@ ghost use lib.ListN.{length};
 ghost use lib.Seq.{sets};
 ghost use Rattle.tables.specs.Answers.{startAnswer, startNumber, stepsAnswer, stepsNumber};
 ghost use Rattle.capi_out.specs.Out.{outAnswer, outNumbers};
-ghost use Rattle.capi_tables.specs.Tables.{positionNumbers, startNumbers, stepsNumbers};
+ghost use Rattle.capi_tables.specs.Tables.{positionNumbers, positionGiven, startNumbers, stepsNumbers};
+
+// The position that is handed in; another amount than three numbers is none.
+pub fn position_given(position: &[u64]) -> Position
+    ensures { λ p. ⌜ p ≡ positionGiven (now (position .entry)) ⌝ }
+{
+    if position.len() != 3 {
+        return Position {
+            stage: 0,
+            row: 0,
+            part: 0,
+        };
+    }
+    Position {
+        stage: position[0],
+        row: position[1],
+        part: position[2],
+    }
+}
 
 // Stores the three numbers of a position.
 pub fn put_position(out: &mut [u64], at: Position)

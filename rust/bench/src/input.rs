@@ -1,12 +1,16 @@
 //! Tables at full size.
 
+use numbers::fid::{BYTES as FID, ID_AT, VERSION_AT};
+use numbers::layout::{HEADER_ONE, HOLES, LAST_OST, MAGIC_ONE, SLOT_OST_AT};
+use numbers::{layout, object, parent};
+
 /// The slots of a file; the last file of a table may have fewer.
-const SLOTS: usize = 160;
-const PARENT: usize = 3915;
-const OBJECT: usize = 46;
+const SLOTS: usize = layout::MOST_SLOTS;
+const PARENT: usize = parent::BYTES;
+const OBJECT: usize = object::BYTES;
 /// Where the slots of a layout of version 1 start in a parent row.
-const SLOTS_AT: usize = 27 + 32;
-const SLOT: usize = 24;
+const SLOTS_AT: usize = parent::LAYOUT_AT + HEADER_ONE;
+const SLOT: usize = layout::SLOT_BYTES;
 
 const FILES: u64 = 0x2_0000_0401;
 const OBJECTS: u64 = 0x2_4000_0400;
@@ -53,9 +57,9 @@ impl Tables {
         bytes.push(1);
         bytes.extend(fid(FILES, id, 0));
         bytes.extend(owner());
-        bytes.extend((32 + SLOT as u16 * slots as u16).to_le_bytes());
-        bytes.extend(0x0BD1_0BD0_u32.to_le_bytes());
-        bytes.extend(0x4000_0001_u32.to_le_bytes());
+        bytes.extend(((HEADER_ONE + SLOT * slots) as u16).to_le_bytes());
+        bytes.extend(MAGIC_ONE.to_le_bytes());
+        bytes.extend(HOLES.to_le_bytes());
         bytes.extend(u64::from(id).to_le_bytes());
         bytes.extend(FILES.to_le_bytes());
         bytes.extend(1_048_576_u32.to_le_bytes());
@@ -67,10 +71,10 @@ impl Tables {
     fn add_object(&mut self, number: usize, slot: usize) {
         let id = number as u32 + 1;
         let (row, index) = (slot / SLOTS, slot % SLOTS);
-        let ost = (number % 65_536) as u32;
+        let ost = number as u32 % (LAST_OST + 1);
         let bytes = self.slot_mut(slot);
-        bytes[..16].copy_from_slice(&fid(OBJECTS, id, 0));
-        bytes[20..].copy_from_slice(&ost.to_le_bytes());
+        bytes[..FID].copy_from_slice(&fid(OBJECTS, id, 0));
+        bytes[SLOT_OST_AT..].copy_from_slice(&ost.to_le_bytes());
         self.objects.push(1);
         self.objects.extend(fid(OBJECTS, id, 0));
         self.objects.extend(ost.to_le_bytes());
@@ -91,7 +95,7 @@ impl Tables {
             let name = fid(OBJECTS, (2_000_000 + slot) as u32, 0);
             let bytes = self.slot_mut(slot);
             if bytes.iter().all(|&byte| byte == 0) {
-                bytes[..16].copy_from_slice(&name);
+                bytes[..FID].copy_from_slice(&name);
             }
         }
     }
@@ -111,15 +115,15 @@ impl Tables {
                 // The slot names another file's object, and its own is gone.
                 1 => {
                     let name = fid(OBJECTS, other as u32 + 1, 0);
-                    self.slot_mut(slot)[..16].copy_from_slice(&name);
+                    self.slot_mut(slot)[..FID].copy_from_slice(&name);
                     self.objects[row..row + OBJECT].fill(0);
                 }
                 // The object claims nothing.
-                2 => self.objects[row + 29..row + 45].fill(0),
+                2 => self.objects[row + object::CLAIM_AT..row + object::FRESH_AT].fill(0),
                 // It claims another slot.
-                3 => self.objects[row + 41] ^= 0x80,
+                3 => self.objects[row + object::CLAIM_AT + VERSION_AT] ^= 0x80,
                 // It has another owner.
-                4 => self.objects[row + 21] ^= 1,
+                4 => self.objects[row + object::OWNER_AT] ^= 1,
                 // The slot is a hole, and the object an orphan.
                 _ => self.slot_mut(slot).fill(0),
             }
@@ -127,12 +131,12 @@ impl Tables {
     }
 }
 
-/// The 16 bytes of a FID.
-fn fid(sequence: u64, id: u32, version: u32) -> [u8; 16] {
-    let mut bytes = [0; 16];
-    bytes[..8].copy_from_slice(&sequence.to_le_bytes());
-    bytes[8..12].copy_from_slice(&id.to_le_bytes());
-    bytes[12..].copy_from_slice(&version.to_le_bytes());
+/// The bytes of a FID.
+fn fid(sequence: u64, id: u32, version: u32) -> [u8; FID] {
+    let mut bytes = [0; FID];
+    bytes[..ID_AT].copy_from_slice(&sequence.to_le_bytes());
+    bytes[ID_AT..VERSION_AT].copy_from_slice(&id.to_le_bytes());
+    bytes[VERSION_AT..].copy_from_slice(&version.to_le_bytes());
     bytes
 }
 

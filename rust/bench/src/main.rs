@@ -6,20 +6,21 @@ use std::time::Duration;
 use bench::input::Tables;
 use bench::measure::{Timed, Times, side_by_side, timed};
 use bench::plain;
+use numbers::call::{self, END};
+use numbers::layout::MOST_SLOTS as SLOTS;
+use numbers::{object, parent, reserve};
 
 /// The ratio that the library is to keep to.
 const MOST_RATIO: f64 = 1.3;
 /// How often each measurement is taken, unless the command line says otherwise.
 const ROUNDS: usize = 3;
-/// The slots of a file.
-const SLOTS: usize = 160;
 /// Create and adopt.
-const POLICY: u64 = 3;
+const POLICY: u64 = call::BOTH;
 /// The sizes between which the growth is measured.
 const SIZES: [usize; 5] = [10_000, 20_000, 40_000, 80_000, 160_000];
 
 /// Answer, position, report and tables after a run.
-type Ran = (u32, [u64; 3], [u64; 9], Tables);
+type Ran = (u32, [u64; call::POSITION], [u64; call::REPORT], Tables);
 
 fn main() {
     let rounds = std::env::args().nth(1);
@@ -30,6 +31,7 @@ fn main() {
     measure_check(rounds);
     let classes = measure_growth(rounds);
     measure_run(rounds);
+    measure_listing(rounds);
     let [least, most] = [SIZES[0], SIZES[SIZES.len() - 1]];
     println!(
         "\nFrom {} to {} slots, {} times as many, the classes grow by{}.",
@@ -42,14 +44,14 @@ fn main() {
 
 /// The check of full tables.
 fn measure_check(rounds: usize) {
-    let mut tables = Tables::clean(1024 * SLOTS, 65_536, 65_536);
-    tables.fill(1024 * SLOTS);
+    let slots = parent::MOST * SLOTS;
+    let mut tables = Tables::clean(slots, object::MOST, reserve::MOST);
+    tables.fill(slots);
     let (parents, objects, reserve) = (&tables.parents, &tables.objects, &tables.reserve);
-    let end = [3, 0, 0];
     let times = side_by_side(
         rounds,
-        || timed(|| lfsck_sys::check(parents, objects, reserve, 3, end)),
-        || timed(|| plain::check(parents, objects, reserve, 3, end)),
+        || timed(|| lfsck_sys::check(parents, objects, reserve, POLICY, END)),
+        || timed(|| plain::check(parents, objects, reserve, POLICY, END)),
     );
     let what = "check: 1,024 files of 160 slots, 65,536 objects, 65,536 reserve FIDs";
     print_line(what, times, "");
@@ -59,7 +61,7 @@ fn measure_check(rounds: usize) {
 fn measure_growth(rounds: usize) -> Vec<Times> {
     let mut all: Vec<Times> = Vec::new();
     for slots in SIZES {
-        let objects = slots * 65_536 / 160_000;
+        let objects = slots * object::MOST / SIZES[SIZES.len() - 1];
         let times = measure_classes(slots, objects, rounds);
         let growth = all.last().map(|before| growth(*before, times));
         let (slots, objects) = (grouped(slots), grouped(objects));
@@ -81,23 +83,76 @@ fn measure_classes(slots: usize, objects: usize, rounds: usize) -> Times {
     )
 }
 
+/// The tables of the line for a run and of the one for all classes.
+fn damaged() -> Tables {
+    let slots = 1000 * SLOTS;
+    let mut tables = Tables::clean(slots, object::MOST, reserve::MOST);
+    tables.damage(slots);
+    tables
+}
+
+/// What they are.
+const DAMAGED: &str = "1,000 files of 160 slots, 65,536 objects, one slot in a hundred damaged";
+
 /// A whole run on damaged tables.
 fn measure_run(rounds: usize) {
-    let slots = 1000 * SLOTS;
-    let mut tables = Tables::clean(slots, 65_536, 65_536);
-    tables.damage(slots);
+    let tables = damaged();
     let times = side_by_side(
         rounds,
         || repaired(run(&tables, lfsck_run)),
         || repaired(run(&tables, plain::run)),
     );
-    let what =
-        "run, policy 3: 1,000 files of 160 slots, 65,536 objects, one slot in a hundred damaged";
-    print_line(what, times, "");
+    print_line(&format!("run, policy 3: {DAMAGED}"), times, "");
+}
+
+/// All classes of the same tables in one call.
+fn measure_listing(rounds: usize) {
+    let tables = damaged();
+    let times = side_by_side(
+        rounds,
+        || list(&tables, lfsck_classes),
+        || list(&tables, plain::classes),
+    );
+    print_line(&format!("all classes in one call: {DAMAGED}"), times, "");
+}
+
+/// All classes by either side.
+type ListCall = fn(&[u8], &[u8], &mut [u64; call::POSITION], &mut [u64], &mut u64) -> u32;
+
+/// The library's classes.
+fn lfsck_classes(
+    parents: &[u8],
+    objects: &[u8],
+    position: &mut [u64; call::POSITION],
+    out: &mut [u64],
+    done: &mut u64,
+) -> u32 {
+    lfsck_sys::classes(parents, objects, position, out, std::slice::from_mut(done))
+}
+
+/// Times the classes from the start, all of which must be told.
+fn list(tables: &Tables, call: ListCall) -> Timed<Vec<u64>> {
+    let (parents, objects) = (&tables.parents, &tables.objects);
+    let mut steps = [0];
+    assert_eq!(lfsck_sys::steps(parents, objects, &mut steps), 0);
+    let mut out = vec![0; 4 * steps[0] as usize];
+    let (mut position, mut done) = ([1, 0, 0], 0);
+    let Timed { result, took } =
+        timed(|| call(parents, objects, &mut position, &mut out, &mut done));
+    assert_eq!((result, position, done), (0, END, steps[0]));
+    Timed { result: out, took }
 }
 
 /// A run by either side.
-type RunCall = fn(&mut [u8], &mut [u8], &[u8], u64, u64, &mut [u64; 3], &mut [u64; 9]) -> u32;
+type RunCall = fn(
+    &mut [u8],
+    &mut [u8],
+    &[u8],
+    u64,
+    u64,
+    &mut [u64; call::POSITION],
+    &mut [u64; call::REPORT],
+) -> u32;
 
 /// The library's run.
 fn lfsck_run(
@@ -106,8 +161,8 @@ fn lfsck_run(
     reserve: &[u8],
     policy: u64,
     most: u64,
-    position: &mut [u64; 3],
-    report: &mut [u64; 9],
+    position: &mut [u64; call::POSITION],
+    report: &mut [u64; call::REPORT],
 ) -> u32 {
     lfsck_sys::run(parents, objects, reserve, policy, most, position, report)
 }
@@ -119,7 +174,7 @@ fn run(tables: &Tables, call: RunCall) -> Timed<Ran> {
         mut objects,
         reserve,
     } = tables.clone();
-    let (mut position, mut report) = ([1, 0, 0], [0; 9]);
+    let (mut position, mut report) = ([1, 0, 0], [0; call::REPORT]);
     let Timed { result, took } = timed(|| {
         call(
             &mut parents,
@@ -131,7 +186,7 @@ fn run(tables: &Tables, call: RunCall) -> Timed<Ran> {
             &mut report,
         )
     });
-    assert_eq!((result, position), (0, [3, 0, 0]));
+    assert_eq!((result, position), (0, END));
     let after = Tables {
         parents,
         objects,
@@ -146,7 +201,7 @@ fn run(tables: &Tables, call: RunCall) -> Timed<Ran> {
 /// A run that had nothing to repair.
 fn unchanged(run: Timed<Ran>, before: &Tables) -> Timed<Ran> {
     let (_, _, report, after) = &run.result;
-    assert_eq!(report[1..], [0; 8]);
+    assert_eq!(report[1..], [0; call::COUNTED]);
     assert!(after == before, "a run changed clean tables");
     run
 }

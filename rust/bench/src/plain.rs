@@ -9,10 +9,12 @@ mod bytes;
 mod check;
 mod class;
 mod layout;
+mod listing;
 mod position;
 mod repair;
 mod run;
 mod search;
 
 pub use check::check;
+pub use listing::classes;
 pub use run::run;

@@ -53,6 +53,36 @@ fn runs_are_those_of_the_library() {
 }
 
 #[test]
+fn the_classes_are_those_of_the_library() {
+    let mut random = Random::for_test("plain classes");
+    let mut met = [0_u64; 14];
+    for _ in 0..20_000 {
+        let (parents, objects) = to_bytes(&random_tables(SHAPE, &mut random), &mut random);
+        let mut start = [0; 3];
+        assert_eq!(lfsck_sys::start(&parents, &objects, &mut start), 0);
+        let room = random.below(200);
+        let places = random.numbers(room);
+        let (mut position, mut out, mut done) = (start, places.clone(), [0]);
+        let answer = lfsck_sys::classes(&parents, &objects, &mut position, &mut out, &mut done);
+        let (mut plain_position, mut plain_out, mut plain_done) = (start, places, 0);
+        let plain_answer = plain::classes(
+            &parents,
+            &objects,
+            &mut plain_position,
+            &mut plain_out,
+            &mut plain_done,
+        );
+        assert_eq!(plain_answer, answer);
+        assert_eq!((plain_position, plain_done), (position, done[0]));
+        assert_eq!(plain_out, out);
+        let told = out.chunks(4).take(done[0] as usize);
+        told.for_each(|class| met[class[0] as usize] += 1);
+    }
+    println!("{met:?}");
+    assert!(met.iter().all(|&count| count > 100), "{met:?}");
+}
+
+#[test]
 fn the_check_is_that_of_the_library() {
     let mut random = Random::for_test("plain check");
     for _ in 0..20_000 {

@@ -1,6 +1,9 @@
 //! Random tables that pass the check, from few FIDs, so that rows, slots and claims meet.
 
 use crate::Random;
+use numbers::fid::VERSION_AT;
+use numbers::layout::{LAST_OST, MOST_SLOTS, POOL_BYTES};
+use numbers::{object, parent};
 use reference::fid::{FIRST_SEQUENCE, Fid, LAST_SEQUENCE};
 use reference::layout::{Layout, Stripe, Version};
 use reference::tables::{Claim, OBJECT_BYTES, Object, Owner, PARENT_BYTES, Parent, Tables};
@@ -43,6 +46,15 @@ pub struct Shape {
     /// The first so many of [`OBJECTS`].
     pub fids: usize,
 }
+
+/// Few files and few objects, so that slots, claims and rows name the same ones.
+pub const TINY: Shape = Shape {
+    parents: 4,
+    objects: 6,
+    slots: 3,
+    files: 3,
+    fids: 4,
+};
 
 /// Tables within a shape.
 pub fn random_tables(shape: Shape, random: &mut Random) -> Tables {
@@ -94,7 +106,7 @@ fn random_version(random: &mut Random) -> Version {
     if random.one_in(2) {
         Version::One
     } else {
-        Version::Three(random.bytes(16).try_into().expect("16 bytes"))
+        Version::Three(random.bytes(POOL_BYTES).try_into().expect("a pool name"))
     }
 }
 
@@ -160,8 +172,9 @@ fn random_claim(
 
 /// An index that a slot can have, or now and then one at or past the bounds.
 fn random_index(shape: Shape, random: &mut Random) -> u32 {
+    const MOST: u32 = MOST_SLOTS as u32;
     match random.below(16) {
-        0 => random.pick(&[159, 160, 161, 65_536, u32::MAX]),
+        0 => random.pick(&[MOST - 1, MOST, MOST + 1, 65_536, u32::MAX]),
         _ => random.below(shape.slots + 1) as u32,
     }
 }
@@ -174,7 +187,7 @@ fn random_owner(random: &mut Random) -> Owner {
 }
 
 fn random_ost(random: &mut Random) -> u32 {
-    random.pick(&[0, 1, 2, 65_535])
+    random.pick(&[0, 1, 2, LAST_OST])
 }
 
 /// Both tables as bytes. What no rule speaks of, unused rows and the room past a layout, is
@@ -195,4 +208,37 @@ pub fn to_bytes(tables: &Tables, random: &mut Random) -> (Vec<u8>, Vec<u8>) {
         }
     }
     (parents, objects)
+}
+
+/// Now and then damages tables so that most of them no longer pass the check, with any of its
+/// answers; tells whether it did.
+pub fn damage(parents: &mut Vec<u8>, objects: &mut Vec<u8>, random: &mut Random) -> bool {
+    match random.below(16) {
+        0 => parents.truncate(parents.len().saturating_sub(1)),
+        1 => objects.truncate(objects.len().saturating_sub(1)),
+        2 => parents.iter_mut().take(1).for_each(|mark| *mark |= 2),
+        // The lengths of all layouts, the versions of all objects.
+        3 => parents
+            .chunks_mut(PARENT_BYTES)
+            .for_each(|row| row[parent::LENGTH_AT] ^= 1),
+        4 => objects
+            .chunks_mut(OBJECT_BYTES)
+            .for_each(|row| row[object::SELF_AT + VERSION_AT] = 1),
+        5 => repeat_rows(parents, PARENT_BYTES),
+        6 => repeat_rows(objects, OBJECT_BYTES),
+        _ => return false,
+    }
+    true
+}
+
+/// Every row once more.
+fn repeat_rows(table: &mut Vec<u8>, size: usize) {
+    let whole = table.len() / size * size;
+    table.extend_from_within(..whole);
+}
+
+/// The tables for a message, read as rows where that can be done.
+pub fn describe(parents: &[u8], objects: &[u8]) -> String {
+    let (tables, faults) = reference::check::read_tables(parents, objects);
+    format!("{tables:#?}, with the faults {faults:?}")
 }

@@ -3,25 +3,15 @@
 use std::hint::black_box;
 use std::time::Instant;
 
-use difftest::tables::{Shape, random_tables, to_bytes};
+use difftest::tables::{TINY, damage, describe, random_tables, to_bytes};
 use difftest::{Coverage, Random};
 use reference::class::{Class, Denial, Way, way_to};
 use reference::fid::Fid;
 use reference::interface;
 use reference::position::Position;
 use reference::site::{Place, Reason, Site};
-use reference::tables::{OBJECT_BYTES, PARENT_BYTES};
 
 const CLASSES: u64 = 1_000_000;
-
-/// Few files and few objects, so that slots, claims and rows name the same ones.
-const TINY: Shape = Shape {
-    parents: 4,
-    objects: 6,
-    slots: 3,
-    files: 3,
-    fids: 4,
-};
 
 /// Everything that the test is to meet.
 struct Seen {
@@ -161,12 +151,6 @@ fn compare(
     }
 }
 
-/// The tables for a message, read as rows where that can be done.
-fn describe(parents: &[u8], objects: &[u8]) -> String {
-    let (tables, faults) = reference::check::read_tables(parents, objects);
-    format!("{tables:#?}, with the faults {faults:?}")
-}
-
 /// A position that is not there, and tables that do not pass the check.
 fn compare_refusals(
     mut parents: Vec<u8>,
@@ -178,27 +162,11 @@ fn compare_refusals(
     let part = random.pick(&[0, 1, 2, 4, 161, u64::MAX]);
     let position = [random.below(5) as u64, row, part];
     compare(&parents, &objects, position, random, seen);
-    match random.below(16) {
-        0 => parents.truncate(parents.len().saturating_sub(1)),
-        1 => objects.truncate(objects.len().saturating_sub(1)),
-        2 => parents.iter_mut().take(1).for_each(|mark| *mark |= 2),
-        // The lengths of all layouts, the versions of all objects.
-        3 => parents
-            .chunks_mut(PARENT_BYTES)
-            .for_each(|row| row[25] ^= 1),
-        4 => objects.chunks_mut(OBJECT_BYTES).for_each(|row| row[13] = 1),
-        5 => repeat_rows(&mut parents, PARENT_BYTES),
-        6 => repeat_rows(&mut objects, OBJECT_BYTES),
-        _ => return,
+    if !damage(&mut parents, &mut objects, random) {
+        return;
     }
     compare(&parents, &objects, position, random, seen);
     compare(&parents, &objects, [1, 0, 0], random, seen);
-}
-
-/// Every row once more.
-fn repeat_rows(table: &mut Vec<u8>, size: usize) {
-    let whole = table.len() / size * size;
-    table.extend_from_within(..whole);
 }
 
 /// Counts how the keeper of each object that a slot names was chosen.

@@ -1,5 +1,8 @@
 //! The library's numbers in words.
 
+use numbers::answer;
+
+use crate::bar::{Bar, Work};
 use crate::faults::{Fault, faults};
 use crate::outcome::Failure;
 use crate::tables::Tables;
@@ -7,18 +10,18 @@ use crate::tables::Tables;
 /// What a number of document 01 means.
 pub fn meaning(number: u32) -> &'static str {
     match number {
-        0 => "end reached",
-        1 => "steps used up, end not reached",
-        11 => "table not whole rows, too long, or a mark not 0 or 1",
-        12 => "policy above 3",
-        13 => "layout against the rules",
-        14 => "bad FID, object index or claim, or fresh without claim",
-        15 => "a FID twice among used parents, or twice among used objects",
-        16 => "no such position",
-        17 => "no room for the answer",
-        21 => "a slot is to be redirected, and no FID of the reserve can be used",
-        22 => "an object is to be made, and no object row is unused",
-        23 => "a file is to be made, and no parent row is unused",
+        answer::OK => "end reached",
+        answer::STEPS_USED => "steps used up, end not reached",
+        answer::BAD_TABLE => "table not whole rows, too long, or a mark not 0 or 1",
+        answer::BAD_POLICY => "policy above 3",
+        answer::BAD_LAYOUT => "layout against the rules",
+        answer::BAD_FID => "bad FID, object index or claim, or fresh without claim",
+        answer::FID_TWICE => "a FID twice among used parents, or twice among used objects",
+        answer::NO_POSITION => "no such position",
+        answer::NO_ROOM => "no room for the answer",
+        answer::NO_RESERVE => "a slot is to be redirected, and no FID of the reserve can be used",
+        answer::NO_OBJECT_ROW => "an object is to be made, and no object row is unused",
+        answer::NO_PARENT_ROW => "a file is to be made, and no parent row is unused",
         _ => "an unknown answer",
     }
 }
@@ -33,8 +36,12 @@ pub fn fault_line(fault: &Fault) -> String {
     }
 }
 
+/// What is shown while the library checks the tables.
+pub const CHECKING: Work = Work::Unmeasured("checking the tables");
+
 /// Ends a command on tables that do not pass the check.
-pub fn require_sound(tables: &Tables) -> Result<(), Failure> {
+pub fn require_sound(tables: &Tables, bar: &Bar) -> Result<(), Failure> {
+    bar.turn_to(CHECKING);
     match tables.check() {
         0 => Ok(()),
         number => Err(refusal(number, tables)),
@@ -50,7 +57,6 @@ pub fn refusal(number: u32, tables: &Tables) -> Failure {
         0 | 1 => "",
         _ => "; lfsck-offline check lists all that is wrong",
     };
-    Failure::refused(format!(
-        "the tables are refused with {number}: {first}{more}"
-    ))
+    let message = format!("the tables are refused with {number}: {first}{more}");
+    Failure::answered(number, message)
 }

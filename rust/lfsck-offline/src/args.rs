@@ -2,9 +2,13 @@
 
 use std::ffi::{OsStr, OsString};
 use std::path::PathBuf;
+use std::str::FromStr;
+
+use numbers::call::{ADOPT, CREATE};
 
 use crate::class;
-use crate::fid::Fid;
+use crate::fid::{Fid, MdtFid, OstFid};
+use crate::filter::{Filter, OwnerPattern};
 use crate::help::Topic;
 use crate::outcome::Failure;
 
@@ -13,16 +17,33 @@ use crate::outcome::Failure;
 pub enum Command {
     /// Say how a command is used.
     Help(Topic),
+    /// Say which version this is.
+    Version,
     /// Make a case.
     Sample,
     /// Check the tables.
     Check,
-    /// List the findings, of one class or of all.
-    Classes(Option<usize>),
+    /// List the findings.
+    Classes(ClassesOptions),
     /// Repair.
     Run(RunOptions),
     /// Show a file or an object.
     Show(Fid),
+    /// Tell what was done, to one file or object or to all.
+    Log(Option<Fid>),
+    /// Take the last run back.
+    Undo,
+}
+
+/// What to list, and how.
+#[derive(Clone, Debug, Default, PartialEq, Eq)]
+pub struct ClassesOptions {
+    /// Which positions.
+    pub filter: Filter,
+    /// Their number by class alone.
+    pub summary: bool,
+    /// Let the exit status tell whether there is something to mend.
+    pub exit_code: bool,
 }
 
 /// How to repair.
@@ -34,6 +55,10 @@ pub struct RunOptions {
     pub steps: Option<u64>,
     /// Leave the saved position aside.
     pub from_start: bool,
+    /// Write nothing.
+    pub dry_run: bool,
+    /// Leave out the list of changes.
+    pub summary: bool,
 }
 
 /// A command, the case and the form of the output.
@@ -47,6 +72,9 @@ pub struct Call {
     pub json: bool,
 }
 
+/// The options that narrow a list.
+const FILTERS: [&str; 5] = ["--only", "--file", "--object", "--ost", "--owner"];
+
 /// The words of a command line, sorted.
 #[derive(Default)]
 struct Words {
@@ -56,8 +84,11 @@ struct Words {
     create: bool,
     adopt: bool,
     from_start: bool,
+    dry_run: bool,
+    summary: bool,
+    exit_code: bool,
     steps: Option<String>,
-    only: Option<String>,
+    filter: Filter,
 }
 
 impl Call {
@@ -67,19 +98,35 @@ impl Call {
         let Some(name) = words.next() else {
             return Err(Failure::usage("a command is missing"));
         };
-        let Some(topic) = Topic::of_word(&name) else {
-            let name = name.display();
-            return Err(Failure::usage(format!("there is no command '{name}'")));
-        };
-        let words = Words::sort(words, topic)?;
-        if words.help || topic == Topic::All {
+        if name == "--version" || name == "-V" {
+            let words = Words::sort(words, Topic::All)?;
+            words.expect_places(0)?;
             return Ok(Call {
-                command: Command::Help(topic),
-                directory: PathBuf::new(),
-                json: false,
+                json: words.json,
+                ..Call::without_case(Command::Version)
             });
         }
-        words.call(topic)
+        let topic = topic_of(&name)?;
+        let words = Words::sort(words, topic)?;
+        match topic {
+            Topic::All => Ok(Call::without_case(Command::Help(words.topic()?))),
+            _ if words.help => Ok(Call::without_case(Command::Help(topic))),
+            _ => words.call(topic),
+        }
+    }
+
+    /// Whether the words ask for JSON, also where they make no call.
+    pub fn wants_json(words: impl IntoIterator<Item = OsString>) -> bool {
+        let mut options = words.into_iter().take_while(|word| word != "--");
+        options.any(|word| word == "--json")
+    }
+
+    fn without_case(command: Command) -> Call {
+        Call {
+            command,
+            directory: PathBuf::new(),
+            json: false,
+        }
     }
 }
 
@@ -119,24 +166,57 @@ impl Words {
         };
         match (topic, name) {
             (Topic::Run, "--steps") => self.steps = Some(value_of(name)?),
-            (Topic::Classes, "--only") => self.only = Some(value_of(name)?),
+            (Topic::Classes, name) if FILTERS.contains(&name) => {
+                self.add_filter(name, &value_of(name)?)?;
+            }
             (_, _) if value.is_some() => return Err(unknown(option)),
             (_, "--help" | "-h") => self.help = true,
             (_, "--json") => self.json = true,
             (Topic::Run, "--create") => self.create = true,
             (Topic::Run, "--adopt") => self.adopt = true,
             (Topic::Run, "--from-start") => self.from_start = true,
+            (Topic::Run, "--dry-run" | "-n") => self.dry_run = true,
+            (Topic::Classes | Topic::Run, "--summary") => self.summary = true,
+            (Topic::Classes, "--exit-code") => self.exit_code = true,
             _ => return Err(unknown(option)),
         }
         Ok(())
     }
 
-    fn call(mut self, topic: Topic) -> Result<Call, Failure> {
-        let wanted = if topic == Topic::Show { 2 } else { 1 };
-        if self.places.len() > wanted {
-            let word = self.places[wanted].display().to_string();
-            return Err(Failure::usage(format!("'{word}' is one word too many")));
+    fn add_filter(&mut self, name: &str, value: &str) -> Result<(), Failure> {
+        let filter = &mut self.filter;
+        match name {
+            "--only" => filter.classes.push(class_of(value)?),
+            "--file" => filter.files.push(MdtFid(fid_of(value)?)),
+            "--object" => filter.objects.push(OstFid(fid_of(value)?)),
+            "--ost" => filter.osts.push(number(value, "OST index")?),
+            _ => filter.owners.push(owner_of(value)?),
         }
+        Ok(())
+    }
+
+    /// At most so many words that are no options.
+    fn expect_places(&self, most: usize) -> Result<(), Failure> {
+        match self.places.get(most) {
+            None => Ok(()),
+            Some(word) => {
+                let word = word.display();
+                Err(Failure::usage(format!("'{word}' is one word too many")))
+            }
+        }
+    }
+
+    /// What help is asked for: of a command, or of all.
+    fn topic(&self) -> Result<Topic, Failure> {
+        self.expect_places(1)?;
+        self.places
+            .first()
+            .map_or(Ok(Topic::All), |name| topic_of(name))
+    }
+
+    fn call(mut self, topic: Topic) -> Result<Call, Failure> {
+        let takes_fid = matches!(topic, Topic::Show | Topic::Log);
+        self.expect_places(if takes_fid { 2 } else { 1 })?;
         if self.places.first().is_none_or(|place| place.is_empty()) {
             return Err(Failure::usage("the directory of the case is missing"));
         }
@@ -144,9 +224,16 @@ impl Words {
         let command = match topic {
             Topic::Sample => Command::Sample,
             Topic::Check => Command::Check,
-            Topic::Classes => Command::Classes(self.only.as_deref().map(class_of).transpose()?),
+            Topic::Classes => Command::Classes(ClassesOptions {
+                filter: self.filter,
+                summary: self.summary,
+                exit_code: self.exit_code,
+            }),
             Topic::Run => Command::Run(self.run_options()?),
-            Topic::Show => Command::Show(fid_of(self.places.first())?),
+            Topic::Show => Command::Show(self.shown()?),
+            Topic::Log if self.places.is_empty() => Command::Log(None),
+            Topic::Log => Command::Log(Some(self.shown()?)),
+            Topic::Undo => Command::Undo,
             Topic::All => Command::Help(topic),
         };
         Ok(Call {
@@ -157,22 +244,42 @@ impl Words {
     }
 
     fn run_options(&self) -> Result<RunOptions, Failure> {
-        let number = |text: &String| {
-            text.parse::<u64>()
-                .ok()
-                .filter(|_| text.bytes().all(|digit| digit.is_ascii_digit()))
-                .ok_or_else(|| Failure::usage(format!("'{text}' is no number of steps")))
-        };
+        let steps = self.steps.as_ref();
         Ok(RunOptions {
-            policy: u64::from(self.create) + 2 * u64::from(self.adopt),
-            steps: self.steps.as_ref().map(number).transpose()?,
+            policy: CREATE * u64::from(self.create) + ADOPT * u64::from(self.adopt),
+            steps: steps
+                .map(|steps| number(steps, "number of steps"))
+                .transpose()?,
             from_start: self.from_start,
+            dry_run: self.dry_run,
+            summary: self.summary,
         })
+    }
+
+    /// The FID of what is to be shown.
+    fn shown(&self) -> Result<Fid, Failure> {
+        let missing = || Failure::usage("the FID is missing");
+        let word = self.places.first().ok_or_else(missing)?;
+        fid_of(&word.to_string_lossy())
     }
 }
 
 fn unknown(option: &str) -> Failure {
     Failure::usage(format!("there is no option '{option}' here"))
+}
+
+fn topic_of(name: &OsStr) -> Result<Topic, Failure> {
+    Topic::of_word(name).ok_or_else(|| {
+        let name = name.display();
+        Failure::usage(format!("there is no command '{name}'"))
+    })
+}
+
+/// A number in decimal digits alone.
+fn number<Number: FromStr>(text: &str, what: &str) -> Result<Number, Failure> {
+    let digits = text.bytes().all(|digit| digit.is_ascii_digit());
+    let number = text.parse().ok().filter(|_| digits);
+    number.ok_or_else(|| Failure::usage(format!("'{text}' is no {what}")))
 }
 
 fn class_of(name: &str) -> Result<usize, Failure> {
@@ -182,10 +289,20 @@ fn class_of(name: &str) -> Result<usize, Failure> {
         .ok_or_else(|| Failure::usage(format!("there is no class '{name}'")))
 }
 
-fn fid_of(word: Option<&OsString>) -> Result<Fid, Failure> {
-    let word = word.ok_or_else(|| Failure::usage("the FID is missing"))?;
-    let fid = OsStr::to_str(word).and_then(Fid::parse);
-    fid.ok_or_else(|| Failure::usage(format!("'{}' is no FID", word.display())))
+fn fid_of(word: &str) -> Result<Fid, Failure> {
+    Fid::parse(word).ok_or_else(|| Failure::usage(format!("'{word}' is no FID")))
+}
+
+/// A uid, or a uid and a gid.
+fn owner_of(word: &str) -> Result<OwnerPattern, Failure> {
+    let (uid, gid) = match word.split_once(':') {
+        Some((uid, gid)) => (uid, Some(number(gid, "gid")?)),
+        None => (word, None),
+    };
+    Ok(OwnerPattern {
+        uid: number(uid, "uid")?,
+        gid,
+    })
 }
 
 #[cfg(test)]
@@ -207,10 +324,12 @@ mod tests {
             policy: 3,
             steps: Some(7),
             from_start: true,
+            dry_run: true,
+            summary: true,
         });
         for line in [
-            "run d --create --adopt --steps 7 --from-start --json",
-            "run --json --from-start --steps=7 --adopt --create d",
+            "run d --create --adopt --steps 7 --from-start --dry-run --summary --json",
+            "run --json --from-start --steps=7 -n --summary --adopt --create d",
         ] {
             let call = call(line);
             assert_eq!(call.command, expected);
@@ -219,13 +338,46 @@ mod tests {
         }
         assert_eq!(call("check -- -d").directory, PathBuf::from("-d"));
         assert_eq!(
-            call("classes d --only multiple").command,
-            Command::Classes(Some(3))
-        );
-        assert_eq!(
             call("show d [0x200000401:1:0]").command,
             Command::Show(Fid::new(0x2_0000_0401, 1))
         );
+    }
+
+    #[test]
+    fn a_log_is_of_all_or_of_one() {
+        assert_eq!(call("log d").command, Command::Log(None));
+        let one = Command::Log(Some(Fid::new(0x2_0000_0401, 1)));
+        assert_eq!(call("log d 0x200000401:1 --json").command, one);
+        assert_eq!(call("undo d").command, Command::Undo);
+    }
+
+    #[test]
+    fn filters_may_be_given_several_times() {
+        let Command::Classes(options) = call(
+            "classes d --only multiple --only=OWNER --file 0x200000401:1 --object 0x240000400:2 \
+             --ost 3 --ost=4 --owner 500 --owner 500:600 --summary --exit-code",
+        )
+        .command
+        else {
+            panic!("another command");
+        };
+        assert!(options.summary && options.exit_code);
+        let owner = |gid| OwnerPattern { uid: 500, gid };
+        let expected = Filter {
+            classes: vec![3, 7],
+            files: vec![MdtFid(Fid::new(0x2_0000_0401, 1))],
+            objects: vec![OstFid(Fid::new(0x2_4000_0400, 2))],
+            osts: vec![3, 4],
+            owners: vec![owner(None), owner(Some(600))],
+        };
+        assert_eq!(options.filter, expected);
+    }
+
+    #[test]
+    fn json_is_asked_for_before_the_options_end() {
+        let wants = |line: &str| Call::wants_json(line.split_whitespace().map(OsString::from));
+        assert!(wants("mend d --json") && wants("--json") && wants("check --json -- d"));
+        assert!(!wants("check -- --json") && !wants("check d"));
     }
 
     #[test]
@@ -235,9 +387,12 @@ mod tests {
             ("help", Topic::All),
             ("run --help", Topic::Run),
             ("show -h", Topic::Show),
+            ("help classes", Topic::Classes),
+            ("help help", Topic::All),
         ] {
             assert_eq!(call(line).command, Command::Help(topic));
         }
+        assert_eq!(call("--version").command, Command::Version);
     }
 
     #[test]
@@ -267,9 +422,25 @@ mod tests {
             "run d --steps +1",
             "run d --steps 18446744073709551616",
             "classes d --only GOOD",
+            "classes d --file 1",
+            "classes d --ost -1",
+            "classes d --owner 1:",
+            "classes d --owner alice",
+            "classes d --owner 4294967296",
+            "check d --summary",
+            "run d --exit-code",
+            "help mend",
+            "--version d",
+            "--version --create",
+            "help run show",
             "show d",
             "show d 1",
             "show d 1:2:3 e",
+            "log",
+            "log d 1",
+            "log d 1:2 e",
+            "undo d e",
+            "undo d --steps 1",
         ] {
             let failure = parse(line).expect_err(line);
             assert_eq!(failure.status, Status::Usage);

@@ -1,55 +1,73 @@
-//! A case: a directory with the tables, opened by one command at a time and saved at once.
-//!
-//! A save writes everything new into one file, the journal, and renames it into place; that is
-//! the moment of the save. Then each file is replaced, and the journal removed. Whoever opens
-//! the case completes a journal that is there, so after opening the files are all old or all
-//! new.
+//! A case: a directory with the tables, read by many commands or changed by one, and saved at
+//! once. Whoever opens it completes a save that was cut off, so after opening the files are all
+//! old or all new.
 
-use std::fs::{self, File, TryLockError};
+use std::fs;
 use std::path::Path;
 
 use crate::digest::Digest;
 use crate::disk::{Disk, trouble};
-use crate::journal::{self, Change};
+use crate::history::{Deed, Entry, LOG};
+use crate::journal::{Change, Edit};
+use crate::lock::{Share, lock};
 use crate::outcome::Failure;
+use crate::permissions::{Access, Permissions};
+use crate::save::{self, MOST_LOG, SAVED};
 use crate::saved::{self, POSITION, Saved};
+use crate::slices::Run;
 use crate::tables::{Table, Tables};
 
-const JOURNAL: &str = "lfsck-offline.journal";
-/// What the names of the tool's own files begin with.
-const OWN: &str = "lfsck-offline.";
-/// The files that a save may write.
-const SAVED: [&str; 4] = ["parents.tbl", "objects.tbl", "reserve.tbl", POSITION];
-/// More than a file of a case, or a journal of them all, can have.
-const MOST_BYTES: usize = 16 << 20;
+/// The room for an entry of the log and a position that a run is at least to have.
+const LOG_ROOM: usize = 64 << 10;
 
-/// A case that this process alone has open.
+/// A case that is open.
 pub struct Case {
     disk: Disk,
-    _lock: File,
+    /// What a journal that cannot be completed here says; its files are read through it.
+    through: Vec<Change>,
 }
 
 impl Case {
-    /// Opens a case, completing a save that was cut off.
+    /// Opens a case to be read, together with others who read it.
     pub fn open(directory: &Path) -> Result<Case, Failure> {
-        let metadata = fs::metadata(directory).map_err(|error| trouble(directory, &error))?;
-        if !metadata.is_dir() {
-            let message = format!("{}: this is not a directory", directory.display());
-            return Err(Failure::files(message));
-        }
-        let disk = Disk::new(directory);
-        if !disk.has(JOURNAL) {
-            for table in Table::ALL {
-                disk.require(table.file())?;
+        let disk = Disk::open(directory)?;
+        lock(disk.opened(), directory, Share::Readers)?;
+        let mut through = Vec::new();
+        while save::pending(&disk)?.is_some() {
+            lock(disk.opened(), directory, Share::Nobody)?;
+            let recovered = recover(&disk);
+            lock(disk.opened(), directory, Share::Readers)?;
+            match recovered {
+                Err(failure) if !disk.denied() => return Err(failure),
+                Err(_) => {
+                    through = save::pending(&disk)?.unwrap_or_default();
+                    tell(&disk, "a save was cut off; it is read from its journal");
+                    break;
+                }
+                Ok(()) => (),
             }
         }
-        Case::lock(directory, disk)
+        // What stays is removed by the next save.
+        let _ = save::clear(&disk);
+        Ok(Case { disk, through })
+    }
+
+    /// Opens a case to be changed, with nobody else.
+    pub fn open_alone(directory: &Path) -> Result<Case, Failure> {
+        let disk = Disk::open(directory)?;
+        lock(disk.opened(), directory, Share::Nobody)?;
+        recover(&disk)?;
+        let _ = save::clear(&disk);
+        Ok(Case {
+            disk,
+            through: Vec::new(),
+        })
     }
 
     /// Makes a case with these tables in a directory that has none of the files yet.
     pub fn make(directory: &Path, tables: &Tables) -> Result<(), Failure> {
         fs::create_dir_all(directory).map_err(|error| trouble(directory, &error))?;
-        let case = Case::lock(directory, Disk::new(directory))?;
+        let case = Case::open_alone(directory)?;
         if let Some(name) = SAVED.iter().find(|name| case.disk.has(name)) {
             let path = case.disk.path(name);
             let message = format!("{}: this is already there", path.display());
@@ -58,83 +76,40 @@ impl Case {
         let change = |table: Table| Change {
             name: table.file().to_string(),
             before: None,
-            after: tables.of(table).to_vec(),
+            edit: Edit::Put(tables.of(table).to_vec()),
         };
-        case.save(&Table::ALL.map(change))
+        save::save(&case.disk, &Table::ALL.map(change), Access::Own)
     }
 
-    /// Locks the directory itself, so that a case that cannot be written can still be read.
-    fn lock(directory: &Path, disk: Disk) -> Result<Case, Failure> {
-        let lock = File::open(directory).map_err(|error| trouble(directory, &error))?;
-        match lock.try_lock() {
-            Ok(()) => (),
-            Err(TryLockError::WouldBlock) => {
-                let directory = directory.display();
-                let message = format!("{directory}: another lfsck-offline has this case open");
-                return Err(Failure::files(message));
+    /// The bytes of a file, one more than `most` where it is longer; none where there is none.
+    fn find(&self, name: &str, most: usize) -> Result<Option<Vec<u8>>, Failure> {
+        let stands = || match self.disk.find(name, most)? {
+            None => Ok(None),
+            Some(found) => {
+                save::require_ours(&self.disk, name, found.permissions)?;
+                Ok(Some(found.bytes))
             }
-            Err(TryLockError::Error(error)) => return Err(trouble(directory, &error)),
-        }
-        let case = Case { disk, _lock: lock };
-        case.recover()?;
-        Ok(case)
-    }
-
-    /// Completes a save that was cut off after its journal was in place, and clears away what
-    /// one that was cut off before has left. A journal is in place only when the disk has all of
-    /// it; one that is not whole was spoilt by somebody else.
-    fn recover(&self) -> Result<(), Failure> {
-        if self.disk.has(JOURNAL) {
-            let journal = self.disk.read(JOURNAL, MOST_BYTES)?;
-            let changes = journal::decode(&journal);
-            let broken = || self.journal_trouble(JOURNAL, "this is no whole journal");
-            self.complete(&changes.ok_or_else(broken)?)?;
-        }
-        for name in SAVED.iter().chain([&JOURNAL]) {
-            let unfinished = unfinished(name);
-            if self.disk.has(&unfinished) {
-                // What stays is written over by the next save.
-                let _ = self.disk.remove(&unfinished);
+        };
+        let change = self.through.iter().find(|change| change.name == name);
+        match change.map(|change| &change.edit) {
+            None => stands(),
+            Some(Edit::Put(bytes)) => Ok(Some(bytes.clone())),
+            Some(Edit::Remove) => Ok(None),
+            Some(Edit::Append { from, more }) => {
+                let mut bytes = stands()?.unwrap_or_default();
+                bytes.truncate(*from as usize);
+                bytes.extend(more);
+                Ok(Some(bytes))
             }
         }
-        Ok(())
-    }
-
-    /// A journal that cannot be completed.
-    fn journal_trouble(&self, name: &str, what: &str) -> Failure {
-        let path = self.disk.path(name);
-        Failure::files(format!(
-            "{}: {what}; remove {JOURNAL} to keep the files as they are",
-            path.display()
-        ))
-    }
-
-    /// Completes a save. Files that are neither old nor new were changed by somebody since, and
-    /// are not overwritten.
-    fn complete(&self, changes: &[Change]) -> Result<(), Failure> {
-        for change in changes {
-            let stands = self.digest(&change.name)?;
-            let known = stands == change.before || stands == Some(Digest::of(&change.after));
-            if !known || !SAVED.contains(&change.name.as_str()) {
-                let what = "changed since a save was cut off";
-                return Err(self.journal_trouble(&change.name, what));
-            }
-        }
-        self.replace(changes)
-    }
-
-    /// The digest of a file; none where there is none.
-    fn digest(&self, name: &str) -> Result<Option<Digest>, Failure> {
-        if !self.disk.has(name) {
-            return Ok(None);
-        }
-        let bytes = self.disk.read(name, MOST_BYTES)?;
-        Ok(Some(Digest::of(&bytes)))
     }
 
     /// The tables as they stand.
     pub fn tables(&self) -> Result<Tables, Failure> {
-        let read = |table: Table| self.disk.read(table.file(), table.most_bytes());
+        let read = |table: Table| match self.find(table.file(), table.most_bytes())? {
+            Some(bytes) => Ok(bytes),
+            None => self.disk.read(table.file(), 0),
+        };
         Ok(Tables {
             parents: read(Table::Parents)?,
             objects: read(Table::Objects)?,
@@ -144,10 +119,9 @@ impl Case {
 
     /// The saved position, if there is one.
     pub fn position(&self) -> Result<Option<Saved>, Failure> {
-        if !self.disk.has(POSITION) {
+        let Some(bytes) = self.find(POSITION, saved::MOST_BYTES)? else {
             return Ok(None);
-        }
-        let bytes = self.disk.read(POSITION, saved::MOST_BYTES)?;
+        };
         match Saved::parse(&bytes) {
             Some(saved) => Ok(Some(saved)),
             None => Err(Failure::refused(format!(
@@ -157,78 +131,154 @@ impl Case {
         }
     }
 
-    /// Saves what a run has changed of the tables and the position, all or none.
-    pub fn save_run(&self, old: &Tables, new: &Tables, saved: &Saved) -> Result<(), Failure> {
-        let mut changes = Vec::new();
-        for table in Table::ALL {
-            let before = Some(Digest::of(old.of(table)));
-            if self.digest(table.file())? != before {
-                let path = self.disk.path(table.file());
-                let message = format!("{}: changed meanwhile; nothing is saved", path.display());
-                return Err(Failure::files(message));
-            }
-            if old.of(table) != new.of(table) {
-                changes.push(Change {
-                    name: table.file().to_string(),
-                    before,
-                    after: new.of(table).to_vec(),
-                });
-            }
-        }
-        let position = Change {
-            name: POSITION.to_string(),
-            before: self.digest(POSITION)?,
-            after: saved.to_text().into_bytes(),
-        };
-        if position.before != Some(Digest::of(&position.after)) {
-            changes.push(position);
-        }
-        match changes.len() {
-            0 => Ok(()),
-            _ => self.save(&changes),
-        }
+    /// The entries of the log, in their order.
+    pub fn log(&self) -> Result<Vec<Entry>, Failure> {
+        let bytes = self.find(LOG, MOST_LOG)?.unwrap_or_default();
+        let lines = bytes.split_inclusive(|&byte| byte == b'\n').enumerate();
+        lines.map(|(at, line)| self.entry(at, line)).collect()
     }
 
-    fn save(&self, changes: &[Change]) -> Result<(), Failure> {
-        let unfinished = unfinished(JOURNAL);
-        let journal = journal::encode(changes);
-        // Nobody may read it who may not read the tables.
-        self.disk
-            .write(&unfinished, &journal, Table::Parents.file())?;
-        self.disk.rename(&unfinished, JOURNAL)?;
-        let replaced = self.disk.sync().and_then(|()| self.replace(changes));
-        replaced.map_err(|failure| Failure {
-            message: format!(
-                "{}; the save is completed when the case is next opened",
-                failure.message
-            ),
-            ..failure
+    /// The last entry of the log.
+    pub fn last_entry(&self) -> Result<Option<Entry>, Failure> {
+        let bytes = self.find(LOG, MOST_LOG)?.unwrap_or_default();
+        let lines = bytes.split_inclusive(|&byte| byte == b'\n').enumerate();
+        let last = lines.last().map(|(at, line)| self.entry(at, line));
+        last.transpose()
+    }
+
+    fn entry(&self, at: usize, line: &[u8]) -> Result<Entry, Failure> {
+        let text = line.strip_suffix(b"\n").map(str::from_utf8);
+        let entry = text.and_then(|text| Entry::parse(text.ok()?));
+        entry.ok_or_else(|| {
+            let path = self.disk.path(LOG);
+            let line = at + 1;
+            Failure::refused(format!(
+                "{}: line {line} is no entry of the log",
+                path.display()
+            ))
         })
     }
 
-    /// Replaces the files of a journal that is in place, and removes it.
-    fn replace(&self, changes: &[Change]) -> Result<(), Failure> {
-        for change in changes {
-            let unfinished = unfinished(&change.name);
-            self.disk.write(&unfinished, &change.after, &change.name)?;
-            self.disk.rename(&unfinished, &change.name)?;
+    /// Looks for what would stop a save of these tables, before there is something to save.
+    pub fn prepare(&self, tables: &Tables) -> Result<(), Failure> {
+        let (parents, objects) = (tables.parents.len(), tables.objects.len());
+        // The journal with both, and one new file beside its old one.
+        let room = parents + objects + parents.max(objects) + LOG_ROOM;
+        save::prepare(&self.disk, room)
+    }
+
+    /// Saves what a run has changed of the tables and the position, with an entry in the log
+    /// where it changed a table, all or none.
+    pub fn save_run(
+        &self,
+        old: &Tables,
+        new: &Tables,
+        saved: &Saved,
+        from: [u64; 3],
+        run: Run,
+    ) -> Result<(), Failure> {
+        let deed = Deed::Run {
+            policy: saved.policy,
+            from,
+            run,
+            saved: self
+                .find(POSITION, saved::MOST_BYTES)?
+                .and_then(|bytes| Saved::parse(&bytes))
+                .map(Box::new),
+        };
+        let entry = (old != new).then(|| Entry::new(deed, old, new));
+        self.save(old, new, Some(saved), entry)
+    }
+
+    /// Saves tables that an undo has made of these, with the position from before the run.
+    pub fn save_undo(&self, old: &Tables, new: &Tables, undone: &Entry) -> Result<(), Failure> {
+        let Deed::Run { saved, .. } = &undone.deed else {
+            return Ok(());
+        };
+        let undoes = undone.when.clone();
+        let entry = Entry::new(Deed::Undo { undoes }, old, new);
+        self.save(old, new, saved.as_deref(), Some(entry))
+    }
+
+    fn save(
+        &self,
+        old: &Tables,
+        new: &Tables,
+        saved: Option<&Saved>,
+        entry: Option<Entry>,
+    ) -> Result<(), Failure> {
+        let access = Access::strictest(&self.require_unchanged(old)?);
+        let line = entry.map(|entry| save::append(&self.disk, entry.line()));
+        let mut changes: Vec<Change> = line.transpose()?.into_iter().collect();
+        for table in Table::ALL {
+            if old.of(table) != new.of(table) {
+                changes.push(Change {
+                    name: table.file().to_string(),
+                    before: Some(Digest::of(old.of(table))),
+                    edit: Edit::Put(new.of(table).to_vec()),
+                });
+            }
         }
-        self.disk.sync()?;
-        self.disk.remove(JOURNAL)?;
-        self.disk.sync()
+        changes.extend(self.position_change(saved)?);
+        match changes.len() {
+            0 => Ok(()),
+            _ => save::save(&self.disk, &changes, access),
+        }
+    }
+
+    /// What makes the saved position this one, or none, where it is not so already.
+    fn position_change(&self, saved: Option<&Saved>) -> Result<Option<Change>, Failure> {
+        let before = save::stand(&self.disk, POSITION)?.map(|stand| stand.digest);
+        let text = saved.map(|saved| saved.to_text().into_bytes());
+        let after = text.as_deref().map(Digest::of);
+        Ok((before != after).then(|| Change {
+            name: POSITION.to_string(),
+            before,
+            edit: text.map_or(Edit::Remove, Edit::Put),
+        }))
+    }
+
+    /// The tables are still those that were read; who may read them.
+    fn require_unchanged(&self, tables: &Tables) -> Result<Vec<Permissions>, Failure> {
+        let permissions = |table: Table| match save::stand(&self.disk, table.file())? {
+            Some(stand) if stand.digest == Digest::of(tables.of(table)) => Ok(stand.permissions),
+            _ => {
+                let path = self.disk.path(table.file());
+                let message = format!("{}: changed meanwhile; nothing is saved", path.display());
+                Err(Failure::files(message))
+            }
+        };
+        Table::ALL.into_iter().map(permissions).collect()
     }
 }
 
-/// The name of a file while it is still being written: the tool's own, whatever else there is in
-/// the directory.
-fn unfinished(name: &str) -> String {
-    let name = name.strip_prefix(OWN).unwrap_or(name);
-    format!("{OWN}{name}.new")
+/// Completes a save that was cut off after its journal was in place, and says so. A journal is
+/// in place only when the disk has all of it; one that is not whole was spoilt by somebody else.
+fn recover(disk: &Disk) -> Result<(), Failure> {
+    if let Some(changes) = save::pending(disk)? {
+        save::complete(disk, &changes)?;
+        tell(disk, "completed a save that was cut off");
+    }
+    Ok(())
+}
+
+/// A line on standard error about the case.
+fn tell(disk: &Disk, what: &str) {
+    let line = format!("{}: {what}", disk.directory().display());
+    eprintln!("lfsck-offline: {}", line.replace(char::is_control, " "));
 }
 
 #[cfg(test)]
 mod tests {
     use super::*;
+    use crate::save::JOURNAL;
+
+    const RUN: Run = Run {
+        answer: 0,
+        position: [3, 0, 0],
+        steps: 2,
+        repairs: [0; 8],
+    };
 
     /// A case with a row in each table, in a directory of its own.
     fn case(name: &str) -> (Case, Tables, std::path::PathBuf) {
@@ -240,7 +290,7 @@ mod tests {
             reserve: vec![1; 16],
         };
         Case::make(&directory, &tables).expect("a new case");
-        let case = Case::open(&directory).expect("the case");
+        let case = Case::open_alone(&directory).expect("the case");
         (case, tables, directory)
     }
 
@@ -253,14 +303,17 @@ mod tests {
         for table in Table::ALL {
             let path = directory.join(table.file());
             fs::write(&path, b"other").expect("the file");
-            let failure = case.save_run(&old, &new, &saved).expect_err("a refusal");
+            let failure = case
+                .save_run(&old, &new, &saved, [1, 0, 0], RUN)
+                .expect_err("a refusal");
             assert!(failure.message.contains(table.file()), "{failure:?}");
             assert!(failure.message.contains("nothing is saved"), "{failure:?}");
             assert_eq!(fs::read(&path).expect("the file"), b"other");
-            assert!(!case.disk.has(POSITION) && !case.disk.has(JOURNAL));
+            assert!(!case.disk.has(POSITION) && !case.disk.has(JOURNAL) && !case.disk.has(LOG));
             fs::write(&path, old.of(table)).expect("the file");
         }
-        case.save_run(&old, &new, &saved).expect("a save");
+        case.save_run(&old, &new, &saved, [1, 0, 0], RUN)
+            .expect("a save");
         assert_eq!(case.tables().expect("the tables"), new);
         assert_eq!(case.position().expect("the position"), Some(saved));
         fs::remove_dir_all(&directory).expect("the directory");
@@ -270,10 +323,12 @@ mod tests {
     fn what_has_not_changed_is_not_written() {
         let (case, old, directory) = case("unchanged");
         let saved = Saved::new([3, 0, 0], 0, &old);
-        case.save_run(&old, &old, &saved).expect("a save");
+        case.save_run(&old, &old, &saved, [1, 0, 0], RUN)
+            .expect("a save");
         let time = |name| fs::metadata(case.disk.path(name)).and_then(|it| it.modified());
         let before = time(POSITION).expect("the position");
-        case.save_run(&old, &old, &saved).expect("nothing to save");
+        case.save_run(&old, &old, &saved, [1, 0, 0], RUN)
+            .expect("nothing to save");
         assert_eq!(time(POSITION).expect("the position"), before);
         fs::remove_dir_all(&directory).expect("the directory");
     }

@@ -1,5 +1,7 @@
 //! The classes: their names, and what they mean.
 
+use numbers::call;
+
 use crate::fid::{Fid, MdtFid};
 use crate::rows::Claim;
 
@@ -37,7 +39,7 @@ pub enum Class {
 }
 
 /// The names of the classes, each at its number.
-pub const NAMES: [&str; 14] = [
+pub const NAMES: [&str; call::CLASSES] = [
     "CLEAN",
     "SELF",
     "HOLE",
@@ -55,7 +57,7 @@ pub const NAMES: [&str; 14] = [
 ];
 
 /// What each class means, at its number.
-pub const MEANINGS: [&str; 14] = [
+pub const MEANINGS: [&str; call::CLASSES] = [
     "nothing to mend",
     "the layout's own FID is not the file's",
     "a slot without object",
@@ -74,7 +76,7 @@ pub const MEANINGS: [&str; 14] = [
 
 impl Class {
     /// The class that the library hands out as four numbers.
-    pub fn of_numbers([number, sequence, id, index]: [u64; 4]) -> Option<Class> {
+    pub fn of_numbers([number, sequence, id, index]: [u64; call::CLASS]) -> Option<Class> {
         Some(match number {
             0 => Class::Clean,
             1 => Class::SelfId,

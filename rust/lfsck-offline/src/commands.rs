@@ -2,22 +2,41 @@
 
 mod check;
 mod classes;
+mod log;
 mod run;
 mod sample;
 mod show;
+mod undo;
 
 use crate::args::{Call, Command};
+use crate::bar::{Bar, Work};
+use crate::json::Json;
 use crate::outcome::{Failure, Outcome};
 
-/// Does what is asked.
+/// Which version this is.
+const VERSION: &str = env!("CARGO_PKG_VERSION");
+
+/// Does what is asked. The bar is gone before anything is printed.
 pub fn execute(call: &Call) -> Result<Outcome, Failure> {
     let (directory, json) = (&call.directory, call.json);
-    match call.command {
+    let bar = Bar::start(Work::Unmeasured("reading the tables"));
+    match &call.command {
         Command::Help(topic) => Ok(Outcome::done(topic.text().to_string())),
+        Command::Version => Ok(Outcome::done(version(json))),
         Command::Sample => sample::sample(directory, json),
-        Command::Check => check::check(directory, json),
-        Command::Classes(only) => classes::classes(directory, only, json),
-        Command::Run(options) => run::run(directory, options, json),
-        Command::Show(fid) => show::show(directory, fid, json),
+        Command::Check => check::check(directory, json, &bar),
+        Command::Classes(options) => classes::classes(directory, options, json, &bar),
+        Command::Run(options) => run::run(directory, *options, json, &bar),
+        Command::Show(fid) => show::show(directory, *fid, json, &bar),
+        Command::Log(None) => log::log(directory, json),
+        Command::Log(Some(fid)) => log::story(directory, *fid, json),
+        Command::Undo => undo::undo(directory, json),
+    }
+}
+
+fn version(json: bool) -> String {
+    match json {
+        true => Json::Object(vec![("version", Json::text(VERSION))]).line(),
+        false => format!("lfsck-offline {VERSION}\n"),
     }
 }

@@ -1,156 +1,267 @@
-//! The file operations on a case, one by one.
-//!
-//! A test can let any of them be the last: with `LFSCK_OFFLINE_FAULT=abort:N` the process dies
-//! after the N-th operation, with `fail:N` the N-th fails. Half of a file is an operation too.
+//! The file operations on a case, one by one, in the directory that was opened, whatever its
+//! name stands for meanwhile.
 
 use std::cell::Cell;
-use std::fs::{self, File, OpenOptions};
-use std::io::{self, Read, Write};
-use std::os::unix::fs::{MetadataExt, fchown};
+use std::fs::{self, File};
+use std::io::{self, Read, Seek, SeekFrom, Write};
+use std::os::fd::AsRawFd;
+use std::os::unix::fs::MetadataExt;
 use std::path::{Path, PathBuf};
 
+use crate::hook::Hook;
 use crate::outcome::Failure;
+use crate::permissions::{Access, Permissions};
+use crate::plain::{self, Use};
 
-/// The variable with the fault that a test asks for.
-const FAULT: &str = "LFSCK_OFFLINE_FAULT";
+/// The bit of a directory like /tmp.
+const STICKY: u32 = 0o1000;
 
-/// The directory of a case.
+/// The opened directory of a case.
 pub struct Disk {
+    /// Its name, for people.
     directory: PathBuf,
-    fault: Option<Fault>,
-    done: Cell<u64>,
+    opened: File,
+    /// The way to its files.
+    way: PathBuf,
+    /// Whether the last operation that failed was one that is not allowed here.
+    denied: Cell<bool>,
+    hook: Hook,
 }
 
-#[derive(Clone, Copy)]
-enum Fault {
-    AbortAfter(u64),
-    FailAt(u64),
-}
-
-impl Fault {
-    fn of_environment() -> Option<Fault> {
-        let text = std::env::var(FAULT).ok()?;
-        let (kind, number) = text.split_once(':')?;
-        let number = number.parse().ok()?;
-        match kind {
-            "abort" => Some(Fault::AbortAfter(number)),
-            "fail" => Some(Fault::FailAt(number)),
-            _ => None,
-        }
-    }
+/// A file as it was found, its contents and its permissions of one moment.
+pub struct Found {
+    /// Its bytes, one more than asked for where it is longer.
+    pub bytes: Vec<u8>,
+    /// Who may read and write it.
+    pub permissions: Permissions,
 }
 
 impl Disk {
-    /// The files in a directory.
-    pub fn new(directory: &Path) -> Disk {
-        Disk {
+    /// Opens a directory.
+    pub fn open(directory: &Path) -> Result<Disk, Failure> {
+        let opened = plain::directory(directory).map_err(|error| trouble(directory, &error))?;
+        Ok(Disk {
             directory: directory.to_path_buf(),
-            fault: Fault::of_environment(),
-            done: Cell::new(0),
-        }
+            way: way_to(&opened).unwrap_or_else(|| directory.to_path_buf()),
+            opened,
+            denied: Cell::new(false),
+            hook: Hook::new(),
+        })
     }
 
-    /// Where a file stands.
+    /// The directory itself, to be locked.
+    pub fn opened(&self) -> &File {
+        &self.opened
+    }
+
+    /// Whether the last operation that failed was one that is not allowed here.
+    pub fn denied(&self) -> bool {
+        self.denied.get()
+    }
+
+    /// Whether here only the owner of a file may remove or replace it, whoever else may make
+    /// files; where that cannot be told, yes.
+    pub fn keeps_files_apart(&self) -> bool {
+        let metadata = self.opened.metadata();
+        metadata.map_or(true, |metadata| metadata.mode() & STICKY != 0)
+    }
+
+    /// The name of the directory, for people.
+    pub fn directory(&self) -> &Path {
+        &self.directory
+    }
+
+    /// The name of a file, for people.
     pub fn path(&self, name: &str) -> PathBuf {
         self.directory.join(name)
     }
 
     /// Whether there is something under a name.
     pub fn has(&self, name: &str) -> bool {
-        fs::symlink_metadata(self.path(name)).is_ok()
+        fs::symlink_metadata(self.way.join(name)).is_ok()
     }
 
-    /// A plain file, not a directory or a link, is there.
-    pub fn require(&self, name: &str) -> Result<(), Failure> {
-        let path = self.path(name);
-        let metadata = fs::symlink_metadata(&path).map_err(|error| trouble(&path, &error))?;
-        if metadata.is_file() {
-            Ok(())
-        } else {
-            let what = if metadata.is_dir() {
-                "a directory"
-            } else {
-                "not a plain file"
-            };
-            Err(Failure::files(format!(
-                "{}: this is {what}",
-                path.display()
-            )))
+    /// A plain file, opened to be read; none where there is nothing under the name.
+    fn look(&self, name: &str) -> Result<Option<File>, Failure> {
+        match plain::open(&self.way.join(name), Use::Read) {
+            Ok(file) => Ok(Some(file)),
+            Err(error) if error.kind() == io::ErrorKind::NotFound => Ok(None),
+            Err(error) => Err(trouble(&self.path(name), &error)),
         }
     }
 
-    /// The bytes of a file, one more than `most` where it is longer.
-    pub fn read(&self, name: &str, most: usize) -> Result<Vec<u8>, Failure> {
-        self.require(name)?;
-        let path = self.path(name);
-        let mut bytes = Vec::new();
-        File::open(&path)
-            .and_then(|file| file.take(most as u64 + 1).read_to_end(&mut bytes))
-            .map_err(|error| trouble(&path, &error))?;
-        Ok(bytes)
+    /// Something of a plain file; none where there is nothing under the name.
+    fn of_file<Of>(
+        &self,
+        name: &str,
+        read: impl FnOnce(File) -> io::Result<Of>,
+    ) -> Result<Option<Of>, Failure> {
+        let Some(file) = self.look(name)? else {
+            return Ok(None);
+        };
+        let read = read(file).map_err(|error| trouble(&self.path(name), &error))?;
+        Ok(Some(read))
     }
 
-    /// Writes a new file and waits until the disk has it. It has the permissions and, where that
-    /// may be, the owner of the file that it is to replace.
-    pub fn write(&self, name: &str, bytes: &[u8], replaces: &str) -> Result<(), Failure> {
-        let path = self.path(name);
-        let mut file = self.operation("create", &path, || {
-            let mut options = OpenOptions::new();
-            let file = options
-                .write(true)
-                .create(true)
-                .truncate(true)
-                .open(&path)?;
-            if let Ok(metadata) = fs::metadata(self.path(replaces)) {
-                let _ = fchown(&file, Some(metadata.uid()), Some(metadata.gid()));
-                file.set_permissions(metadata.permissions())?;
+    /// Who may read and write a plain file; none where there is nothing under the name.
+    pub fn permissions(&self, name: &str) -> Result<Option<Permissions>, Failure> {
+        self.of_file(name, |file| Ok(Permissions::of(&file.metadata()?)))
+    }
+
+    /// The length of a plain file; none where there is nothing under the name.
+    pub fn length(&self, name: &str) -> Result<Option<u64>, Failure> {
+        self.of_file(name, |file| Ok(file.metadata()?.len()))
+    }
+
+    /// A plain file of at most so many bytes, or so many and one of a longer one; none where
+    /// there is nothing under the name.
+    pub fn find(&self, name: &str, most: usize) -> Result<Option<Found>, Failure> {
+        self.part(name, 0, most)
+    }
+
+    /// The same from a place of the file on.
+    pub fn part(&self, name: &str, at: u64, most: usize) -> Result<Option<Found>, Failure> {
+        self.of_file(name, |mut file| {
+            let permissions = Permissions::of(&file.metadata()?);
+            file.seek(SeekFrom::Start(at))?;
+            let mut bytes = Vec::new();
+            file.take(most as u64 + 1).read_to_end(&mut bytes)?;
+            Ok(Found { bytes, permissions })
+        })
+    }
+
+    /// The bytes of a plain file that must be there.
+    pub fn read(&self, name: &str, most: usize) -> Result<Vec<u8>, Failure> {
+        match self.find(name, most)? {
+            Some(found) => Ok(found.bytes),
+            None => {
+                let error = io::Error::from(io::ErrorKind::NotFound);
+                Err(trouble(&self.path(name), &error))
             }
-            Ok(file)
-        })?;
+        }
+    }
+
+    /// Writes a new file and waits until the disk has it. What an earlier process left under
+    /// the name is removed and not opened.
+    pub fn write(&self, name: &str, bytes: &[u8], access: Access) -> Result<(), Failure> {
+        let file = self.make(name, access)?;
+        self.fill(name, file, bytes)
+    }
+
+    /// Writes bytes into a file from where it stands, and waits until the disk has them.
+    fn fill(&self, name: &str, mut file: File, bytes: &[u8]) -> Result<(), Failure> {
         let (first, second) = bytes.split_at(bytes.len() / 2);
-        self.operation("write half of", &path, || file.write_all(first))?;
-        self.operation("write the rest of", &path, || file.write_all(second))?;
-        self.operation("sync", &path, || file.sync_all())
+        self.operation("write half of", name, |_| file.write_all(first))?;
+        self.operation("write the rest of", name, |_| file.write_all(second))?;
+        self.operation("sync", name, |_| file.sync_all())
+    }
+
+    /// Writes bytes into a file after the first ones, so many, and waits until the disk has
+    /// them; where there is no file, one is made. A file that others could read along with, or
+    /// that this process may not write, is left as it is, and the answer is no.
+    pub fn append(
+        &self,
+        name: &str,
+        from: u64,
+        bytes: &[u8],
+        access: Access,
+    ) -> Result<bool, Failure> {
+        let file = match plain::open(&self.way.join(name), Use::Write) {
+            Err(error) if error.kind() == io::ErrorKind::PermissionDenied => return Ok(false),
+            Err(error) if error.kind() == io::ErrorKind::NotFound => self.make(name, access)?,
+            Err(error) => return Err(trouble(&self.path(name), &error)),
+            Ok(mut file) => {
+                let metadata = file.metadata();
+                let metadata = metadata.map_err(|error| trouble(&self.path(name), &error))?;
+                if metadata.nlink() > 1 || !access.holds(Permissions::of(&metadata)) {
+                    return Ok(false);
+                }
+                self.operation("extend", name, |_| file.seek(SeekFrom::Start(from)))?;
+                file
+            }
+        };
+        self.fill(name, file, bytes)?;
+        Ok(true)
+    }
+
+    /// Sees whether there is room for a file of so many bytes, and removes it again.
+    pub fn reserve(&self, name: &str, bytes: usize) -> Result<(), Failure> {
+        let mut file = self.make(name, Access::Own)?;
+        let zeros = vec![0; bytes];
+        let reserved = self.operation("reserve", name, |_| file.write_all(&zeros));
+        let removed = self.remove(name);
+        reserved.and(removed).map_err(|failure| Failure {
+            message: format!("{}; so a run could not be saved", failure.message),
+            ..failure
+        })
+    }
+
+    fn make(&self, name: &str, access: Access) -> Result<File, Failure> {
+        self.clear(name)?;
+        self.operation("create", name, |path| {
+            let file = plain::make(path, access.first_mode())?;
+            access.give(&file)?;
+            Ok(file)
+        })
+    }
+
+    /// Removes what stands under a name of the tool's own, if anything does; a directory stays,
+    /// and is trouble.
+    pub fn clear(&self, name: &str) -> Result<(), Failure> {
+        let path = self.way.join(name);
+        match fs::symlink_metadata(&path) {
+            Ok(metadata) if metadata.is_dir() => {
+                let error = io::Error::other("this is a directory");
+                Err(trouble(&self.path(name), &error))
+            }
+            Ok(_) => self.remove(name),
+            Err(_) => Ok(()),
+        }
     }
 
     /// Puts a file in the place of another, at once.
     pub fn rename(&self, from: &str, to: &str) -> Result<(), Failure> {
-        let (from, to) = (self.path(from), self.path(to));
-        self.operation("rename to", &to, || fs::rename(&from, &to))
+        let from = self.way.join(from);
+        self.operation("rename to", to, |to| fs::rename(&from, to))
     }
 
     /// Removes a file.
     pub fn remove(&self, name: &str) -> Result<(), Failure> {
-        let path = self.path(name);
-        self.operation("remove", &path, || fs::remove_file(&path))
+        self.operation("remove", name, |path| fs::remove_file(path))
     }
 
     /// Waits until the disk has the directory.
     pub fn sync(&self) -> Result<(), Failure> {
-        let path = &self.directory;
-        self.operation("sync", path, || File::open(path)?.sync_all())
+        self.operation("sync", ".", |_| self.opened.sync_all())
     }
 
     fn operation<Done>(
         &self,
         what: &str,
-        path: &Path,
-        operation: impl FnOnce() -> io::Result<Done>,
+        name: &str,
+        operation: impl FnOnce(&Path) -> io::Result<Done>,
     ) -> Result<Done, Failure> {
-        let number = self.done.get() + 1;
-        self.done.set(number);
-        if matches!(self.fault, Some(Fault::FailAt(at)) if at == number) {
-            let error = io::Error::other("made to fail by a test");
-            return Err(trouble(path, &error));
-        }
-        let result = operation().map_err(|error| trouble(path, &error))?;
-        if matches!(self.fault, Some(Fault::AbortAfter(at)) if at == number) {
-            let name = path.file_name().unwrap_or_default().display();
-            eprintln!("aborted after: {what} {name}");
-            std::process::abort();
-        }
-        Ok(result)
+        let done = self
+            .hook
+            .before()
+            .and_then(|()| operation(&self.way.join(name)));
+        let done = done.map_err(|error| {
+            self.denied.set(matches!(
+                error.kind(),
+                io::ErrorKind::PermissionDenied | io::ErrorKind::ReadOnlyFilesystem
+            ));
+            trouble(&self.path(name), &error)
+        })?;
+        self.hook.after(what, name);
+        Ok(done)
     }
+}
+
+/// The way to a directory that is open, by its descriptor; none where there is no such way here.
+fn way_to(opened: &File) -> Option<PathBuf> {
+    let way = PathBuf::from(format!("/proc/self/fd/{}", opened.as_raw_fd()));
+    let (there, here) = (fs::metadata(&way).ok()?, opened.metadata().ok()?);
+    ((there.dev(), there.ino()) == (here.dev(), here.ino())).then_some(way)
 }
 
 /// One line about a file.

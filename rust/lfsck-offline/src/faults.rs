@@ -5,22 +5,16 @@
 
 use std::collections::HashMap;
 
-use crate::fid::{FID_BYTES, Fid, number16, number32};
-use crate::rows::{CLAIM_AT, FRESH_AT, LAYOUT_AT, LENGTH_AT, OST_AT, SELF_AT};
+use numbers::answer::{BAD_FID, BAD_LAYOUT, BAD_TABLE, FID_TWICE};
+use numbers::layout::{
+    COUNT_AT, HEADER_ONE, HEADER_THREE, HOLES, LAST_OST, MAGIC_AT, MAGIC_ONE, MAGIC_THREE,
+    MOST_SLOTS, PATTERN_AT, PLAIN, SLOT_BYTES, SLOT_OST_AT,
+};
+use numbers::object::{CLAIM_AT, FRESH_AT, OST_AT, SELF_AT};
+use numbers::parent::{LAYOUT_AT, LENGTH_AT};
+
+use crate::fid::{Fid, number16, number32};
 use crate::tables::{Table, Tables};
-
-/// Not whole rows, too long, or a bad mark.
-const BAD_TABLE: u32 = 11;
-/// A layout against the rules.
-const BAD_LAYOUT: u32 = 13;
-/// A bad FID, OST index or claim, or fresh without claim.
-const BAD_FID: u32 = 14;
-/// A FID twice.
-const FID_TWICE: u32 = 15;
-
-const LAST_OST: u32 = 65_535;
-const MOST_SLOTS: u16 = 160;
-const SLOT_BYTES: usize = 24;
 
 /// Something that is wrong with a table.
 #[derive(Clone, Debug, PartialEq, Eq)]
@@ -148,38 +142,39 @@ fn parent(row: &mut Row, bytes: &[u8], known: &mut Known) {
 
 /// A layout: magic, pattern, count, length, slots.
 fn layout(row: &mut Row, bytes: &[u8]) {
-    if bytes.len() < 32 {
-        let reason = format!("{} bytes, a header alone is 32", bytes.len());
+    if bytes.len() < HEADER_ONE {
+        let reason = format!("{} bytes, a header alone is {HEADER_ONE}", bytes.len());
         row.add(BAD_LAYOUT, "layout length", reason);
         return;
     }
-    let header = match number32(bytes, 0) {
-        0x0BD1_0BD0 => 32,
-        0x0BD3_0BD0 => 48,
+    let header = match number32(bytes, MAGIC_AT) {
+        MAGIC_ONE => HEADER_ONE,
+        MAGIC_THREE => HEADER_THREE,
         magic => {
-            let reason = "neither version 1 (0xbd10bd0) nor version 3 (0xbd30bd0)";
+            let reason =
+                format!("neither version 1 ({MAGIC_ONE:#x}) nor version 3 ({MAGIC_THREE:#x})");
             row.add(BAD_LAYOUT, format!("layout magic {magic:#x}"), reason);
             return;
         }
     };
-    let pattern = number32(bytes, 4);
-    if pattern != 1 && pattern != 0x4000_0001 {
-        let reason = "neither 0x1 nor 0x40000001 (with holes)";
+    let pattern = number32(bytes, PATTERN_AT);
+    if pattern != PLAIN && pattern != HOLES {
+        let reason = format!("neither {PLAIN:#x} nor {HOLES:#x} (with holes)");
         row.add(BAD_LAYOUT, format!("layout pattern {pattern:#x}"), reason);
     }
-    let count = number16(bytes, 28);
+    let count = usize::from(number16(bytes, COUNT_AT));
     if count > MOST_SLOTS {
         let field = format!("stripe count {count}");
         row.add(BAD_LAYOUT, field, format!("at most {MOST_SLOTS}"));
     }
-    let wanted = header + SLOT_BYTES * usize::from(count);
+    let wanted = header + SLOT_BYTES * count;
     if bytes.len() != wanted {
         let reason = format!("{} bytes, {count} slots need {wanted}", bytes.len());
         row.add(BAD_LAYOUT, "layout length", reason);
         return;
     }
     for (index, bytes) in bytes[header..].chunks(SLOT_BYTES).enumerate() {
-        slot(row, index, bytes, pattern == 0x4000_0001);
+        slot(row, index, bytes, pattern == HOLES);
     }
 }
 
@@ -199,7 +194,7 @@ fn slot(row: &mut Row, index: usize, bytes: &[u8], holes_allowed: bool) {
             reason,
         );
     }
-    let ost = number32(bytes, FID_BYTES + 4);
+    let ost = number32(bytes, SLOT_OST_AT);
     if ost > LAST_OST {
         let field = format!("slot {index}, OST index {ost}");
         row.add(BAD_LAYOUT, field, format!("at most {LAST_OST}"));
@@ -268,7 +263,7 @@ mod tests {
         let row = random.below(table.len() / size);
         if random.one_in(6) {
             let from = random.below(table.len() / size) * size;
-            table.copy_within(from + 1..from + FID_BYTES, row * size + 1);
+            table.copy_within(from + 1..from + numbers::fid::BYTES, row * size + 1);
             return;
         }
         let at = row * size + random.below(fields);

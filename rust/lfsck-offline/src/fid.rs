@@ -2,12 +2,7 @@
 
 use std::fmt;
 
-/// The least good sequence.
-pub const FIRST_SEQUENCE: u64 = 0x2_0000_0400;
-/// The greatest good sequence.
-pub const LAST_SEQUENCE: u64 = 0xffff_ffff_ffff_fffe;
-/// The bytes of a FID.
-pub const FID_BYTES: usize = 16;
+use numbers::fid::{BYTES, FIRST_SEQUENCE, ID_AT, LAST_SEQUENCE, SEQUENCE_AT, VERSION_AT};
 
 /// Sequence, object id and version.
 #[derive(Clone, Copy, Debug, PartialEq, Eq, PartialOrd, Ord, Hash)]
@@ -38,21 +33,21 @@ impl Fid {
         }
     }
 
-    /// The FID in 16 bytes at a place of a row.
+    /// The FID at a place of a row.
     pub fn read(row: &[u8], at: usize) -> Fid {
         Fid {
-            sequence: number64(row, at),
-            id: number32(row, at + 8),
-            version: number32(row, at + 12),
+            sequence: number64(row, at + SEQUENCE_AT),
+            id: number32(row, at + ID_AT),
+            version: number32(row, at + VERSION_AT),
         }
     }
 
-    /// The 16 bytes of the FID.
-    pub fn to_bytes(self) -> [u8; FID_BYTES] {
-        let mut bytes = [0; FID_BYTES];
-        bytes[..8].copy_from_slice(&self.sequence.to_le_bytes());
-        bytes[8..12].copy_from_slice(&self.id.to_le_bytes());
-        bytes[12..].copy_from_slice(&self.version.to_le_bytes());
+    /// The bytes of the FID.
+    pub fn to_bytes(self) -> [u8; BYTES] {
+        let mut bytes = [0; BYTES];
+        bytes[..ID_AT].copy_from_slice(&self.sequence.to_le_bytes());
+        bytes[ID_AT..VERSION_AT].copy_from_slice(&self.id.to_le_bytes());
+        bytes[VERSION_AT..].copy_from_slice(&self.version.to_le_bytes());
         bytes
     }
 

@@ -2,6 +2,7 @@
 
 use crate::class::Class;
 use crate::fid::{MdtFid, OstFid};
+use crate::foretell::{self, Turn};
 use crate::position::Position;
 use crate::rows::{Object, Stripe};
 use crate::site::{Named, Place, Site};
@@ -25,6 +26,8 @@ pub struct Finding {
     pub keeper: Option<(Named, Rule)>,
     /// Why the claimed place of an object in CONFLICT cannot be had.
     pub denial: Option<String>,
+    /// The class that the object has when a run comes to it, where that is another.
+    pub turn: Option<Turn>,
 }
 
 /// A repair, and under which policy it is made.
@@ -44,6 +47,8 @@ pub enum Needs {
     Create,
     /// It is made with adopt.
     Adopt,
+    /// It is made with both.
+    CreateAndAdopt,
 }
 
 impl Needs {
@@ -53,6 +58,7 @@ impl Needs {
             Needs::Nothing => "always",
             Needs::Create => "create",
             Needs::Adopt => "adopt",
+            Needs::CreateAndAdopt => "create and adopt",
         }
     }
 
@@ -62,6 +68,7 @@ impl Needs {
             Needs::Nothing => "always",
             Needs::Create => "with --create",
             Needs::Adopt => "with --adopt",
+            Needs::CreateAndAdopt => "with --create --adopt",
         }
     }
 }
@@ -78,6 +85,7 @@ impl Finding {
             repair: None,
             keeper: None,
             denial: None,
+            turn: None,
         };
         match position {
             Position::Header(row) => finding.add_header(site, row),
@@ -130,9 +138,33 @@ impl Finding {
     /// How the claimed place can be had, or why it cannot.
     fn add_place(&mut self, site: &Site, object: Object) {
         let Some(claim) = object.claim else { return };
+        self.turn = foretell::turn(site, &object);
         match why::way_to(site, claim) {
             Ok(way) => self.repair = repair(Needs::Adopt, way.words(claim)),
             Err(denial) => self.denial = Some(denial.words(claim)),
+        }
+    }
+}
+
+impl Finding {
+    /// Whether a run with create and adopt repairs it.
+    pub fn can_be_mended(&self) -> bool {
+        match &self.turn {
+            Some(turn) => turn.class == Class::Orphan,
+            None => self.repair.is_some(),
+        }
+    }
+
+    /// What the repair would do, or why there is none, and what a run does before it comes here.
+    pub fn repair_words(&self) -> String {
+        let words = match (&self.repair, &self.denial) {
+            (Some(repair), _) => format!("{}: {}", repair.needs.words(), repair.does),
+            (None, Some(denial)) => format!("none: {denial}"),
+            (None, None) => format!("none: {}", self.class.meaning()),
+        };
+        match &self.turn {
+            Some(turn) => format!("{words}; {}", turn.words()),
+            None => words,
         }
     }
 }

@@ -17,6 +17,10 @@ pub enum Topic {
     Run,
     /// `show`.
     Show,
+    /// `log`.
+    Log,
+    /// `undo`.
+    Undo,
 }
 
 impl Topic {
@@ -29,6 +33,8 @@ impl Topic {
             "classes" => Topic::Classes,
             "run" => Topic::Run,
             "show" => Topic::Show,
+            "log" => Topic::Log,
+            "undo" => Topic::Undo,
             _ => return None,
         })
     }
@@ -42,6 +48,8 @@ impl Topic {
             Topic::Classes => CLASSES,
             Topic::Run => RUN,
             Topic::Show => SHOW,
+            Topic::Log => LOG,
+            Topic::Undo => UNDO,
         }
     }
 }
@@ -57,13 +65,19 @@ case: the directory with parents.tbl, objects.tbl and reserve.tbl.
   classes DIR    list what is wrong with which file, and what a repair would do
   run DIR        repair, going on from where the last run stopped
   show DIR FID   tell everything about one file or object
+  log DIR [FID]  tell what the runs changed, and when; of FID, also why
+  undo DIR       take the last run back
+
+  help COMMAND   tell how a command is used
+  --version      tell which version this is
 
 Options of every command:
-  --json         print JSON for machines
+  --json         print JSON for machines, failures too
   --help         help for the command
 
 Exit status: 0 done, 1 steps left, 2 input refused, 3 something ran out,
-64 wrong usage, 74 trouble with files.
+4 something to mend (classes --exit-code), 64 wrong usage, 74 trouble with
+files.
 ";
 
 const SAMPLE: &str = "\
@@ -89,18 +103,35 @@ Exit status: 0 sound, 2 not sound.
 ";
 
 const CLASSES: &str = "\
-Usage: lfsck-offline classes DIR [--only CLASS] [--json]
+Usage: lfsck-offline classes DIR [--only CLASS] [--file FID] [--object FID]
+                         [--ost N] [--owner UID[:GID]] [--summary]
+                         [--exit-code] [--json]
 
 Lists every finding: file, slot, object, class, and what its repair would do and
-under which policy. Ends with the number of positions of each class.
+under which policy. Where a run does something to the claimed slot of an object
+before it comes to the object, so that its class is another by then, it says so.
+Ends with the number of positions of each class.
 
   --only CLASS   list the positions of this class alone, of any class:
                  CLEAN SELF HOLE MULTIPLE DANGLING BLANK UNMATCHED OWNER
                  SPARE EMPTY ORPHAN CONFLICT KEPT UNUSED
+  --file FID     header and slots of this file, and the objects that claim it
+  --object FID   this object, and the slots that name it
+  --ost N        objects on this OST, and slots that say so of theirs
+  --owner UID[:GID]
+                 files of this owner with their slots, and objects of this owner
+  --summary      print the number of positions of each class alone
+  --exit-code    exit with 4 where a run with --create --adopt would repair
+                 something of what is listed
+
+--only, --file, --object, --ost and --owner may be given several times: any of a
+kind may match, and one of each kind must. The numbers of positions are those of
+the files, objects, OSTs and owners that are asked for.
 ";
 
 const RUN: &str = "\
-Usage: lfsck-offline run DIR [--create] [--adopt] [--steps N] [--from-start] [--json]
+Usage: lfsck-offline run DIR [--create] [--adopt] [--steps N] [--from-start]
+                         [--dry-run] [--summary] [--json]
 
 Repairs step by step and saves tables and position together. Goes on from the
 saved position if policy, reserve and tables are those that it was saved with,
@@ -113,6 +144,11 @@ repaired under every policy.
                  destroy empty ones (ORPHAN, EMPTY)
   --steps N      make at most N steps
   --from-start   leave the saved position aside
+  --dry-run, -n  make the run on a copy: print what it would, write nothing
+  --summary      leave out the list of changes
+
+What it changes stands in the log (see log), and undo takes it back. SIGINT or
+SIGTERM ends it after the slice that it is in, and saves; a second one at once.
 
 Exit status: 0 the end is reached, 1 steps are left, 2 input refused, 3 the
 reserve or the unused rows of a table ran out.
@@ -126,4 +162,25 @@ Tells everything about one file or object: layout, slots, claims, class, and why
 or without brackets, in hexadecimal or decimal numbers.
 
 Exit status: 2 where nothing in the case has the FID.
+";
+
+const LOG: &str = "\
+Usage: lfsck-offline log DIR [FID] [--json]
+
+Tells what was done in the case, from the log that each run that changes a table
+is written into: when, by which version, under which policy, from where to
+where, the repairs, and every change. With FID, the story of that file or
+object: the changes that concern it, each with the time and the class that was
+mended.
+";
+
+const UNDO: &str = "\
+Usage: lfsck-offline undo DIR [--json]
+
+Takes the last run of the log back, row by row, and puts the saved position back
+that was there before it. The tables must still be what that run left. The undo
+is written into the log, and is not taken back itself.
+
+Exit status: 2 where there is no run to take back, or the tables were changed
+since.
 ";

@@ -1,35 +1,75 @@
-//! The journal: the new contents of several files in one, so that they are saved together.
+//! The journal: what is to be done to several files in one, so that they are saved together.
 //!
-//! A title, for each file a line with name, length and the digest of what it replaces and then
-//! its bytes, a last line, and the digest of all that. What is not exactly so is no journal.
+//! A title, for each file a line with what is done, the name, the length of what follows, the
+//! digest of what stands there before and the place, and then the bytes; a last line, and the
+//! digest of all that. What is not exactly so is no journal.
 
 use crate::digest::Digest;
 
-const TITLE: &str = "lfsck-offline journal, format 1";
+const TITLE: &str = "lfsck-offline journal, format 2";
 const NOTHING: &str = "nothing";
 const END: &str = "end";
 
-/// New contents for a file.
+/// What is done to a file.
+#[derive(Clone, Debug, PartialEq, Eq)]
+pub enum Edit {
+    /// It is to hold this.
+    Put(Vec<u8>),
+    /// After its first bytes, so many, this is to follow.
+    Append {
+        /// The bytes that stay.
+        from: u64,
+        /// What follows.
+        more: Vec<u8>,
+    },
+    /// It is to go.
+    Remove,
+}
+
+/// Something to be done to a file.
 #[derive(Clone, Debug, PartialEq, Eq)]
 pub struct Change {
     /// The file.
     pub name: String,
-    /// Of what it replaces; none where there is no such file.
+    /// Of what it holds before, of the last bytes that stay where something is appended; none
+    /// where there is no such file.
     pub before: Option<Digest>,
-    /// What it is to hold.
-    pub after: Vec<u8>,
+    /// What is done to it.
+    pub edit: Edit,
+}
+
+impl Edit {
+    fn parts(&self) -> (&'static str, &[u8], u64) {
+        match self {
+            Edit::Put(bytes) => ("put", bytes, 0),
+            Edit::Append { from, more } => ("append", more, *from),
+            Edit::Remove => ("remove", &[], 0),
+        }
+    }
+
+    fn of_parts(word: &str, bytes: &[u8], from: u64) -> Option<Edit> {
+        let edit = match word {
+            "put" => Edit::Put(bytes.to_vec()),
+            "append" => Edit::Append {
+                from,
+                more: bytes.to_vec(),
+            },
+            "remove" => Edit::Remove,
+            _ => return None,
+        };
+        (edit.parts() == (word, bytes, from)).then_some(edit)
+    }
 }
 
 /// The journal of some changes.
 pub fn encode(changes: &[Change]) -> Vec<u8> {
     let mut journal = format!("{TITLE}\n").into_bytes();
-    for change in changes {
-        let before = change
-            .before
-            .map_or(NOTHING.to_string(), |digest| digest.to_string());
-        let line = format!("{} {} {before}\n", change.name, change.after.len());
+    for Change { name, before, edit } in changes {
+        let (word, bytes, from) = edit.parts();
+        let before = before.map_or(NOTHING.to_string(), |digest| digest.to_string());
+        let line = format!("{word} {name} {} {before} {from}\n", bytes.len());
         journal.extend(line.bytes());
-        journal.extend_from_slice(&change.after);
+        journal.extend_from_slice(bytes);
     }
     journal.extend(format!("{END}\n").bytes());
     let digest = Digest::of(&journal);
@@ -49,8 +89,9 @@ pub fn decode(journal: &[u8]) -> Option<Vec<Change>> {
         if line == END {
             return rest.is_empty().then_some(changes);
         }
-        let [name, length, before] = line.split(' ').collect::<Vec<_>>().try_into().ok()?;
-        let (after, others) = rest.split_at_checked(length.parse().ok()?)?;
+        let [word, name, length, before, from] =
+            line.split(' ').collect::<Vec<_>>().try_into().ok()?;
+        let (bytes, others) = rest.split_at_checked(length.parse().ok()?)?;
         rest = others;
         changes.push(Change {
             name: name.to_string(),
@@ -58,7 +99,7 @@ pub fn decode(journal: &[u8]) -> Option<Vec<Change>> {
                 NOTHING => None,
                 digest => Some(Digest::parse(digest)?),
             },
-            after: after.to_vec(),
+            edit: Edit::of_parts(word, bytes, from.parse().ok()?)?,
         });
     }
 }
@@ -75,15 +116,18 @@ mod tests {
     use super::*;
 
     fn changes() -> Vec<Change> {
-        let change = |name: &str, before: Option<&[u8]>, after: &[u8]| Change {
+        let change = |name: &str, before: Option<&[u8]>, edit: Edit| Change {
             name: name.to_string(),
             before: before.map(Digest::of),
-            after: after.to_vec(),
+            edit,
         };
+        let more = b"line\n".to_vec();
         vec![
-            change("a", None, b"one\ntwo"),
-            change("b", Some(b"old"), b""),
-            change("c", Some(b""), b"end\n"),
+            change("a", None, Edit::Put(b"one\ntwo".to_vec())),
+            change("b", Some(b"old"), Edit::Put(Vec::new())),
+            change("c", Some(b""), Edit::Put(b"end\n".to_vec())),
+            change("d", Some(b"tail"), Edit::Append { from: 7000, more }),
+            change("e", Some(b"old"), Edit::Remove),
         ]
     }
 

@@ -7,57 +7,94 @@ mod answers;
 mod args;
 mod bar;
 mod case;
+mod change;
 mod changes;
 mod class;
+mod classing;
+mod clock;
 mod columns;
 mod commands;
 mod digest;
 mod disk;
 mod faults;
 mod fid;
+mod filter;
 mod finding;
+mod foretell;
 mod help;
+mod hex;
+mod history;
+mod hook;
 mod journal;
 mod json;
+mod lock;
+mod moments;
 mod outcome;
+mod pace;
+mod permissions;
+mod plain;
 mod position;
+mod reader;
 mod rows;
+mod save;
 mod saved;
 mod site;
 mod slices;
+mod story;
 mod tables;
+mod values;
 mod verdict;
 mod why;
 
+use std::ffi::OsString;
 use std::io::{self, Write};
 use std::process::ExitCode;
 
 use outcome::{Failure, Outcome, Status};
 
 fn main() -> ExitCode {
-    let outcome =
-        args::Call::parse(std::env::args_os().skip(1)).and_then(|call| commands::execute(&call));
-    let status = match outcome.and_then(print) {
-        Ok(status) => status,
-        Err(failure) => {
-            let message = failure.message.replace(char::is_control, " ");
-            let _ = writeln!(io::stderr(), "lfsck-offline: {message}");
-            failure.status
-        }
+    let words: Vec<OsString> = std::env::args_os().skip(1).collect();
+    let json = args::Call::wants_json(words.iter().cloned());
+    let outcome = args::Call::parse(words).and_then(|call| commands::execute(&call));
+    let status = match outcome {
+        Ok(outcome) => print(&outcome),
+        Err(failure) => fail(&failure, json),
     };
     ExitCode::from(status as u8)
 }
 
-/// Prints what a command has to say. A reader that has heard enough is no trouble.
-fn print(outcome: Outcome) -> Result<Status, Failure> {
+/// Says why a command ended early; to machines on standard output too.
+fn fail(failure: &Failure, json: bool) -> Status {
+    if json {
+        // Where it cannot be written, the line below says it.
+        let _ = write_out(&failure.json().line());
+    }
+    tell(&failure.message);
+    failure.status
+}
+
+/// A line on standard error.
+fn tell(message: &str) {
+    let message = message.replace(char::is_control, " ");
+    let _ = writeln!(io::stderr(), "lfsck-offline: {message}");
+}
+
+fn write_out(text: &str) -> io::Result<()> {
     let mut out = io::stdout().lock();
-    let printed = out
-        .write_all(outcome.text.as_bytes())
-        .and_then(|()| out.flush());
+    out.write_all(text.as_bytes()).and_then(|()| out.flush())
+}
+
+/// Prints what a command has to say. A reader that has heard enough is no trouble.
+fn print(outcome: &Outcome) -> Status {
+    let printed = write_out(&outcome.text);
+    outcome.note.into_iter().for_each(tell);
     match printed {
         Err(error) if error.kind() != io::ErrorKind::BrokenPipe => {
-            Err(Failure::files(format!("standard output: {error}")))
+            let lasting = outcome.lasting.map(|done| format!("; {done}"));
+            let lasting = lasting.unwrap_or_default();
+            tell(&format!("standard output: {error}{lasting}"));
+            Status::Files
         }
-        _ => Ok(outcome.status),
+        _ => outcome.status,
     }
 }

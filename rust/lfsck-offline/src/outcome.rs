@@ -2,6 +2,8 @@
 
 use std::fmt::Display;
 
+use crate::json::Json;
+
 /// Exit statuses.
 #[derive(Clone, Copy, Debug, PartialEq, Eq)]
 pub enum Status {
@@ -13,6 +15,8 @@ pub enum Status {
     Refused = 2,
     /// The reserve or a table's unused rows ran out.
     RanOut = 3,
+    /// There is something to mend, and the exit status was to tell.
+    ToMend = 4,
     /// The command line is not one of ours.
     Usage = 64,
     /// A file could not be read or written, or the case is in use.
@@ -26,14 +30,25 @@ pub struct Outcome {
     pub text: String,
     /// The exit status.
     pub status: Status,
+    /// A line for standard error.
+    pub note: Option<&'static str>,
+    /// What was done for good, whether or not the text can be printed.
+    pub lasting: Option<&'static str>,
 }
 
 impl Outcome {
     /// A command that did what it was asked.
     pub fn done(text: String) -> Outcome {
+        Outcome::ended(text, Status::Done)
+    }
+
+    /// A command that ended with this status.
+    pub fn ended(text: String, status: Status) -> Outcome {
         Outcome {
             text,
-            status: Status::Done,
+            status,
+            note: None,
+            lasting: None,
         }
     }
 }
@@ -45,30 +60,49 @@ pub struct Failure {
     pub message: String,
     /// The exit status.
     pub status: Status,
+    /// The library's number, where it refused the input.
+    pub answer: Option<u32>,
 }
 
 impl Failure {
+    fn new(message: String, status: Status) -> Failure {
+        Failure {
+            message,
+            status,
+            answer: None,
+        }
+    }
+
     /// A command line that cannot be followed.
     pub fn usage(message: impl Display) -> Failure {
-        Failure {
-            message: format!("{message} (see lfsck-offline --help)"),
-            status: Status::Usage,
-        }
+        let message = format!("{message} (see lfsck-offline --help)");
+        Failure::new(message, Status::Usage)
     }
 
     /// Input that is refused.
     pub fn refused(message: impl Display) -> Failure {
+        Failure::new(message.to_string(), Status::Refused)
+    }
+
+    /// Input that the library refused with this number.
+    pub fn answered(answer: u32, message: impl Display) -> Failure {
         Failure {
-            message: message.to_string(),
-            status: Status::Refused,
+            answer: Some(answer),
+            ..Failure::refused(message)
         }
     }
 
     /// Trouble with a file.
     pub fn files(message: impl Display) -> Failure {
-        Failure {
-            message: message.to_string(),
-            status: Status::Files,
-        }
+        Failure::new(message.to_string(), Status::Files)
+    }
+
+    /// For machines.
+    pub fn json(&self) -> Json {
+        Json::Object(vec![
+            ("error", Json::text(&self.message)),
+            ("status", Json::Number(self.status as u64)),
+            ("answer", Json::maybe_number(self.answer)),
+        ])
     }
 }

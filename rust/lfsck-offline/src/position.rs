@@ -1,9 +1,11 @@
 //! Positions of a run: document 01's stage, row and part.
 
+use numbers::call::{END, STAGE_END, STAGE_OBJECTS, STAGE_PARENTS};
+
 use crate::site::{Place, Site};
 
 /// A step of a run, or its end.
-#[derive(Clone, Copy, Debug, PartialEq, Eq)]
+#[derive(Clone, Copy, Debug, PartialEq, Eq, Hash)]
 pub enum Position {
     /// The header of a parent row; of an unused row, the row.
     Header(usize),
@@ -20,13 +22,13 @@ impl Position {
     pub fn of_numbers([stage, row, part]: [u64; 3]) -> Option<Position> {
         let row = usize::try_from(row).ok()?;
         match (stage, part) {
-            (1, 0) => Some(Position::Header(row)),
-            (1, part) => Some(Position::Slot(Place {
+            (STAGE_PARENTS, 0) => Some(Position::Header(row)),
+            (STAGE_PARENTS, part) => Some(Position::Slot(Place {
                 row,
                 slot: usize::try_from(part).ok()? - 1,
             })),
-            (2, 0) => Some(Position::Object(row)),
-            (3, 0) if row == 0 => Some(Position::End),
+            (STAGE_OBJECTS, 0) => Some(Position::Object(row)),
+            (STAGE_END, 0) if row == 0 => Some(Position::End),
             _ => None,
         }
     }
@@ -34,10 +36,10 @@ impl Position {
     /// Stage, row and part.
     pub fn to_numbers(self) -> [u64; 3] {
         match self {
-            Position::Header(row) => [1, row as u64, 0],
-            Position::Slot(place) => [1, place.row as u64, place.slot as u64 + 1],
-            Position::Object(row) => [2, row as u64, 0],
-            Position::End => [3, 0, 0],
+            Position::Header(row) => [STAGE_PARENTS, row as u64, 0],
+            Position::Slot(place) => [STAGE_PARENTS, place.row as u64, place.slot as u64 + 1],
+            Position::Object(row) => [STAGE_OBJECTS, row as u64, 0],
+            Position::End => END,
         }
     }
 
@@ -48,6 +50,11 @@ impl Position {
             std::iter::once(Position::Header(row)).chain(slots)
         });
         parents.chain((0..site.objects.len()).map(Position::Object))
+    }
+
+    /// Where a run begins: the first position that there is.
+    pub fn start(site: &Site) -> Position {
+        Position::all(site).next().unwrap_or(Position::End)
     }
 
     /// The steps from here to the end, by document 01's count. What is no position of the tables
@@ -93,4 +100,40 @@ impl Position {
 /// The slots of a parent row; an unused one has none.
 fn width(site: &Site, row: usize) -> usize {
     site.file(row).map_or(0, |file| file.slots.len())
+}
+
+#[cfg(test)]
+mod tests {
+    use super::*;
+    use crate::tables::Tables;
+    use difftest::tables::{Shape, random_tables, to_bytes};
+    use difftest::{Coverage, Random};
+
+    const SHAPE: Shape = Shape {
+        parents: 2,
+        objects: 2,
+        slots: 2,
+        files: 2,
+        fids: 2,
+    };
+
+    #[test]
+    fn the_start_is_the_library_s() {
+        let mut random = Random::for_test("start");
+        let mut met = Coverage::of("stages", [1, 2, 3]);
+        for _ in 0..1000 {
+            let (parents, objects) = to_bytes(&random_tables(SHAPE, &mut random), &mut random);
+            let mut start = [0; 3];
+            assert_eq!(lfsck_sys::start(&parents, &objects, &mut start), 0);
+            let reserve = Vec::new();
+            let site = Site::new(&Tables {
+                parents,
+                objects,
+                reserve,
+            });
+            assert_eq!(Position::start(&site).to_numbers(), start);
+            met.met(start[0]);
+        }
+        met.require(10);
+    }
 }

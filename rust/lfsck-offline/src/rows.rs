@@ -2,27 +2,9 @@
 
 use std::fmt;
 
+use numbers::{call, layout, object, parent};
+
 use crate::fid::{Fid, MdtFid, OstFid, number16, number32};
-
-/// Where the self FID of a row stands, after the used mark.
-pub const SELF_AT: usize = 1;
-/// Where the owner of a file stands.
-pub const FILE_OWNER_AT: usize = 17;
-/// Where the length of a layout stands.
-pub const LENGTH_AT: usize = 25;
-/// Where the layout stands.
-pub const LAYOUT_AT: usize = 27;
-/// Where the OST index of an object stands.
-pub const OST_AT: usize = 17;
-/// Where the owner of an object stands.
-pub const OBJECT_OWNER_AT: usize = 21;
-/// Where the claim of an object stands.
-pub const CLAIM_AT: usize = 29;
-/// Where the fresh mark of an object stands.
-pub const FRESH_AT: usize = 45;
-
-/// The pattern in which slots may be holes.
-pub const HOLE_PATTERN: u64 = 0x4000_0001;
 
 /// A uid and a gid, written `500:600`.
 #[derive(Clone, Copy, Debug, PartialEq, Eq)]
@@ -34,7 +16,7 @@ pub struct Owner {
 }
 
 /// The slot that an object says it belongs to.
-#[derive(Clone, Copy, Debug, PartialEq, Eq)]
+#[derive(Clone, Copy, Debug, PartialEq, Eq, Hash)]
 pub struct Claim {
     /// The file.
     pub file: MdtFid,
@@ -53,6 +35,15 @@ pub struct Stripe {
     pub ost: u64,
 }
 
+/// The FID in a layout: of its own file, if all is well. Its id has 64 bits.
+#[derive(Clone, Copy, Debug, PartialEq, Eq)]
+pub struct OwnFid {
+    /// The sequence.
+    pub sequence: u64,
+    /// The id.
+    pub id: u64,
+}
+
 /// The header of a layout.
 #[derive(Clone, Copy, Debug, PartialEq, Eq)]
 pub struct Header {
@@ -60,10 +51,8 @@ pub struct Header {
     pub version: u64,
     /// The pattern.
     pub pattern: u64,
-    /// The id of the file that the layout says it belongs to.
-    pub own_id: u64,
-    /// The sequence of that file.
-    pub own_sequence: u64,
+    /// The file that the layout says it belongs to.
+    pub own: OwnFid,
     /// The stripe size in bytes.
     pub stripe_size: u64,
     /// The generation.
@@ -110,7 +99,7 @@ impl Owner {
 impl Header {
     /// Whether slots may be holes.
     pub fn holes_allowed(&self) -> bool {
-        self.pattern == HOLE_PATTERN
+        self.pattern == u64::from(layout::HOLES)
     }
 }
 
@@ -121,6 +110,14 @@ impl Claim {
             file: MdtFid(Fid::new(fid.sequence, fid.id)),
             index: fid.version,
         })
+    }
+}
+
+/// A number of slots in words.
+pub fn slots_words(count: usize) -> String {
+    match count {
+        1 => "1 slot".to_string(),
+        _ => format!("{count} slots"),
     }
 }
 
@@ -135,30 +132,29 @@ impl File {
         if !is_used(row) {
             return None;
         }
-        let length = usize::from(number16(row, LENGTH_AT));
-        let layout = row.get(LAYOUT_AT..LAYOUT_AT + length)?;
-        let mut fields = [0; 8];
+        let length = usize::from(number16(row, parent::LENGTH_AT));
+        let layout = row[parent::LAYOUT_AT..].get(..length)?;
+        let mut fields = [0; call::HEADER_READ];
         if lfsck_sys::layout_read(layout, &mut fields) != 0 {
             return None;
         }
         let [
             version,
             pattern,
-            own_id,
-            own_sequence,
+            id,
+            sequence,
             stripe_size,
             count,
             generation,
             _,
         ] = fields;
         Some(File {
-            fid: MdtFid(Fid::read(row, SELF_AT)),
-            owner: Owner::read(row, FILE_OWNER_AT),
+            fid: MdtFid(Fid::read(row, parent::SELF_AT)),
+            owner: Owner::read(row, parent::OWNER_AT),
             header: Header {
                 version,
                 pattern,
-                own_id,
-                own_sequence,
+                own: OwnFid { sequence, id },
                 stripe_size,
                 generation,
             },
@@ -169,7 +165,7 @@ impl File {
 
 /// A slot of a layout that the library reads.
 fn read_slot(layout: &[u8], index: u64) -> Option<Stripe> {
-    let mut numbers = [0; 5];
+    let mut numbers = [0; call::SLOT];
     lfsck_sys::layout_slot(layout, index, &mut numbers);
     let [named, sequence, id, generation, ost] = numbers;
     (named == 1).then_some(Stripe {
@@ -183,11 +179,11 @@ impl Object {
     /// The object in a row, none where the row is unused.
     pub fn read(row: &[u8]) -> Option<Object> {
         is_used(row).then(|| Object {
-            fid: OstFid(Fid::read(row, SELF_AT)),
-            ost: number32(row, OST_AT),
-            owner: Owner::read(row, OBJECT_OWNER_AT),
-            claim: Claim::of_fid(Fid::read(row, CLAIM_AT)),
-            fresh: row[FRESH_AT] == 1,
+            fid: OstFid(Fid::read(row, object::SELF_AT)),
+            ost: number32(row, object::OST_AT),
+            owner: Owner::read(row, object::OWNER_AT),
+            claim: Claim::of_fid(Fid::read(row, object::CLAIM_AT)),
+            fresh: row[object::FRESH_AT] == 1,
         })
     }
 }
@@ -195,6 +191,12 @@ impl Object {
 impl fmt::Display for Owner {
     fn fmt(&self, out: &mut fmt::Formatter<'_>) -> fmt::Result {
         write!(out, "{}:{}", self.uid, self.gid)
+    }
+}
+
+impl fmt::Display for OwnFid {
+    fn fmt(&self, out: &mut fmt::Formatter<'_>) -> fmt::Result {
+        write!(out, "sequence {:#x} and id {:#x}", self.sequence, self.id)
     }
 }
 

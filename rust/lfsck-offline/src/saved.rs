@@ -3,6 +3,8 @@
 //! It counts only for the policy, the reserve and the tables that it was saved with: under any
 //! other a run that went on from it could pass by what has changed since.
 
+use numbers::call::{ADOPT, CREATE};
+
 use crate::digest::Digest;
 use crate::tables::Tables;
 
@@ -96,8 +98,8 @@ impl Saved {
 pub fn policy_words(policy: u64) -> &'static str {
     match policy {
         0 => "neither create nor adopt",
-        1 => "create",
-        2 => "adopt",
+        CREATE => "create",
+        ADOPT => "adopt",
         _ => "create and adopt",
     }
 }

@@ -8,7 +8,7 @@ use crate::rows::{Claim, File, Object, Stripe};
 use crate::tables::{Table, Tables};
 
 /// A slot of a parent row.
-#[derive(Clone, Copy, Debug, PartialEq, Eq)]
+#[derive(Clone, Copy, Debug, PartialEq, Eq, Hash)]
 pub struct Place {
     /// The parent row.
     pub row: usize,
@@ -25,6 +25,19 @@ pub struct Named {
     pub slot: usize,
 }
 
+/// How many slots name objects.
+#[derive(Clone, Copy, Debug, PartialEq, Eq)]
+pub struct NamedCounts {
+    /// The slots that name one.
+    pub slots: usize,
+    /// The objects that are named.
+    pub objects: usize,
+    /// The objects that are named and absent.
+    pub absent: usize,
+    /// The slots that name an object which another slot keeps.
+    pub surplus: usize,
+}
+
 /// The files and objects of a case; unused rows are `None`.
 pub struct Site {
     /// The parent rows.
@@ -34,6 +47,7 @@ pub struct Site {
     file_rows: HashMap<MdtFid, usize>,
     object_rows: HashMap<OstFid, usize>,
     named_by: HashMap<OstFid, Vec<Place>>,
+    first_claimants: HashMap<Claim, OstFid>,
 }
 
 impl Site {
@@ -45,14 +59,22 @@ impl Site {
             file_rows: HashMap::new(),
             object_rows: HashMap::new(),
             named_by: HashMap::new(),
+            first_claimants: HashMap::new(),
         };
         site.find_files();
-        for (row, object) in site.objects.iter().enumerate() {
-            if let Some(object) = object {
-                site.object_rows.insert(object.fid, row);
+        site.find_objects();
+        site
+    }
+
+    fn find_objects(&mut self) {
+        for (row, object) in self.objects.iter().enumerate() {
+            let Some(object) = object else { continue };
+            self.object_rows.insert(object.fid, row);
+            let unnamed = !self.named_by.contains_key(&object.fid);
+            if let Some(claim) = object.claim.filter(|_| unnamed && !object.fresh) {
+                self.first_claimants.entry(claim).or_insert(object.fid);
             }
         }
-        site
     }
 
     fn find_files(&mut self) {
@@ -96,6 +118,23 @@ impl Site {
     /// The slots that name an object, in scan order.
     pub fn named_by(&self, fid: OstFid) -> &[Place] {
         self.named_by.get(&fid).map_or(&[], Vec::as_slice)
+    }
+
+    /// How many slots name objects, and how many of these are to be made or redirected.
+    pub fn named(&self) -> NamedCounts {
+        let slots = self.named_by.values().map(Vec::len).sum();
+        let is_absent = |fid: &&OstFid| !self.object_rows.contains_key(fid);
+        NamedCounts {
+            slots,
+            objects: self.named_by.len(),
+            absent: self.named_by.keys().filter(is_absent).count(),
+            surplus: slots - self.named_by.len(),
+        }
+    }
+
+    /// Of the objects with a claim that no slot names and that may hold data, the first.
+    pub fn first_claimant(&self, claim: Claim) -> Option<OstFid> {
+        self.first_claimants.get(&claim).copied()
     }
 
     /// The place of a claim whose file is there, whether or not it has the slot.

@@ -1,8 +1,26 @@
 //! A run of the library, at once or in slices so that somebody can watch.
 
-use std::time::{Duration, Instant};
+use std::ops::ControlFlow;
+use std::time::Instant;
 
+use numbers::answer::STEPS_USED;
+use numbers::call;
+
+use crate::json::Json;
+use crate::pace::Pace;
 use crate::tables::Tables;
+
+/// The classes whose repairs a run counts, in the order of its counts.
+pub const COUNTED: [&str; call::COUNTED] = [
+    "SELF",
+    "MULTIPLE",
+    "DANGLING",
+    "BLANK",
+    "UNMATCHED",
+    "OWNER",
+    "EMPTY",
+    "ORPHAN",
+];
 
 /// The answer of a run, where it stands and what it did.
 #[derive(Clone, Copy, Debug, PartialEq, Eq)]
@@ -13,37 +31,14 @@ pub struct Run {
     pub position: [u64; 3],
     /// The steps done.
     pub steps: u64,
-    /// The repairs of SELF, MULTIPLE, DANGLING, BLANK, UNMATCHED, OWNER, EMPTY and ORPHAN.
-    pub repairs: [u64; 8],
-}
-
-/// The steps of a slice: enough to make the check that each begins with a small part of it.
-struct Pace {
-    check: Duration,
-    steps: u64,
-}
-
-/// A slice takes about so long, and about so many times its check.
-const SLICE: Duration = Duration::from_secs(1);
-const CHECKS: u32 = 3;
-/// A slice has at most so many times the steps of the last one: later steps may take longer.
-const GROWTH: f64 = 4.0;
-
-impl Pace {
-    /// The steps for the next slice, after one that took this long.
-    fn next(&self, took: Duration) -> u64 {
-        let work = took.saturating_sub(self.check).max(took / 100);
-        let wanted = SLICE.max(self.check * CHECKS);
-        let factor = wanted.as_secs_f64() / work.as_secs_f64().max(1e-6);
-        let steps = self.steps as f64 * factor.clamp(1.0 / GROWTH, GROWTH);
-        (steps as u64).max(1)
-    }
+    /// The repairs of each class that is counted.
+    pub repairs: [u64; call::COUNTED],
 }
 
 /// Runs at once.
 pub fn run(tables: &mut Tables, policy: u64, most: u64, position: [u64; 3]) -> Run {
     let mut position = position;
-    let mut report = [0; 9];
+    let mut report = [0; call::REPORT];
     let answer = lfsck_sys::run(
         &mut tables.parents,
         &mut tables.objects,
@@ -62,33 +57,62 @@ pub fn run(tables: &mut Tables, policy: u64, most: u64, position: [u64; 3]) -> R
     }
 }
 
-/// Runs in slices, the first of so many steps, and tells after each how many are done. A run of
-/// a steps and then one of b equals one of a + b, so nobody can tell the difference.
+/// Runs in slices, the first of so many steps, and tells after each how many are done; goes on
+/// while it is told to. A run of a steps and then one of b equals one of a + b, so nobody can tell
+/// the difference.
 pub fn run_watched(
     tables: &mut Tables,
     policy: u64,
     most: u64,
     position: [u64; 3],
     first: u64,
-    mut watch: impl FnMut(u64),
+    mut watch: impl FnMut(u64) -> ControlFlow<()>,
 ) -> Run {
     let started = Instant::now();
-    let mut whole = run(tables, policy, 0, position);
-    let mut pace = Pace {
-        check: started.elapsed(),
-        steps: first,
-    };
-    while whole.answer == 1 && whole.steps < most {
+    let mut whole = run(tables, policy, first.min(most), position);
+    let took = started.elapsed();
+    let over = whole.answer != STEPS_USED || whole.steps == most;
+    if over || watch(whole.steps).is_break() {
+        return whole;
+    }
+    // No steps are a check alone.
+    let started = Instant::now();
+    run(tables, policy, 0, whole.position);
+    let mut pace = Pace::after(first, took, started.elapsed());
+    while whole.answer == STEPS_USED && whole.steps < most {
         let started = Instant::now();
-        let steps = pace.steps.min(most - whole.steps);
+        let steps = pace.steps().min(most - whole.steps);
         whole.add(run(tables, policy, steps, whole.position));
-        watch(whole.steps);
-        pace.steps = pace.next(started.elapsed());
+        if watch(whole.steps).is_break() {
+            break;
+        }
+        pace.took(started.elapsed());
     }
     whole
 }
 
 impl Run {
+    /// The repairs by class, for people.
+    pub fn repairs_words(&self) -> String {
+        let made: Vec<String> = COUNTED
+            .iter()
+            .zip(self.repairs)
+            .filter(|(_, count)| *count > 0)
+            .map(|(class, count)| format!("{class} {count}"))
+            .collect();
+        match made.len() {
+            0 => "none".to_string(),
+            _ => made.join(", "),
+        }
+    }
+
+    /// The repairs by class, for machines.
+    pub fn repairs_json(&self) -> Json {
+        let repairs = COUNTED.iter().zip(self.repairs);
+        let members = repairs.map(|(class, count)| (*class, Json::Number(count)));
+        Json::Object(members.collect())
+    }
+
     /// Adds a later run: counts added, answer and position taken.
     fn add(&mut self, later: Run) {
         self.answer = later.answer;
@@ -129,7 +153,7 @@ mod tests {
                 reserve,
             };
             let site = Site::new(&tables);
-            let start = Position::all(&site).next().unwrap_or(Position::End);
+            let start = Position::start(&site);
             let policy = random.below(4) as u64;
             let most = random.pick(&[0, 1, 150, 401, u64::MAX]);
             let mut watched = tables.clone();
@@ -141,7 +165,10 @@ mod tests {
                 most,
                 start.to_numbers(),
                 50,
-                |steps| told.push(steps),
+                |steps| {
+                    told.push(steps);
+                    ControlFlow::Continue(())
+                },
             );
             assert_eq!(sliced, whole);
             assert_eq!(watched, tables);
@@ -151,15 +178,30 @@ mod tests {
         assert!(watched_often);
     }
 
+    /// A run that is told to stop after its first slice is a run of the slice's steps.
     #[test]
-    fn a_slice_is_a_second_or_three_checks() {
-        let second = Duration::from_secs(1);
-        let pace = |check, steps| Pace { check, steps };
-        assert_eq!(pace(Duration::ZERO, 1000).next(second), 1000);
-        assert_eq!(pace(Duration::ZERO, 1000).next(second / 2), 2000);
-        assert_eq!(pace(Duration::ZERO, 1000).next(second / 1000), 4000);
-        assert_eq!(pace(second, 1000).next(2 * second), 3000);
-        assert_eq!(pace(second, 1000).next(101 * second), 250);
-        assert_eq!(pace(Duration::ZERO, 1).next(50 * second), 1);
+    fn a_run_that_is_told_to_stop_stops_between_two_steps() {
+        const SLICE: u64 = 30;
+        let mut random = Random::for_test("stops");
+        let mut stopped = 0;
+        for _ in 0..200 {
+            let (parents, objects) = to_bytes(&random_tables(SHAPE, &mut random), &mut random);
+            let mut tables = Tables {
+                parents,
+                objects,
+                reserve: Vec::new(),
+            };
+            let site = Site::new(&tables);
+            let start = Position::start(&site);
+            let start = start.to_numbers();
+            let mut watched = tables.clone();
+            let stop = |_| ControlFlow::Break(());
+            let sliced = run_watched(&mut watched, 2, u64::MAX, start, SLICE, stop);
+            let whole = run(&mut tables, 2, SLICE, start);
+            assert_eq!(sliced, whole);
+            assert_eq!(watched, tables);
+            stopped += u64::from(sliced.answer == 1);
+        }
+        assert!(stopped > 100);
     }
 }

@@ -1,11 +1,7 @@
 //! The three tables of a case, as bytes.
 
-use crate::fid::FID_BYTES;
-
-/// The bytes of a parent row.
-pub const PARENT_BYTES: usize = 3915;
-/// The bytes of an object row.
-pub const OBJECT_BYTES: usize = 46;
+use numbers::call::END;
+use numbers::{object, parent, reserve};
 
 /// Which table.
 #[derive(Clone, Copy, Debug, PartialEq, Eq)]
@@ -34,17 +30,18 @@ impl Table {
     /// The bytes of a row.
     pub fn row_bytes(self) -> usize {
         match self {
-            Table::Parents => PARENT_BYTES,
-            Table::Objects => OBJECT_BYTES,
-            Table::Reserve => FID_BYTES,
+            Table::Parents => parent::BYTES,
+            Table::Objects => object::BYTES,
+            Table::Reserve => reserve::BYTES,
         }
     }
 
     /// The most rows.
     pub fn most_rows(self) -> usize {
         match self {
-            Table::Parents => 1024,
-            Table::Objects | Table::Reserve => 65_536,
+            Table::Parents => parent::MOST,
+            Table::Objects => object::MOST,
+            Table::Reserve => reserve::MOST,
         }
     }
 
@@ -75,6 +72,15 @@ impl Tables {
         }
     }
 
+    /// The bytes of a table, to be changed.
+    pub fn of_mut(&mut self, table: Table) -> &mut Vec<u8> {
+        match table {
+            Table::Parents => &mut self.parents,
+            Table::Objects => &mut self.objects,
+            Table::Reserve => &mut self.reserve,
+        }
+    }
+
     /// The whole rows of a table.
     pub fn rows(&self, table: Table) -> impl Iterator<Item = &[u8]> {
         self.of(table).chunks_exact(table.row_bytes())
@@ -82,6 +88,11 @@ impl Tables {
 
     /// The library's number for the tables: 0, 11, 13, 14 or 15. The end is always a position.
     pub fn check(&self) -> u32 {
-        lfsck_sys::check(&self.parents, &self.objects, &self.reserve, 0, [3, 0, 0])
+        lfsck_sys::check(&self.parents, &self.objects, &self.reserve, 0, END)
+    }
+
+    /// The reserve passes the check, whatever stands in the other tables.
+    pub fn is_reserve_sound(&self) -> bool {
+        lfsck_sys::check(&[], &[], &self.reserve, 0, END) == 0
     }
 }

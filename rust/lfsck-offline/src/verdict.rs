@@ -1,142 +1,134 @@
-//! The class at a position: the library's verdict.
+//! The classes of a case's positions: the library's verdicts.
 //!
-//! The library checks everything that it is handed on every call, and that takes long for full
-//! tables. So a large case is not handed over whole for each of its positions, but by the rows
-//! that bear on the position, in their order: its own; the claimed file's; the first that names
-//! the object, because the keeper is looked for in scan order; and where a place is asked for,
-//! the object that stands there and another file that names it. No rule of the classes looks at
-//! more. The tests compare both ways on many tables.
+//! Each call of the library checks the whole tables first, and at the limits that takes seconds.
+//! So one call tells many classes: where a few positions are asked for, of those that follow
+//! each, and after some calls all that there are. Its number is handed on where it refuses the
+//! tables.
+
+use std::cell::{Cell, RefCell};
+
+use numbers::call::CLASS;
 
 use crate::class::Class;
 use crate::position::Position;
-use crate::site::{Place, Site};
-use crate::tables::{Table, Tables};
+use crate::site::Site;
+use crate::tables::Tables;
 
-/// Up to so many parent rows, and so many object rows, a case is handed over whole.
-const FEW_PARENTS: usize = 64;
-const FEW_OBJECTS: usize = 512;
+/// So many calls are made for single positions.
+const FEW_CALLS: u32 = 4;
 
-/// Verdicts on the positions of a case with sound tables.
+/// Such a call tells so many classes.
+pub const BY_CALL: usize = 4096;
+
+/// Verdicts on the positions of a case.
 pub struct Verdicts<'case> {
     tables: &'case Tables,
-    site: &'case Site,
-    whole: bool,
-}
-
-/// The rows that bear on a position, in their order.
-#[derive(Default)]
-struct Bearing {
-    parents: Vec<usize>,
-    objects: Vec<usize>,
+    /// Where a run begins.
+    first: Position,
+    /// How many positions come before each parent row, and before the first object row.
+    starts: Vec<usize>,
+    /// The classes that are known, in the order of a run.
+    known: RefCell<Vec<Option<Class>>>,
+    /// The calls that were made for single positions.
+    calls: Cell<u32>,
+    /// The classes that such a call tells.
+    by_call: usize,
 }
 
 impl<'case> Verdicts<'case> {
     /// Verdicts on a case.
     pub fn new(tables: &'case Tables, site: &'case Site) -> Verdicts<'case> {
+        let widths = site.files.iter().map(|file| match file {
+            Some(file) => 1 + file.slots.len(),
+            None => 1,
+        });
+        let mut starts = vec![0];
+        for width in widths {
+            starts.push(starts[starts.len() - 1] + width);
+        }
+        let count = starts[starts.len() - 1] + site.objects.len();
         Verdicts {
             tables,
-            site,
-            whole: site.files.len() <= FEW_PARENTS && site.objects.len() <= FEW_OBJECTS,
+            first: Position::start(site),
+            starts,
+            known: RefCell::new(vec![None; count]),
+            calls: Cell::new(0),
+            by_call: BY_CALL,
         }
     }
 
     /// The class at a position that is not the end.
-    pub fn at(&self, position: Position) -> Class {
-        if self.whole {
-            return ask(
-                &self.tables.parents,
-                &self.tables.objects,
-                position.to_numbers(),
-            );
+    pub fn at(&self, position: Position) -> Result<Class, u32> {
+        let index = self.index(position);
+        if self.known.borrow()[index].is_none() {
+            self.tell_about(position)?;
         }
-        self.at_by_bearing(position)
+        Ok(self.known.borrow()[index].expect("every position before the end has a class"))
     }
 
-    fn at_by_bearing(&self, position: Position) -> Class {
-        let rows = Bearing::on(position, self.site);
-        let parents = cut(&self.tables.parents, Table::Parents, &rows.parents);
-        let objects = cut(&self.tables.objects, Table::Objects, &rows.objects);
-        let [stage, row, part] = position.to_numbers();
-        let own = if stage == 1 {
-            &rows.parents
-        } else {
-            &rows.objects
-        };
-        let at = own.iter().take_while(|&&other| other < row as usize);
-        ask(&parents, &objects, [stage, at.count() as u64, part])
+    /// Asks for all classes, so many by a call, and tells after each how many are known.
+    pub fn tell_all(&self, by_call: usize, mut watch: impl FnMut(u64)) -> Result<(), u32> {
+        let mut position = self.first;
+        let mut done = 0;
+        while position != Position::End {
+            let (told, next) = self.tell(position, by_call.max(1))?;
+            done += told;
+            position = next;
+            watch(done as u64);
+        }
+        Ok(())
     }
-}
 
-/// The library's class.
-fn ask(parents: &[u8], objects: &[u8], position: [u64; 3]) -> Class {
-    let mut numbers = [0; 4];
-    let answer = lfsck_sys::class(parents, objects, position, &mut numbers);
-    assert_eq!(
-        answer, 0,
-        "the library refused sound tables at {position:?}"
-    );
-    Class::of_numbers(numbers).expect("a class of document 01")
-}
+    /// Asks for the classes from a position on; after some calls, for all.
+    fn tell_about(&self, position: Position) -> Result<(), u32> {
+        if self.calls.get() == FEW_CALLS {
+            return self.tell_all(self.count(), |_| ());
+        }
+        self.calls.set(self.calls.get() + 1);
+        self.tell(position, self.by_call).map(|_| ())
+    }
 
-/// The chosen rows of a table.
-fn cut(bytes: &[u8], table: Table, rows: &[usize]) -> Vec<u8> {
-    let size = table.row_bytes();
-    let chosen = rows.iter().map(|row| &bytes[size * row..][..size]);
-    chosen.collect::<Vec<_>>().concat()
-}
+    /// One call of the library, for so many classes from a position on: how many it told, and the
+    /// first position that it did not.
+    fn tell(&self, from: Position, most: usize) -> Result<(usize, Position), u32> {
+        let mut position = from.to_numbers();
+        let first = self.index(from);
+        let most = most.min(self.count() - first);
+        let mut numbers = vec![0; CLASS * most];
+        let mut done = [0];
+        let answer = lfsck_sys::classes(
+            &self.tables.parents,
+            &self.tables.objects,
+            &mut position,
+            &mut numbers,
+            &mut done,
+        );
+        if answer != 0 {
+            return Err(answer);
+        }
+        let told = done[0] as usize;
+        let classes = numbers.as_chunks::<CLASS>().0.iter().take(told);
+        let mut known = self.known.borrow_mut();
+        for (place, class) in known[first..].iter_mut().zip(classes) {
+            *place = Some(Class::of_numbers(*class).expect("a class of document 01"));
+        }
+        let next = Position::of_numbers(position).expect("a position of document 01");
+        Ok((told, next))
+    }
 
-impl Bearing {
-    fn on(position: Position, site: &Site) -> Bearing {
-        let mut rows = Bearing::default();
+    /// How many positions come before this one.
+    fn index(&self, position: Position) -> usize {
         match position {
-            Position::Header(row) => rows.parents.push(row),
-            Position::Slot(place) => rows.add_slot(place, site),
-            Position::Object(row) => rows.add_object(row, site),
-            Position::End => (),
+            Position::Header(row) => self.starts[row],
+            Position::Slot(place) => self.starts[place.row] + 1 + place.slot,
+            Position::Object(row) => self.starts[self.starts.len() - 1] + row,
+            Position::End => self.count(),
         }
-        for rows in [&mut rows.parents, &mut rows.objects] {
-            rows.sort_unstable();
-            rows.dedup();
-        }
-        rows
     }
 
-    /// The file, the object, and where the keeper of the object is looked for.
-    fn add_slot(&mut self, place: Place, site: &Site) {
-        self.parents.push(place.row);
-        let Some(stripe) = site.stripe(place) else {
-            return;
-        };
-        let first = site.named_by(stripe.object).first();
-        self.parents.extend(first.map(|first| first.row));
-        let Some(row) = site.object_row(stripe.object) else {
-            return;
-        };
-        self.objects.push(row);
-        let claim = site.objects[row].and_then(|object| object.claim);
-        let claimed = claim.and_then(|claim| site.file_row(claim.file));
-        self.parents.extend(claimed);
-    }
-
-    /// The object, a slot that names it, and what stands in the place that it claims.
-    fn add_object(&mut self, row: usize, site: &Site) {
-        self.objects.push(row);
-        let Some(object) = site.objects[row] else {
-            return;
-        };
-        let first = site.named_by(object.fid).first();
-        self.parents.extend(first.map(|first| first.row));
-        let Some(claimed) = object.claim.and_then(|claim| site.claimed_place(claim)) else {
-            return;
-        };
-        self.parents.push(claimed.row);
-        let Some(stripe) = site.stripe(claimed) else {
-            return;
-        };
-        self.objects.extend(site.object_row(stripe.object));
-        let mut others = site.named_by(stripe.object).iter();
-        let other = others.find(|other| other.row != claimed.row);
-        self.parents.extend(other.map(|other| other.row));
+    /// How many positions there are before the end.
+    pub fn count(&self) -> usize {
+        self.known.borrow().len()
     }
 }
 
@@ -155,85 +147,48 @@ mod tests {
         fids: 6,
     };
 
-    /// Few objects, so that many slots name the same.
-    const CROWDED: Shape = Shape {
-        parents: 6,
-        objects: 4,
-        slots: 3,
-        files: 6,
-        fids: 3,
-    };
-
-    /// How often each class was met, and how often rows were left out.
-    #[derive(Debug, Default)]
-    struct Met {
-        classes: [u64; 14],
-        left_out: [u64; 14],
-    }
-
-    /// Both ways give the same class at every position.
-    fn compare(tables: &Tables, met: &mut Met) {
-        let site = Site::new(tables);
-        let verdicts = Verdicts::new(tables, &site);
-        for position in Position::all(&site) {
-            let class = ask(&tables.parents, &tables.objects, position.to_numbers());
-            assert_eq!(verdicts.at_by_bearing(position), class);
-            assert_eq!(verdicts.at(position), class);
-            met.classes[class.number()] += 1;
-            let rows = Bearing::on(position, &site);
-            let few = rows.parents.len() < site.files.len();
-            met.left_out[class.number()] += u64::from(few);
-        }
+    /// The class that the library tells of a position alone.
+    fn alone(tables: &Tables, position: Position) -> Class {
+        let mut numbers = [0; CLASS];
+        let position = position.to_numbers();
+        let answer = lfsck_sys::class(&tables.parents, &tables.objects, position, &mut numbers);
+        assert_eq!(answer, 0);
+        Class::of_numbers(numbers).expect("a class of document 01")
     }
 
     #[test]
-    fn the_rows_that_bear_on_a_position_give_the_class_of_the_whole_tables() {
-        let mut random = Random::for_test("bearing");
-        let mut met = Met::default();
-        for round in 0..40_000 {
-            let shape = if round % 2 == 0 { SHAPE } else { CROWDED };
-            let (parents, objects) = to_bytes(&random_tables(shape, &mut random), &mut random);
+    fn verdicts_are_the_classes_of_the_positions_alone() {
+        let mut random = Random::for_test("verdicts");
+        let mut met = [0_u64; 14];
+        for _ in 0..2_000 {
+            let (parents, objects) = to_bytes(&random_tables(SHAPE, &mut random), &mut random);
             let tables = Tables {
                 parents,
                 objects,
                 reserve: Vec::new(),
             };
-            compare(&tables, &mut met);
+            let site = Site::new(&tables);
+            let mut positions: Vec<Position> = Position::all(&site).collect();
+            let told = Verdicts::new(&tables, &site);
+            let mut counts = Vec::new();
+            let by_call = 1 + random.below(12);
+            assert_eq!(told.tell_all(by_call, |done| counts.push(done)), Ok(()));
+            assert!(counts.is_sorted());
+            assert_eq!(counts.last().copied().unwrap_or(0), positions.len() as u64);
+            let asked = Verdicts {
+                by_call: 1 + random.below(12),
+                ..Verdicts::new(&tables, &site)
+            };
+            random.shuffle(&mut positions);
+            for position in positions {
+                let class = alone(&tables, position);
+                assert_eq!(told.at(position), Ok(class), "{position:?}");
+                assert_eq!(asked.at(position), Ok(class), "{position:?}");
+                met[class.number()] += 1;
+            }
         }
         println!("{met:?}");
-        let all = met.classes.iter().chain(&met.left_out);
-        assert!(all.into_iter().all(|&count| count > 100), "{met:?}");
-    }
-
-    /// Random tables among so many unused rows that the case is no longer handed over whole.
-    #[test]
-    fn large_tables_are_classed_as_the_library_classes_them_whole() {
-        let mut random = Random::for_test("large");
-        let mut met = Met::default();
-        for _ in 0..300 {
-            let (parents, objects) = to_bytes(&random_tables(SHAPE, &mut random), &mut random);
-            let tables = Tables {
-                parents: scattered(&parents, Table::Parents, FEW_PARENTS + 1, &mut random),
-                objects: scattered(&objects, Table::Objects, 100, &mut random),
-                reserve: Vec::new(),
-            };
-            compare(&tables, &mut met);
-        }
-        assert!(met.classes.iter().all(|&count| count > 10), "{met:?}");
-    }
-
-    /// The rows of a table in their order, among unused ones.
-    fn scattered(bytes: &[u8], table: Table, count: usize, random: &mut Random) -> Vec<u8> {
-        let size = table.row_bytes();
-        let mut rows = vec![0; size * count];
-        let mut places: Vec<usize> = (0..count).collect();
-        random.shuffle(&mut places);
-        places.truncate(bytes.len() / size);
-        places.sort_unstable();
-        for (row, place) in bytes.chunks(size).zip(places) {
-            rows[size * place..][..size].copy_from_slice(row);
-        }
-        rows
+        assert!(met.iter().all(|&count| count > 100), "{met:?}");
     }
 
     #[test]

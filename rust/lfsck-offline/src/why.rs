@@ -1,12 +1,11 @@
 //! Why a slot is the keeper of an object, and how a claimed place can be had: the rules behind
 //! the library's verdicts, for people to read.
 
+use numbers::layout::MOST_SLOTS;
+
 use crate::fid::OstFid;
 use crate::rows::Claim;
 use crate::site::{Place, Site};
-
-/// The most slots of a layout.
-const MOST_SLOTS: u32 = 160;
 
 /// Which rule makes a slot the keeper.
 #[derive(Clone, Copy, Debug, PartialEq, Eq)]
@@ -132,7 +131,7 @@ fn keeper_by_claim(site: &Site, object: OstFid, claimed: Place) -> Option<(Place
 
 /// How the claimed place can be had, or why it cannot.
 pub fn way_to(site: &Site, claim: Claim) -> Result<Way, Denial> {
-    if claim.index >= MOST_SLOTS {
+    if claim.index as usize >= MOST_SLOTS {
         return Err(Denial::Index);
     }
     let Some(place) = site.claimed_place(claim) else {
@@ -207,7 +206,7 @@ mod tests {
                     continue;
                 };
                 let (keeper, _) = keeper(site, stripe.object).expect("a slot that names it");
-                let multiple = verdicts.at(position) == Class::Multiple;
+                let multiple = verdicts.at(position) == Ok(Class::Multiple);
                 assert_eq!(multiple, keeper != place);
             }
         });
@@ -221,7 +220,7 @@ mod tests {
                 else {
                     continue;
                 };
-                let class = verdicts.at(Position::Object(row));
+                let class = verdicts.at(Position::Object(row)).expect("a class");
                 let unnamed = site.named_by(object.fid).is_empty() && !object.fresh;
                 let way = way_to(site, claim).is_ok();
                 assert_eq!(class == Class::Orphan, unnamed && way);

@@ -16,6 +16,6 @@ mod layout;
 mod run;
 
 pub use check::{check, start, steps};
-pub use class::class;
+pub use class::{class, classes};
 pub use layout::{layout_read, layout_slot, layout_write, slot_rewrite};
 pub use run::run;

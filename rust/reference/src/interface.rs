@@ -8,7 +8,7 @@ mod layout;
 mod run;
 
 pub use check::{check, start, steps};
-pub use class::class;
+pub use class::{class, classes};
 pub use layout::{
     layout_of_numbers, layout_read, layout_slot, layout_write, numbers_of_slot, slot_of_numbers,
     slot_rewrite,

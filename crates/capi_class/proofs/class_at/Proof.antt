@@ -7,7 +7,7 @@ use Rattle.capi_class.proofs.class_at.Tie as tie
 
 returns : tie.Need-returns
 unfolding place
-returns c = let v = c .before .before .before .told2 .given .0 in class-short _ _ (v .0) (sym (c .before .before .before .before .before .class-at .ensures) ∙ c .before .before .before .told2 .given .1) _ (c .before .class-numbers .ensures) (c .if1 .taken)
+returns c = let v = c .before .before .told2 .given .0 in class-short _ _ (v .0) (sym (c .before .before .before .before .class-at .ensures) ∙ c .before .before .told2 .given .1) (c .if1 .taken)
 
 returns-2 : tie.Need-returns-2
 unfolding place
@@ -15,7 +15,7 @@ returns-2 c = class-none _ _ _ _ _ (sym (c .before .before .before .class-at .en
 
 returns-3 : tie.Need-returns-3
 unfolding place
-returns-3 c = let v = c .before .before .before .before .before .before .before .told2 .given .0 in class-done _ _ (v .0) (sym (c .before .before .before .before .before .before .before .before .before .class-at .ensures) ∙ c .before .before .before .before .before .before .before .told2 .given .1) _ (c .before .before .before .before .before .class-numbers .ensures) _ (c .before .before .before .before .if1 .left) (c .before .before .put-class .ensures)
+returns-3 c = let v = c .before .before .before .before .before .before .told2 .given .0 in class-done _ _ (v .0) (sym (c .before .before .before .before .before .before .before .before .class-at .ensures) ∙ c .before .before .before .before .before .before .told2 .given .1) _ (c .before .before .before .before .if1 .left) (c .before .before .put-class .ensures)
 
 pub class-at-spec : {M : Type 1} → statement M
 class-at-spec =
@@ -24,7 +24,6 @@ class-at-spec =
     (λ c κs. search needs)
     (λ c. search needs)
     (λ c. search needs)
-    (λ c κs. search needs)
     returns
     (λ c κs. search needs)
     returns-2

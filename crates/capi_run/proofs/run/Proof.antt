@@ -3,7 +3,8 @@ use mathlib.Core.Path.{sym, _∙_}
 use denote.Ref.{now}
 use Rattle.tables.specs.Bytes.{parse}
 use Rattle.engine.proofs.Standing.{accepted-ready}
-use Rattle.capi_run.proofs.RunNumbers.{given-is, call-refused, call-short, call-done}
+use Rattle.capi_tables.proofs.TableNumbers.{given-is}
+use Rattle.capi_run.proofs.RunNumbers.{call-refused, call-short, call-done}
 use borrow.Author.Needs.{needs}
 use Rattle.capi_run.proofs.run.Statement.{statement}
 use Rattle.capi_run.proofs.run.Tie as tie

@@ -1,19 +1,7 @@
 //! Numbers, FIDs and rows in the lent bytes.
 
-/// The bytes of a parent row, an object row and a reserve entry.
-pub const PARENT: usize = 3915;
-pub const OBJECT: usize = 46;
-pub const ENTRY: usize = 16;
-
-/// Where fields of a parent row stand.
-pub const PARENT_OWNER: usize = 17;
-pub const LENGTH: usize = 25;
-pub const LAYOUT: usize = 27;
-/// Where fields of an object row stand.
-pub const OST: usize = 17;
-pub const OWNER: usize = 21;
-pub const CLAIM: usize = 29;
-pub const FRESH: usize = 45;
+use numbers::fid::{BYTES, FIRST_SEQUENCE, ID_AT, LAST_SEQUENCE, SEQUENCE_AT, VERSION_AT};
+use numbers::object::SELF_AT;
 
 /// A FID, or a claim with its index in the place of the version.
 #[derive(Clone, Copy, PartialEq, Eq)]
@@ -45,20 +33,21 @@ pub fn number64(bytes: &[u8], at: usize) -> u64 {
 impl Fid {
     pub fn read(bytes: &[u8], at: usize) -> Fid {
         Fid {
-            sequence: number64(bytes, at),
-            id: number32(bytes, at + 8),
-            version: number32(bytes, at + 12),
+            sequence: number64(bytes, at + SEQUENCE_AT),
+            id: number32(bytes, at + ID_AT),
+            version: number32(bytes, at + VERSION_AT),
         }
     }
 
     pub fn write(self, bytes: &mut [u8], at: usize) {
-        bytes[at..at + 8].copy_from_slice(&self.sequence.to_le_bytes());
-        bytes[at + 8..at + 12].copy_from_slice(&self.id.to_le_bytes());
-        bytes[at + 12..at + 16].copy_from_slice(&self.version.to_le_bytes());
+        let bytes = &mut bytes[at..at + BYTES];
+        bytes[..ID_AT].copy_from_slice(&self.sequence.to_le_bytes());
+        bytes[ID_AT..VERSION_AT].copy_from_slice(&self.id.to_le_bytes());
+        bytes[VERSION_AT..].copy_from_slice(&self.version.to_le_bytes());
     }
 
     pub fn is_good_number(self) -> bool {
-        (0x2_0000_0400..=0xffff_ffff_ffff_fffe).contains(&self.sequence) && self.id >= 1
+        (FIRST_SEQUENCE..=LAST_SEQUENCE).contains(&self.sequence) && self.id >= 1
     }
 
     pub fn is_good(self) -> bool {
@@ -87,8 +76,8 @@ pub fn is_used(row: &[u8]) -> bool {
 
 /// Whether a row is used and has this FID. The id comes first, in which most rows differ.
 pub fn has_fid(row: &[u8], fid: Fid) -> bool {
-    number32(row, 9) == fid.id
-        && number64(row, 1) == fid.sequence
-        && number32(row, 13) == fid.version
+    number32(row, SELF_AT + ID_AT) == fid.id
+        && number64(row, SELF_AT + SEQUENCE_AT) == fid.sequence
+        && number32(row, SELF_AT + VERSION_AT) == fid.version
         && row[0] == 1
 }

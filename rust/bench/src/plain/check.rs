@@ -1,9 +1,10 @@
 //! The check of a call's input.
 
-use super::bytes::{
-    CLAIM, ENTRY, FRESH, Fid, LAYOUT, LENGTH, NO_FID, OBJECT, OST, PARENT, has_fid, is_used,
-    number16, number32, row,
-};
+use numbers::layout::LAST_OST;
+use numbers::object::SELF_AT;
+use numbers::{answer, call, object, parent, reserve};
+
+use super::bytes::{Fid, NO_FID, has_fid, is_used, number16, number32, row};
 use super::layout;
 use super::position::exists;
 
@@ -15,29 +16,29 @@ pub fn check(
     policy: u64,
     position: [u64; 3],
 ) -> u32 {
-    if !(is_whole(parents, PARENT, 1024)
-        && is_whole(objects, OBJECT, 65_536)
-        && is_whole(reserve, ENTRY, 65_536)
-        && objects.chunks(OBJECT).all(is_fresh_mark))
+    if !(is_whole(parents, parent::BYTES, parent::MOST)
+        && is_whole(objects, object::BYTES, object::MOST)
+        && is_whole(reserve, reserve::BYTES, reserve::MOST)
+        && objects.chunks(object::BYTES).all(is_fresh_mark))
     {
-        11
-    } else if policy > 3 {
-        12
-    } else if !parents.chunks(PARENT).all(is_good_layout) {
-        13
-    } else if !(parents.chunks(PARENT).all(is_good_parent)
-        && objects.chunks(OBJECT).all(is_good_object)
+        answer::BAD_TABLE
+    } else if policy > call::BOTH {
+        answer::BAD_POLICY
+    } else if !parents.chunks(parent::BYTES).all(is_good_layout) {
+        answer::BAD_LAYOUT
+    } else if !(parents.chunks(parent::BYTES).all(is_good_parent)
+        && objects.chunks(object::BYTES).all(is_good_object)
         && reserve
-            .chunks(ENTRY)
+            .chunks(reserve::BYTES)
             .all(|entry| Fid::read(entry, 0).is_good()))
     {
-        14
-    } else if !(none_twice(parents, PARENT) && none_twice(objects, OBJECT)) {
-        15
+        answer::BAD_FID
+    } else if !(none_twice(parents, parent::BYTES) && none_twice(objects, object::BYTES)) {
+        answer::FID_TWICE
     } else if !exists(parents, objects, position) {
-        16
+        answer::NO_POSITION
     } else {
-        0
+        answer::OK
     }
 }
 
@@ -45,32 +46,34 @@ pub fn check(
 fn is_whole(table: &[u8], size: usize, most: usize) -> bool {
     table.len().is_multiple_of(size)
         && table.len() / size <= most
-        && (size == ENTRY || table.chunks(size).all(|row| row[0] <= 1))
+        && (size == reserve::BYTES || table.chunks(size).all(|row| row[0] <= 1))
 }
 
 fn is_fresh_mark(row: &[u8]) -> bool {
-    !is_used(row) || row[FRESH] <= 1
+    !is_used(row) || row[object::FRESH_AT] <= 1
 }
 
 fn is_good_layout(row: &[u8]) -> bool {
     if !is_used(row) {
         return true;
     }
-    let length = usize::from(number16(row, LENGTH));
-    row[LAYOUT..].get(..length).is_some_and(layout::is_good)
+    let length = usize::from(number16(row, parent::LENGTH_AT));
+    row[parent::LAYOUT_AT..]
+        .get(..length)
+        .is_some_and(layout::is_good)
 }
 
 fn is_good_parent(row: &[u8]) -> bool {
-    !is_used(row) || Fid::read(row, 1).is_good()
+    !is_used(row) || Fid::read(row, SELF_AT).is_good()
 }
 
 fn is_good_object(row: &[u8]) -> bool {
-    let claim = Fid::read(row, CLAIM);
+    let claim = Fid::read(row, object::CLAIM_AT);
     !is_used(row)
-        || Fid::read(row, 1).is_good()
-            && number32(row, OST) <= 65_535
+        || Fid::read(row, SELF_AT).is_good()
+            && number32(row, object::OST_AT) <= LAST_OST
             && (claim == NO_FID || claim.is_good_number())
-            && (row[FRESH] != 1 || claim != NO_FID)
+            && (row[object::FRESH_AT] != 1 || claim != NO_FID)
 }
 
 /// Whether no two used rows have the same FID: each is compared with all later ones.
@@ -79,7 +82,7 @@ fn none_twice(table: &[u8], size: usize) -> bool {
     (0..count).all(|at| {
         let own = row(table, size, at);
         !is_used(own) || {
-            let fid = Fid::read(own, 1);
+            let fid = Fid::read(own, SELF_AT);
             (at + 1..count).all(|later| !has_fid(row(table, size, later), fid))
         }
     })

@@ -1,20 +1,55 @@
 //! The class at a position.
 
-use super::bytes::{CLAIM, FRESH, Fid, NO_FID, OBJECT, OWNER, PARENT, PARENT_OWNER, is_used, row};
+use numbers::call::{self, STAGE_PARENTS};
+use numbers::layout::{MOST_SLOTS, OWN_ID_AT, OWN_SEQUENCE_AT};
+use numbers::object::SELF_AT;
+use numbers::{object, parent};
+
+use super::bytes::{Fid, NO_FID, is_used, number64, row};
 use super::layout::{holes_allowed, is_hole, layout_of};
 use super::search::{claim_of, is_named_else, keeper, object_row, parent_row, slot_at};
 
 #[derive(Clone, Copy, PartialEq, Eq)]
 pub enum Class {
-    Quiet,
+    Clean,
     SelfId,
+    Hole,
     Multiple,
     Dangling,
     Blank,
-    Unmatched,
+    Unmatched(Fid),
     Owner,
+    Spare,
     Empty,
     Orphan,
+    Conflict,
+    Kept,
+    Unused,
+}
+
+impl Class {
+    /// The numbers of the C interface.
+    pub fn numbers(self) -> [u64; call::CLASS] {
+        let number = match self {
+            Class::Clean => 0,
+            Class::SelfId => 1,
+            Class::Hole => 2,
+            Class::Multiple => 3,
+            Class::Dangling => 4,
+            Class::Blank => 5,
+            Class::Unmatched(claim) => {
+                return [6, claim.sequence, claim.id.into(), claim.version.into()];
+            }
+            Class::Owner => 7,
+            Class::Spare => 8,
+            Class::Empty => 9,
+            Class::Orphan => 10,
+            Class::Conflict => 11,
+            Class::Kept => 12,
+            Class::Unused => 13,
+        };
+        [number, 0, 0, 0]
+    }
 }
 
 /// How the claimed place of an orphan can be had.
@@ -26,19 +61,29 @@ pub enum Way {
     ReplaceFresh(usize),
 }
 
-/// The class of a header. Classes that a repair has nothing to do with are all `Quiet`.
+/// The class at a position that is not the end.
+pub fn at(parents: &[u8], objects: &[u8], [stage, at, part]: [u64; call::POSITION]) -> Class {
+    let at = at as usize;
+    match (stage, part) {
+        (STAGE_PARENTS, 0) => header(row(parents, parent::BYTES, at)),
+        (STAGE_PARENTS, part) => slot(parents, objects, at, part as usize - 1),
+        _ => object(parents, objects, at),
+    }
+}
+
+/// The class of a header.
 pub fn header(row: &[u8]) -> Class {
     if !is_used(row) {
-        return Class::Quiet;
+        return Class::Unused;
     }
     let layout = layout_of(row);
-    let fid = Fid::read(row, 1);
+    let fid = Fid::read(row, SELF_AT);
     let own = (
-        super::bytes::number64(layout, 16),
-        super::bytes::number64(layout, 8),
+        number64(layout, OWN_SEQUENCE_AT),
+        number64(layout, OWN_ID_AT),
     );
     if own == (fid.sequence, fid.id.into()) {
-        Class::Quiet
+        Class::Clean
     } else {
         Class::SelfId
     }
@@ -47,7 +92,7 @@ pub fn header(row: &[u8]) -> Class {
 /// The class of a slot.
 pub fn slot(parents: &[u8], objects: &[u8], at: usize, index: usize) -> Class {
     let Some(slot) = slot_at(parents, at, index).filter(|slot| !is_hole(slot)) else {
-        return Class::Quiet;
+        return Class::Hole;
     };
     let fid = Fid::read(slot, 0);
     let found = object_row(objects, fid);
@@ -58,44 +103,46 @@ pub fn slot(parents: &[u8], objects: &[u8], at: usize, index: usize) -> Class {
     let Some(object) = found else {
         return Class::Dangling;
     };
-    let parent = row(parents, PARENT, at);
-    let owner = &row(objects, OBJECT, object)[OWNER..OWNER + 8];
+    let parent = row(parents, parent::BYTES, at);
+    let owner = &row(objects, object::BYTES, object)[object::OWNER_AT..object::CLAIM_AT];
     let own = Fid {
         version: index as u32,
-        ..Fid::read(parent, 1)
+        ..Fid::read(parent, SELF_AT)
     };
     if claim == NO_FID {
         Class::Blank
     } else if claim != own {
-        Class::Unmatched
-    } else if *owner != parent[PARENT_OWNER..PARENT_OWNER + 8] {
+        Class::Unmatched(claim)
+    } else if *owner != parent[parent::OWNER_AT..parent::LENGTH_AT] {
         Class::Owner
     } else {
-        Class::Quiet
+        Class::Clean
     }
 }
 
 /// The class of an object. One that is named has a keeper, which is looked for at the claimed
 /// place first.
 pub fn object(parents: &[u8], objects: &[u8], at: usize) -> Class {
-    let own = row(objects, OBJECT, at);
+    let own = row(objects, object::BYTES, at);
     if !is_used(own) {
-        return Class::Quiet;
+        return Class::Unused;
     }
-    let claim = Fid::read(own, CLAIM);
-    if keeper(parents, Fid::read(own, 1), claim).is_some() || claim == NO_FID {
-        Class::Quiet
-    } else if own[FRESH] == 1 {
+    let claim = Fid::read(own, object::CLAIM_AT);
+    if keeper(parents, Fid::read(own, SELF_AT), claim).is_some() {
+        Class::Kept
+    } else if claim == NO_FID {
+        Class::Spare
+    } else if own[object::FRESH_AT] == 1 {
         Class::Empty
     } else {
-        way(parents, objects, claim).map_or(Class::Quiet, |_| Class::Orphan)
+        way(parents, objects, claim).map_or(Class::Conflict, |_| Class::Orphan)
     }
 }
 
 /// How a claimed place can be had.
 pub fn way(parents: &[u8], objects: &[u8], claim: Fid) -> Option<Way> {
     let index = claim.version as usize;
-    if index >= 160 {
+    if index >= MOST_SLOTS {
         return None;
     }
     let Some(at) = parent_row(parents, claim.file()) else {
@@ -106,14 +153,14 @@ pub fn way(parents: &[u8], objects: &[u8], claim: Fid) -> Option<Way> {
         Some(slot) => {
             let named = Fid::read(slot, 0);
             let object = object_row(objects, named)?;
-            let row = row(objects, OBJECT, object);
-            let fresh = row[FRESH] == 1
-                && Fid::read(row, CLAIM) == claim
+            let row = row(objects, object::BYTES, object);
+            let fresh = row[object::FRESH_AT] == 1
+                && Fid::read(row, object::CLAIM_AT) == claim
                 && !is_named_else(parents, named, (at, index));
             fresh.then_some(Way::ReplaceFresh(at))
         }
         None => {
-            let layout = layout_of(row(parents, PARENT, at));
+            let layout = layout_of(row(parents, parent::BYTES, at));
             holes_allowed(layout).then_some(Way::Grow(at))
         }
     }

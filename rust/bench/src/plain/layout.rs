@@ -1,47 +1,49 @@
 //! Striping layouts in the lent bytes.
 
-use super::bytes::{Fid, LAYOUT, LENGTH, is_used, number16, number32, number64};
+use numbers::fid::{ID_AT, SEQUENCE_AT};
+use numbers::layout::{
+    COUNT_AT, HEADER_ONE, HEADER_THREE, HOLES, LAST_OST, MAGIC_AT, MAGIC_ONE, MAGIC_THREE,
+    MOST_SLOTS, PATTERN_AT, PLAIN, SLOT_BYTES, SLOT_OST_AT,
+};
+use numbers::parent;
 
-pub const SLOT: usize = 24;
-pub const HOLES: u32 = 0x4000_0001;
-const MAGIC_ONE: u32 = 0x0BD1_0BD0;
-const MAGIC_THREE: u32 = 0x0BD3_0BD0;
+use super::bytes::{Fid, is_used, number16, number32, number64};
 
 /// Where the slots start.
 pub fn slot_start(layout: &[u8]) -> usize {
-    if number32(layout, 0) == MAGIC_THREE {
-        48
+    if number32(layout, MAGIC_AT) == MAGIC_THREE {
+        HEADER_THREE
     } else {
-        32
+        HEADER_ONE
     }
 }
 
 pub fn stripe_count(layout: &[u8]) -> usize {
-    number16(layout, 28).into()
+    number16(layout, COUNT_AT).into()
 }
 
 pub fn holes_allowed(layout: &[u8]) -> bool {
-    number32(layout, 4) == HOLES
+    number32(layout, PATTERN_AT) == HOLES
 }
 
 /// Whether a layout meets every rule.
 pub fn is_good(layout: &[u8]) -> bool {
-    if layout.len() < 32 {
+    if layout.len() < HEADER_ONE {
         return false;
     }
     let (start, count) = (slot_start(layout), stripe_count(layout));
-    let magic = number32(layout, 0);
-    let pattern = number32(layout, 4);
-    layout.len() == start + SLOT * count
+    let magic = number32(layout, MAGIC_AT);
+    let pattern = number32(layout, PATTERN_AT);
+    layout.len() == start + SLOT_BYTES * count
         && (magic == MAGIC_ONE || magic == MAGIC_THREE)
-        && (pattern == 1 || pattern == HOLES)
-        && count <= 160
+        && (pattern == PLAIN || pattern == HOLES)
+        && count <= MOST_SLOTS
         && (0..count).all(|index| is_good_slot(slot(&layout[start..], index), pattern == HOLES))
 }
 
 /// Slot `index` of the bytes after the header.
 pub fn slot(area: &[u8], index: usize) -> &[u8] {
-    &area[SLOT * index..SLOT * index + SLOT]
+    &area[SLOT_BYTES * index..SLOT_BYTES * index + SLOT_BYTES]
 }
 
 pub fn is_hole(slot: &[u8]) -> bool {
@@ -52,17 +54,17 @@ fn is_good_slot(slot: &[u8], holes: bool) -> bool {
     if is_hole(slot) {
         return holes;
     }
-    Fid::read(slot, 0).is_good() && number32(slot, 20) <= 65_535
+    Fid::read(slot, 0).is_good() && number32(slot, SLOT_OST_AT) <= LAST_OST
 }
 
 /// Whether a slot names an object; the zeros of a hole name none.
 pub fn names(slot: &[u8], fid: Fid) -> bool {
-    number32(slot, 8) == fid.id && number64(slot, 0) == fid.sequence
+    number32(slot, ID_AT) == fid.id && number64(slot, SEQUENCE_AT) == fid.sequence
 }
 
 /// The layout of a used parent row.
 pub fn layout_of(row: &[u8]) -> &[u8] {
-    &row[LAYOUT..LAYOUT + usize::from(number16(row, LENGTH))]
+    &row[parent::LAYOUT_AT..parent::LAYOUT_AT + usize::from(number16(row, parent::LENGTH_AT))]
 }
 
 /// The slots of a parent row: no bytes where it is unused.

@@ -1,12 +1,21 @@
 //! One step, in the lent bytes: the class, then its repair.
 
-use super::bytes::{
-    CLAIM, FRESH, Fid, LAYOUT, LENGTH, OBJECT, OST, OWNER, PARENT, PARENT_OWNER, number16,
-    number32, row, row_mut,
+use numbers::answer::{NO_OBJECT_ROW, NO_PARENT_ROW, NO_RESERVE};
+use numbers::call::{ADOPT, CREATE, POSITION, STAGE_PARENTS};
+use numbers::layout::{
+    COUNT_AT, HEADER_ONE, HOLES, MAGIC_AT, MAGIC_ONE, OWN_ID_AT, OWN_SEQUENCE_AT, PATTERN_AT,
+    SLOT_BYTES, SLOT_GENERATION_AT, SLOT_OST_AT, STRIPE_SIZE_AT,
 };
+use numbers::object::SELF_AT;
+use numbers::{object, parent};
+
+use super::bytes::{Fid, number16, number32, row, row_mut};
 use super::class::{Class, Way, header, object, slot, way};
-use super::layout::{HOLES, SLOT, is_hole, slot_start, stripe_count};
+use super::layout::{is_hole, slot_start, stripe_count};
 use super::search::{object_row, slot_at, unused, usable};
+
+/// The stripe size of a file that is made.
+const STRIPE_SIZE_MADE: u32 = 1 << 20;
 
 /// The lent tables.
 pub struct Lent<'call> {
@@ -19,17 +28,17 @@ pub struct Lent<'call> {
 type Stepped = Result<Option<usize>, u32>;
 
 /// Makes the step at a position.
-pub fn step(lent: &mut Lent, policy: u64, [stage, at, part]: [u64; 3]) -> Stepped {
+pub fn step(lent: &mut Lent, policy: u64, [stage, at, part]: [u64; POSITION]) -> Stepped {
     let at = at as usize;
     match (stage, part) {
-        (1, 0) => Ok(header_step(lent, at)),
-        (1, part) => slot_step(lent, policy, at, part as usize - 1),
+        (STAGE_PARENTS, 0) => Ok(header_step(lent, at)),
+        (STAGE_PARENTS, part) => slot_step(lent, policy, at, part as usize - 1),
         _ => object_step(lent, policy, at),
     }
 }
 
 fn header_step(lent: &mut Lent, at: usize) -> Option<usize> {
-    match header(row(lent.parents, PARENT, at)) {
+    match header(row(lent.parents, parent::BYTES, at)) {
         Class::SelfId => {
             write_own(lent, at);
             Some(0)
@@ -41,13 +50,14 @@ fn header_step(lent: &mut Lent, at: usize) -> Option<usize> {
 /// The class comes before the policy.
 fn slot_step(lent: &mut Lent, policy: u64, at: usize, index: usize) -> Stepped {
     let named = slot_at(lent.parents, at, index).filter(|slot| !is_hole(slot));
-    let Some((fid, ost)) = named.map(|slot| (Fid::read(slot, 0), number32(slot, 20))) else {
+    let Some((fid, ost)) = named.map(|slot| (Fid::read(slot, 0), number32(slot, SLOT_OST_AT)))
+    else {
         return Ok(None);
     };
-    let create = policy & 1 == 1;
+    let create = policy & CREATE != 0;
     match slot(lent.parents, lent.objects, at, index) {
         Class::Multiple if create => {
-            let fid = usable(lent.parents, lent.objects, lent.reserve).ok_or(21_u32)?;
+            let fid = usable(lent.parents, lent.objects, lent.reserve).ok_or(NO_RESERVE)?;
             make_object(lent, at, index, fid, ost)?;
             write_slot(slot_mut(lent, at, index), fid, ost);
             Ok(Some(1))
@@ -57,7 +67,7 @@ fn slot_step(lent: &mut Lent, policy: u64, at: usize, index: usize) -> Stepped {
             Ok(Some(2))
         }
         Class::Blank => Ok(write_claim(lent, at, index, fid, 3)),
-        Class::Unmatched => Ok(write_claim(lent, at, index, fid, 4)),
+        Class::Unmatched(_) => Ok(write_claim(lent, at, index, fid, 4)),
         Class::Owner => Ok(write_claim(lent, at, index, fid, 5)),
         _ => Ok(None),
     }
@@ -72,12 +82,12 @@ fn write_claim(lent: &mut Lent, at: usize, index: usize, fid: Fid, count: usize)
 
 /// The policy comes before the class.
 fn object_step(lent: &mut Lent, policy: u64, at: usize) -> Stepped {
-    if policy & 2 == 0 {
+    if policy & ADOPT == 0 {
         return Ok(None);
     }
     match object(lent.parents, lent.objects, at) {
         Class::Empty => {
-            row_mut(lent.objects, OBJECT, at).fill(0);
+            row_mut(lent.objects, object::BYTES, at).fill(0);
             Ok(Some(6))
         }
         Class::Orphan => adopt(lent, at),
@@ -86,66 +96,72 @@ fn object_step(lent: &mut Lent, policy: u64, at: usize) -> Stepped {
 }
 
 fn write_own(lent: &mut Lent, at: usize) {
-    let row = row_mut(lent.parents, PARENT, at);
-    let fid = Fid::read(row, 1);
-    row[LAYOUT + 8..LAYOUT + 16].copy_from_slice(&u64::from(fid.id).to_le_bytes());
-    row[LAYOUT + 16..LAYOUT + 24].copy_from_slice(&fid.sequence.to_le_bytes());
+    let row = row_mut(lent.parents, parent::BYTES, at);
+    let fid = Fid::read(row, SELF_AT);
+    let layout = &mut row[parent::LAYOUT_AT..];
+    layout[OWN_ID_AT..OWN_SEQUENCE_AT].copy_from_slice(&u64::from(fid.id).to_le_bytes());
+    layout[OWN_SEQUENCE_AT..STRIPE_SIZE_AT].copy_from_slice(&fid.sequence.to_le_bytes());
 }
 
-/// The 24 bytes of a slot.
+/// The bytes of a slot.
 fn slot_mut<'lent>(lent: &'lent mut Lent, at: usize, index: usize) -> &'lent mut [u8] {
-    let row = row_mut(lent.parents, PARENT, at);
-    let place = LAYOUT + slot_start(&row[LAYOUT..]) + SLOT * index;
-    &mut row[place..place + SLOT]
+    let row = row_mut(lent.parents, parent::BYTES, at);
+    let place = parent::LAYOUT_AT + slot_start(&row[parent::LAYOUT_AT..]) + SLOT_BYTES * index;
+    &mut row[place..place + SLOT_BYTES]
 }
 
 fn write_slot(slot: &mut [u8], fid: Fid, ost: u32) {
     fid.write(slot, 0);
-    slot[16..20].fill(0);
-    slot[20..24].copy_from_slice(&ost.to_le_bytes());
+    slot[SLOT_GENERATION_AT..SLOT_OST_AT].fill(0);
+    slot[SLOT_OST_AT..].copy_from_slice(&ost.to_le_bytes());
 }
 
 /// A fresh object for a slot, in the first unused row.
 fn make_object(lent: &mut Lent, at: usize, index: usize, fid: Fid, ost: u32) -> Result<(), u32> {
-    let free = unused(lent.objects, OBJECT).ok_or(22_u32)?;
-    let row = row_mut(lent.objects, OBJECT, free);
+    let free = unused(lent.objects, object::BYTES).ok_or(NO_OBJECT_ROW)?;
+    let row = row_mut(lent.objects, object::BYTES, free);
     row[0] = 1;
-    fid.write(row, 1);
-    row[OST..OST + 4].copy_from_slice(&ost.to_le_bytes());
-    row[FRESH] = 1;
+    fid.write(row, SELF_AT);
+    row[object::OST_AT..object::OWNER_AT].copy_from_slice(&ost.to_le_bytes());
+    row[object::FRESH_AT] = 1;
     match_object(lent, at, index, free);
     Ok(())
 }
 
 /// The object claims the slot and has its file's owner.
 fn match_object(lent: &mut Lent, at: usize, index: usize, object: usize) {
-    let parent = row(lent.parents, PARENT, at);
+    let parent = row(lent.parents, parent::BYTES, at);
     let claim = Fid {
         version: index as u32,
-        ..Fid::read(parent, 1)
+        ..Fid::read(parent, SELF_AT)
     };
-    let object = row_mut(lent.objects, OBJECT, object);
-    claim.write(object, CLAIM);
-    object[OWNER..OWNER + 8].copy_from_slice(&parent[PARENT_OWNER..PARENT_OWNER + 8]);
+    let object = row_mut(lent.objects, object::BYTES, object);
+    claim.write(object, object::CLAIM_AT);
+    object[object::OWNER_AT..object::CLAIM_AT]
+        .copy_from_slice(&parent[parent::OWNER_AT..parent::LENGTH_AT]);
 }
 
 /// Puts an orphan in the place that it claims, by the way in which it can be had.
 fn adopt(lent: &mut Lent, orphan: usize) -> Stepped {
-    let own = row(lent.objects, OBJECT, orphan);
-    let (fid, claim, ost) = (Fid::read(own, 1), Fid::read(own, CLAIM), number32(own, OST));
+    let own = row(lent.objects, object::BYTES, orphan);
+    let (fid, claim, ost) = (
+        Fid::read(own, SELF_AT),
+        Fid::read(own, object::CLAIM_AT),
+        number32(own, object::OST_AT),
+    );
     let index = claim.version as usize;
     let at = match way(lent.parents, lent.objects, claim) {
         None => return Ok(None),
         Some(Way::MakeParent) => make_parent(lent, orphan, claim)?,
         Some(Way::FillHole(at)) => at,
         Some(Way::Grow(at)) => {
-            grow(row_mut(lent.parents, PARENT, at), index + 1);
+            grow(row_mut(lent.parents, parent::BYTES, at), index + 1);
             at
         }
         Some(Way::ReplaceFresh(at)) => {
             let fresh = Fid::read(slot_mut(lent, at, index), 0);
             if let Some(fresh) = object_row(lent.objects, fresh) {
-                row_mut(lent.objects, OBJECT, fresh).fill(0);
+                row_mut(lent.objects, object::BYTES, fresh).fill(0);
             }
             at
         }
@@ -157,29 +173,35 @@ fn adopt(lent: &mut Lent, orphan: usize) -> Stepped {
 
 /// More slots, all holes.
 fn grow(row: &mut [u8], count: usize) {
-    let start = LAYOUT + slot_start(&row[LAYOUT..]);
-    let old = start + SLOT * stripe_count(&row[LAYOUT..]);
-    let new = start + SLOT * count;
+    let start = parent::LAYOUT_AT + slot_start(&row[parent::LAYOUT_AT..]);
+    let old = start + SLOT_BYTES * stripe_count(&row[parent::LAYOUT_AT..]);
+    let new = start + SLOT_BYTES * count;
     row[old..new].fill(0);
-    row[LAYOUT + 28..LAYOUT + 30].copy_from_slice(&(count as u16).to_le_bytes());
-    row[LENGTH..LAYOUT].copy_from_slice(&((new - LAYOUT) as u16).to_le_bytes());
-    debug_assert_eq!(usize::from(number16(row, LENGTH)), new - LAYOUT);
+    let count_at = parent::LAYOUT_AT + COUNT_AT;
+    row[count_at..count_at + 2].copy_from_slice(&(count as u16).to_le_bytes());
+    row[parent::LENGTH_AT..parent::LAYOUT_AT]
+        .copy_from_slice(&((new - parent::LAYOUT_AT) as u16).to_le_bytes());
+    debug_assert_eq!(
+        usize::from(number16(row, parent::LENGTH_AT)),
+        new - parent::LAYOUT_AT
+    );
 }
 
 /// A file of holes with the orphan's owner, in the first unused row.
 fn make_parent(lent: &mut Lent, orphan: usize, claim: Fid) -> Result<usize, u32> {
-    let at = unused(lent.parents, PARENT).ok_or(23_u32)?;
-    let owner = &row(lent.objects, OBJECT, orphan)[OWNER..OWNER + 8];
-    let row = row_mut(lent.parents, PARENT, at);
+    let at = unused(lent.parents, parent::BYTES).ok_or(NO_PARENT_ROW)?;
+    let owner = &row(lent.objects, object::BYTES, orphan)[object::OWNER_AT..object::CLAIM_AT];
+    let row = row_mut(lent.parents, parent::BYTES, at);
     row[0] = 1;
-    claim.file().write(row, 1);
-    row[PARENT_OWNER..PARENT_OWNER + 8].copy_from_slice(owner);
-    row[LAYOUT..LAYOUT + 4].copy_from_slice(&0x0BD1_0BD0_u32.to_le_bytes());
-    row[LAYOUT + 4..LAYOUT + 8].copy_from_slice(&HOLES.to_le_bytes());
-    row[LAYOUT + 8..LAYOUT + 16].copy_from_slice(&u64::from(claim.id).to_le_bytes());
-    row[LAYOUT + 16..LAYOUT + 24].copy_from_slice(&claim.sequence.to_le_bytes());
-    row[LAYOUT + 24..LAYOUT + 28].copy_from_slice(&1_048_576_u32.to_le_bytes());
-    row[LAYOUT + 28..LAYOUT + 32].fill(0);
+    claim.file().write(row, SELF_AT);
+    row[parent::OWNER_AT..parent::LENGTH_AT].copy_from_slice(owner);
+    let layout = &mut row[parent::LAYOUT_AT..];
+    layout[MAGIC_AT..PATTERN_AT].copy_from_slice(&MAGIC_ONE.to_le_bytes());
+    layout[PATTERN_AT..OWN_ID_AT].copy_from_slice(&HOLES.to_le_bytes());
+    layout[OWN_ID_AT..OWN_SEQUENCE_AT].copy_from_slice(&u64::from(claim.id).to_le_bytes());
+    layout[OWN_SEQUENCE_AT..STRIPE_SIZE_AT].copy_from_slice(&claim.sequence.to_le_bytes());
+    layout[STRIPE_SIZE_AT..COUNT_AT].copy_from_slice(&STRIPE_SIZE_MADE.to_le_bytes());
+    layout[COUNT_AT..HEADER_ONE].fill(0);
     grow(row, claim.version as usize + 1);
     Ok(at)
 }

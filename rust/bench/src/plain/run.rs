@@ -1,7 +1,10 @@
 //! The run.
 
+use numbers::answer::{OK, STEPS_USED};
+use numbers::call::{END, POSITION, REPORT};
+
 use super::check::check;
-use super::position::{END, next};
+use super::position::next;
 use super::repair::{Lent, step};
 
 /// Checks the input, then makes at most `most` steps.
@@ -11,11 +14,11 @@ pub fn run(
     reserve: &[u8],
     policy: u64,
     most: u64,
-    position: &mut [u64; 3],
-    report: &mut [u64; 9],
+    position: &mut [u64; POSITION],
+    report: &mut [u64; REPORT],
 ) -> u32 {
     let refusal = check(parents, objects, reserve, policy, *position);
-    if refusal != 0 {
+    if refusal != OK {
         return refusal;
     }
     let mut lent = Lent {
@@ -26,7 +29,7 @@ pub fn run(
     report.fill(0);
     while *position != END {
         if report[0] == most {
-            return 1;
+            return STEPS_USED;
         }
         match step(&mut lent, policy, *position) {
             Ok(None) => (),
@@ -36,5 +39,5 @@ pub fn run(
         report[0] += 1;
         *position = next(lent.parents, lent.objects, *position);
     }
-    0
+    OK
 }

@@ -1,7 +1,10 @@
 //! The searches, each from the first row on.
 
-use super::bytes::{CLAIM, ENTRY, Fid, NO_FID, OBJECT, PARENT, has_fid, is_used, row};
-use super::layout::{SLOT, names, slot, slot_area};
+use numbers::layout::SLOT_BYTES;
+use numbers::{object, parent, reserve};
+
+use super::bytes::{Fid, NO_FID, has_fid, is_used, row};
+use super::layout::{names, slot, slot_area};
 
 /// A slot of a parent row.
 pub type Place = (usize, usize);
@@ -12,11 +15,11 @@ fn row_of(table: &[u8], size: usize, fid: Fid) -> Option<usize> {
 }
 
 pub fn object_row(objects: &[u8], fid: Fid) -> Option<usize> {
-    row_of(objects, OBJECT, fid)
+    row_of(objects, object::BYTES, fid)
 }
 
 pub fn parent_row(parents: &[u8], fid: Fid) -> Option<usize> {
-    row_of(parents, PARENT, fid)
+    row_of(parents, parent::BYTES, fid)
 }
 
 /// The first unused row.
@@ -26,32 +29,33 @@ pub fn unused(table: &[u8], size: usize) -> Option<usize> {
 
 /// Slot `index` of parent row `at`, if there is one.
 pub fn slot_at(parents: &[u8], at: usize, index: usize) -> Option<&[u8]> {
-    let area = slot_area(row(parents, PARENT, at));
-    (index < area.len() / SLOT).then(|| slot(area, index))
+    let area = slot_area(row(parents, parent::BYTES, at));
+    (index < area.len() / SLOT_BYTES).then(|| slot(area, index))
 }
 
 /// The first slot of parent row `at` that names an object.
 fn first_in(parents: &[u8], fid: Fid, at: usize) -> Option<usize> {
-    let area = slot_area(row(parents, PARENT, at));
-    (0..area.len() / SLOT).find(|&index| names(slot(area, index), fid))
+    let area = slot_area(row(parents, parent::BYTES, at));
+    (0..area.len() / SLOT_BYTES).find(|&index| names(slot(area, index), fid))
 }
 
 /// The first slot in scan order that names an object.
 pub fn first_naming(parents: &[u8], fid: Fid) -> Option<Place> {
-    (0..parents.len() / PARENT).find_map(|at| Some((at, first_in(parents, fid, at)?)))
+    (0..parents.len() / parent::BYTES).find_map(|at| Some((at, first_in(parents, fid, at)?)))
 }
 
 /// Whether a slot other than `place` names an object.
 pub fn is_named_else(parents: &[u8], fid: Fid, place: Place) -> bool {
-    (0..parents.len() / PARENT).any(|at| {
-        let area = slot_area(row(parents, PARENT, at));
-        (0..area.len() / SLOT).any(|index| names(slot(area, index), fid) && (at, index) != place)
+    (0..parents.len() / parent::BYTES).any(|at| {
+        let area = slot_area(row(parents, parent::BYTES, at));
+        (0..area.len() / SLOT_BYTES)
+            .any(|index| names(slot(area, index), fid) && (at, index) != place)
     })
 }
 
 /// The claim of the object in a row.
 pub fn claim_of(objects: &[u8], at: usize) -> Fid {
-    Fid::read(row(objects, OBJECT, at), CLAIM)
+    Fid::read(row(objects, object::BYTES, at), object::CLAIM_AT)
 }
 
 /// The keeper of an object with this claim: the claimed slot if that one names it; else the
@@ -75,7 +79,8 @@ pub fn keeper(parents: &[u8], fid: Fid, claim: Fid) -> Option<Place> {
 
 /// The first FID of the reserve that is neither in the object table nor named by a slot.
 pub fn usable(parents: &[u8], objects: &[u8], reserve: &[u8]) -> Option<Fid> {
-    let fids = (0..reserve.len() / ENTRY).map(|at| Fid::read(row(reserve, ENTRY, at), 0));
+    let fids = (0..reserve.len() / reserve::BYTES)
+        .map(|at| Fid::read(row(reserve, reserve::BYTES, at), 0));
     let in_use =
         |fid: Fid| object_row(objects, fid).is_some() || first_naming(parents, fid).is_some();
     fids.into_iter().find(|&fid| !in_use(fid))

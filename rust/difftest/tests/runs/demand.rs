@@ -1,6 +1,7 @@
 //! Demand 3, sentence by sentence, on the calls of one side.
 
 use crate::side::{Call, Outcome, Side, State};
+use numbers::object::{FRESH_AT, OST_AT};
 use reference::check::read_tables;
 use reference::tables::{Claim, OBJECT_BYTES};
 
@@ -112,10 +113,14 @@ fn check_step(before: &State, call: &Call, outcome: &Outcome) {
 pub fn check_not_destroyed(before: &State, after: &State) {
     let rows = before.objects.chunks_exact(OBJECT_BYTES);
     for (row, kept) in rows.zip(after.objects.chunks_exact(OBJECT_BYTES)) {
-        let holds_data = row[0] == 1 && row[45] == 0;
+        let holds_data = row[0] == 1 && row[FRESH_AT] == 0;
         if holds_data {
-            assert_eq!(kept[..17], row[..17], "an object with data was destroyed");
-            assert_eq!(kept[45], 0, "an object with data became fresh");
+            assert_eq!(
+                kept[..OST_AT],
+                row[..OST_AT],
+                "an object with data was destroyed"
+            );
+            assert_eq!(kept[FRESH_AT], 0, "an object with data became fresh");
         }
     }
 }

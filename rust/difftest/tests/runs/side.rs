@@ -4,6 +4,8 @@ use std::hint::black_box;
 
 use crate::demand::check_not_destroyed;
 use difftest::Random;
+use numbers::fid::VERSION_AT;
+use numbers::{object, parent};
 use reference::interface;
 use reference::tables::{OBJECT_BYTES, PARENT_BYTES};
 
@@ -121,8 +123,10 @@ impl State {
             // The lengths of all layouts, the versions of all objects.
             3 => parents
                 .chunks_mut(PARENT_BYTES)
-                .for_each(|row| row[25] ^= 1),
-            4 => objects.chunks_mut(OBJECT_BYTES).for_each(|row| row[13] = 1),
+                .for_each(|row| row[parent::LENGTH_AT] ^= 1),
+            4 => objects
+                .chunks_mut(OBJECT_BYTES)
+                .for_each(|row| row[object::SELF_AT + VERSION_AT] = 1),
             5 => parents.extend_from_within(..),
             _ => objects.extend_from_within(..),
         }

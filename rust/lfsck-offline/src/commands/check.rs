@@ -2,30 +2,45 @@
 
 use std::path::Path;
 
-use crate::answers::{fault_line, meaning};
+use crate::answers::{CHECKING, fault_line, meaning};
+use crate::bar::Bar;
 use crate::case::Case;
 use crate::faults::{Fault, faults};
 use crate::json::Json;
+use crate::moments::two_moments;
 use crate::outcome::{Failure, Outcome, Status};
 use crate::tables::{Table, Tables};
 
 /// Checks a case.
-pub fn check(directory: &Path, json: bool) -> Result<Outcome, Failure> {
-    let tables = Case::open(directory)?.tables()?;
+pub fn check(directory: &Path, json: bool, bar: &Bar) -> Result<Outcome, Failure> {
+    let case = Case::open(directory)?;
+    let tables = case.tables()?;
+    let warning = warning(&case, &tables);
+    bar.turn_to(CHECKING);
     let number = tables.check();
     let list = faults(&tables);
     let text = if json {
-        machine(number, &list, &tables)
-    } else if number == 0 {
-        sound(&tables)
+        machine(number, &list, &tables, warning)
     } else {
-        unsound(number, &list)
+        let told = match number {
+            0 => sound(&tables),
+            _ => unsound(number, &list),
+        };
+        told + &warning.map_or(String::new(), |words| format!("Warning: {words}.\n"))
     };
     let status = match number {
         0 => Status::Done,
         _ => Status::Refused,
     };
-    Ok(Outcome { text, status })
+    Ok(Outcome::ended(text, status))
+}
+
+/// What the log knows against the tables: that they are of two moments.
+fn warning(case: &Case, tables: &Tables) -> Option<String> {
+    match case.last_entry() {
+        Ok(entry) => two_moments(&entry?, tables),
+        Err(failure) => Some(failure.message),
+    }
 }
 
 fn sound(tables: &Tables) -> String {
@@ -53,7 +68,7 @@ fn unsound(number: u32, list: &[Fault]) -> String {
     text
 }
 
-fn machine(number: u32, list: &[Fault], tables: &Tables) -> String {
+fn machine(number: u32, list: &[Fault], tables: &Tables, warning: Option<String>) -> String {
     let fault = |fault: &Fault| {
         Json::Object(vec![
             ("number", Json::Number(fault.number.into())),
@@ -79,6 +94,7 @@ fn machine(number: u32, list: &[Fault], tables: &Tables) -> String {
         ("object_rows", rows(Table::Objects)),
         ("reserve_fids", rows(Table::Reserve)),
         ("faults", Json::List(list.iter().map(fault).collect())),
+        ("warning", Json::maybe(warning)),
     ])
     .line()
 }

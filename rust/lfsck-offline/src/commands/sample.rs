@@ -2,14 +2,14 @@
 
 use std::path::Path;
 
+use numbers::{call, layout, object, parent};
+
 use crate::case::Case;
 use crate::fid::Fid;
 use crate::json::Json;
 use crate::outcome::{Failure, Outcome};
-use crate::rows::{FILE_OWNER_AT, HOLE_PATTERN, LAYOUT_AT, LENGTH_AT, SELF_AT};
-use crate::tables::{OBJECT_BYTES, PARENT_BYTES, Table, Tables};
+use crate::tables::{Table, Tables};
 
-const PLAIN: u64 = 1;
 const ALICE: [u32; 2] = [1001, 100];
 const ROOT: [u32; 2] = [0, 0];
 
@@ -38,7 +38,10 @@ pub fn sample(directory: &Path, json: bool) -> Result<Outcome, Failure> {
             directory.display()
         )
     };
-    Ok(Outcome::done(text))
+    Ok(Outcome {
+        lasting: Some("the sample was made"),
+        ..Outcome::done(text)
+    })
 }
 
 /// A file's FID.
@@ -65,7 +68,7 @@ fn plain(fid: Fid, slots: &[Option<(Fid, u64)>]) -> NewFile<'_> {
     NewFile {
         fid,
         own: fid,
-        pattern: PLAIN,
+        pattern: layout::PLAIN.into(),
         pool: b"",
         slots,
     }
@@ -74,7 +77,7 @@ fn plain(fid: Fid, slots: &[Option<(Fid, u64)>]) -> NewFile<'_> {
 /// The same, with holes.
 fn with_holes(fid: Fid, slots: &[Option<(Fid, u64)>]) -> NewFile<'_> {
     NewFile {
-        pattern: HOLE_PATTERN,
+        pattern: layout::HOLES.into(),
         ..plain(fid, slots)
     }
 }
@@ -116,7 +119,7 @@ fn add_files(parents: &mut Vec<u8>) {
     let fresh = [Some((object(0x19), 1)), Some((object(0x1a), 2))];
     add_file(parents, plain(file(7), &fresh));
     add_file(parents, plain(file(8), &[Some((object(0x1b), 0))]));
-    parents.resize(parents.len() + 2 * PARENT_BYTES, 0);
+    parents.resize(parents.len() + 2 * parent::BYTES, 0);
 }
 
 fn add_objects(objects: &mut Vec<u8>) {
@@ -143,17 +146,17 @@ fn add_objects(objects: &mut Vec<u8>) {
     add(0x25, 1, ALICE, Some((1, 0)), false);
     add(0x26, 2, ROOT, None, false);
     add(0x27, 3, ALICE, Some((1, 7)), true);
-    objects.resize(objects.len() + 4 * OBJECT_BYTES, 0);
+    objects.resize(objects.len() + 4 * object::BYTES, 0);
 }
 
 fn add_file(parents: &mut Vec<u8>, file: NewFile) {
     let at = parents.len();
-    parents.resize(at + PARENT_BYTES, 0);
+    parents.resize(at + parent::BYTES, 0);
     let row = &mut parents[at..];
     row[0] = 1;
-    row[SELF_AT..SELF_AT + 16].copy_from_slice(&file.fid.to_bytes());
-    row[FILE_OWNER_AT..FILE_OWNER_AT + 4].copy_from_slice(&ALICE[0].to_le_bytes());
-    row[FILE_OWNER_AT + 4..FILE_OWNER_AT + 8].copy_from_slice(&ALICE[1].to_le_bytes());
+    row[parent::SELF_AT..parent::OWNER_AT].copy_from_slice(&file.fid.to_bytes());
+    let owner = ALICE.map(u32::to_le_bytes).concat();
+    row[parent::OWNER_AT..parent::LENGTH_AT].copy_from_slice(&owner);
     let fields = [
         if file.pool.is_empty() { 1 } else { 3 },
         file.pattern,
@@ -165,16 +168,16 @@ fn add_file(parents: &mut Vec<u8>, file: NewFile) {
     ];
     let slots: Vec<u64> = file.slots.iter().copied().flat_map(numbers).collect();
     let mut length = [0];
-    let room = &mut row[LAYOUT_AT..];
+    let room = &mut row[parent::LAYOUT_AT..];
     let answer = lfsck_sys::layout_write(&fields, file.pool, &slots, room, &mut length);
     assert_eq!(answer, 0, "the library writes the sample's layouts");
-    row[LENGTH_AT..LAYOUT_AT].copy_from_slice(&(length[0] as u16).to_le_bytes());
+    row[parent::LENGTH_AT..parent::LAYOUT_AT].copy_from_slice(&(length[0] as u16).to_le_bytes());
 }
 
 /// The five numbers of a slot.
-fn numbers(slot: Option<(Fid, u64)>) -> [u64; 5] {
+fn numbers(slot: Option<(Fid, u64)>) -> [u64; call::SLOT] {
     match slot {
-        None => [0; 5],
+        None => [0; call::SLOT],
         Some((fid, ost)) => [1, fid.sequence, fid.id.into(), 0, ost],
     }
 }

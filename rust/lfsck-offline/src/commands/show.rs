@@ -1,35 +1,38 @@
 //! `show`: everything about one file or object.
 
+use std::collections::HashMap;
 use std::path::Path;
 
-use crate::answers::require_sound;
+use crate::bar::Bar;
 use crate::case::Case;
 use crate::class::Class;
+use crate::classing::classes_at;
 use crate::commands::classes::finding_json;
 use crate::fid::{Fid, MdtFid, OstFid};
 use crate::finding::Finding;
 use crate::json::Json;
 use crate::outcome::{Failure, Outcome};
 use crate::position::Position;
-use crate::rows::{File, Object};
+use crate::rows::{File, Object, slots_words};
 use crate::site::{Place, Site};
-use crate::verdict::Verdicts;
+use crate::values;
 use crate::why;
 
-/// A case to look things up in.
+/// What there is to say of a FID.
 struct View<'case> {
     site: &'case Site,
-    verdicts: Verdicts<'case>,
+    classes: HashMap<Position, Class>,
 }
 
 /// Shows a file, an object, or both where both have the FID.
-pub fn show(directory: &Path, fid: Fid, json: bool) -> Result<Outcome, Failure> {
+pub fn show(directory: &Path, fid: Fid, json: bool, bar: &Bar) -> Result<Outcome, Failure> {
     let tables = Case::open(directory)?.tables()?;
-    require_sound(&tables)?;
     let site = Site::new(&tables);
+    let positions = positions(&site, fid);
+    let classes = classes_at(&tables, &site, &positions, bar)?;
     let view = View {
         site: &site,
-        verdicts: Verdicts::new(&tables, &site),
+        classes: positions.into_iter().zip(classes).collect(),
     };
     let file = view.is_file_known(MdtFid(fid));
     let object = view.is_object_known(OstFid(fid));
@@ -47,6 +50,37 @@ pub fn show(directory: &Path, fid: Fid, json: bool) -> Result<Outcome, Failure> 
     Ok(Outcome::done(text))
 }
 
+/// Every position that is spoken of: those of the file, those of the objects that claim it, those
+/// of the object and of the slots that name it.
+fn positions(site: &Site, fid: Fid) -> Vec<Position> {
+    let (file, object) = (MdtFid(fid), OstFid(fid));
+    let own = site.file_row(file).map(|row| file_positions(site, row));
+    let claimants = claimants(site, file)
+        .into_iter()
+        .map(|(row, _)| Position::Object(row));
+    let row = site.object_row(object).map(Position::Object);
+    let named_by = site.named_by(object).iter().copied().map(Position::Slot);
+    let own = own.into_iter().flatten();
+    own.chain(claimants).chain(row).chain(named_by).collect()
+}
+
+/// The header and the slots of a file.
+fn file_positions(site: &Site, row: usize) -> Vec<Position> {
+    let count = site.file(row).map_or(0, |file| file.slots.len());
+    let slots = (0..count).map(|slot| Position::Slot(Place { row, slot }));
+    std::iter::once(Position::Header(row))
+        .chain(slots)
+        .collect()
+}
+
+/// The objects that claim a slot of the file, with their rows.
+fn claimants(site: &Site, fid: MdtFid) -> Vec<(usize, &Object)> {
+    let objects = site.objects.iter().enumerate();
+    let used = objects.filter_map(|(row, object)| Some((row, object.as_ref()?)));
+    used.filter(|(_, object)| object.claim.is_some_and(|claim| claim.file == fid))
+        .collect()
+}
+
 impl View<'_> {
     /// A row has the FID, or an object claims it.
     fn is_file_known(&self, fid: MdtFid) -> bool {
@@ -60,20 +94,16 @@ impl View<'_> {
 
     /// The objects that claim a slot of the file, with their rows.
     fn claimants(&self, fid: MdtFid) -> Vec<(usize, &Object)> {
-        let objects = self.site.objects.iter().enumerate();
-        let used = objects.filter_map(|(row, object)| Some((row, object.as_ref()?)));
-        used.filter(|(_, object)| object.claim.is_some_and(|claim| claim.file == fid))
-            .collect()
+        claimants(self.site, fid)
     }
 
     fn finding(&self, position: Position) -> Finding {
-        Finding::new(self.site, position, self.verdicts.at(position))
+        Finding::new(self.site, position, self.classes[&position])
     }
 
     /// The findings of a file's header and slots.
-    fn file_findings(&self, row: usize, file: &File) -> Vec<Finding> {
-        let slots = (0..file.slots.len()).map(|slot| Position::Slot(Place { row, slot }));
-        let all = std::iter::once(Position::Header(row)).chain(slots);
+    fn file_findings(&self, row: usize) -> Vec<Finding> {
+        let all = file_positions(self.site, row).into_iter();
         all.map(|position| self.finding(position)).collect()
     }
 
@@ -110,23 +140,18 @@ impl View<'_> {
         };
         let mut text = format!(
             "File {}, parent row {row}\n  owner {}\n  layout version {}, pattern {:#x} ({holes}), \
-             stripe size {}, generation {}, {} slots\n",
+             stripe size {}, generation {}, {}\n",
             file.fid,
             file.owner,
             header.version,
             header.pattern,
             header.stripe_size,
             header.generation,
-            file.slots.len()
+            slots_words(file.slots.len())
         );
-        for finding in self.file_findings(row, file) {
+        for finding in self.file_findings(row) {
             text += &match finding.slot {
-                None => format!(
-                    "  header: {}, own sequence {:#x} and id {:#x}\n",
-                    finding.class.name(),
-                    header.own_sequence,
-                    header.own_id
-                ),
+                None => format!("  header: {}, own {}\n", finding.class.name(), header.own),
                 Some(slot) => self.slot_line(file, slot, &finding),
             };
             text += &more(&finding);
@@ -170,7 +195,7 @@ impl View<'_> {
             let Some(name) = self.site.name(*place) else {
                 continue;
             };
-            let class = self.verdicts.at(Position::Slot(*place));
+            let class = self.classes[&Position::Slot(*place)];
             text += &format!("  named by {name}: {}\n", class.name());
         }
         let keeper = why::keeper(self.site, fid);
@@ -240,52 +265,25 @@ impl View<'_> {
         let Some(file) = self.site.file(row) else {
             return Json::Null;
         };
-        let header = &file.header;
-        let findings = self.file_findings(row, file);
-        Json::Object(vec![
-            ("row", Json::Number(row as u64)),
-            ("uid", Json::Number(file.owner.uid.into())),
-            ("gid", Json::Number(file.owner.gid.into())),
-            ("version", Json::Number(header.version)),
-            ("pattern", Json::Number(header.pattern)),
-            (
-                "own_sequence",
-                Json::text(format!("{:#x}", header.own_sequence)),
-            ),
-            ("own_id", Json::text(format!("{:#x}", header.own_id))),
-            ("stripe_size", Json::Number(header.stripe_size)),
-            ("generation", Json::Number(header.generation)),
-            ("slots", Json::Number(file.slots.len() as u64)),
-            (
-                "positions",
-                Json::List(findings.iter().map(finding_json).collect()),
-            ),
-        ])
+        let findings = self.file_findings(row);
+        let mut members = vec![("row", Json::Number(row as u64))];
+        members.extend(values::file(file));
+        members.push((
+            "positions",
+            Json::List(findings.iter().map(finding_json).collect()),
+        ));
+        Json::Object(members)
     }
 
     fn object_json(&self, row: usize) -> Json {
         let Some(object) = self.site.objects[row] else {
             return Json::Null;
         };
-        Json::Object(vec![
-            ("row", Json::Number(row as u64)),
-            ("ost", Json::Number(object.ost.into())),
-            ("uid", Json::Number(object.owner.uid.into())),
-            ("gid", Json::Number(object.owner.gid.into())),
-            ("fresh", Json::Bool(object.fresh)),
-            (
-                "claimed_file",
-                Json::maybe(object.claim.map(|claim| claim.file)),
-            ),
-            (
-                "claimed_slot",
-                Json::maybe_number(object.claim.map(|claim| claim.index)),
-            ),
-            (
-                "position",
-                finding_json(&self.finding(Position::Object(row))),
-            ),
-        ])
+        let mut members = vec![("row", Json::Number(row as u64))];
+        members.extend(values::object(&object));
+        let position = finding_json(&self.finding(Position::Object(row)));
+        members.push(("position", position));
+        Json::Object(members)
     }
 }
 
@@ -314,6 +312,9 @@ fn more(finding: &Finding) -> String {
     }
     if let Some(repair) = &finding.repair {
         add(format!("repair, {}: {}", repair.needs.words(), repair.does));
+    }
+    if let Some(turn) = &finding.turn {
+        add(turn.words());
     }
     text
 }

@@ -370,16 +370,21 @@ fn a_file_is_shown_with_its_slots_and_rules() {
         told.out.contains("the object is fresh, has owner"),
         "{told:?}"
     );
-    let json = case.json(&["show", "0x200000401:5"], 0);
-    let positions = json.get("file").list("positions");
-    let classes: Vec<&str> = positions.iter().map(|it| it.text("class")).collect();
-    assert_eq!(classes, ["CLEAN", "BLANK", "UNMATCHED", "OWNER"]);
-    assert_eq!(json.get("object"), &Value::Null);
     let told = case.run(&["show", "0x200000401:8"]).expect(0);
     assert!(
         told.out
             .contains("object [0x240000400:0x24:0x0] claims slot 0")
     );
+}
+
+#[test]
+fn a_file_is_shown_to_machines_with_its_classes() {
+    let case = Case::sample("show-file-json");
+    let json = case.json(&["show", "0x200000401:5"], 0);
+    let positions = json.get("file").list("positions");
+    let classes: Vec<&str> = positions.iter().map(|it| it.text("class")).collect();
+    assert_eq!(classes, ["CLEAN", "BLANK", "UNMATCHED", "OWNER"]);
+    assert_eq!(json.get("object"), &Value::Null);
 }
 
 #[test]
@@ -472,7 +477,7 @@ fn the_man_page_has_what_the_help_has() {
     for class in CLASSES {
         assert!(page.contains(class) && help.contains(class), "{class}");
     }
-    for status in [0, 1, 2, 3, 64, 74] {
+    for status in [0, 1, 2, 3, 4, 64, 74] {
         assert!(page.contains(&format!(".B {status}\n")), "{status}");
     }
 }
@@ -512,9 +517,15 @@ fn output_that_cannot_be_written_is_trouble_with_files() {
         let full = std::fs::File::options().write(true).open("/dev/full");
         let mut command = case.command(words);
         let told: Told = command.stdout(full.unwrap()).output().unwrap().into();
-        told.expect_line(74, "standard output");
+        let told = told.expect_line(74, "standard output");
+        let saved = told.err.ends_with("; the run was saved\n");
+        assert_eq!(saved, words[0] == "run", "{told:?}");
     }
     uncut.expect_in(&case);
+    let full = std::fs::File::options().write(true).open("/dev/full");
+    let mut command = case.command(&["run", "--adopt", "-n"]);
+    let told: Told = command.stdout(full.unwrap()).output().unwrap().into();
+    assert!(!told.expect(74).err.contains("saved"), "nothing was");
 }
 
 #[test]

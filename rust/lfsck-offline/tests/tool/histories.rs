@@ -4,9 +4,9 @@
 use difftest::tables::{OBJECTS, Shape, random_tables, to_bytes};
 use difftest::{Coverage, Random};
 
-use crate::json;
+use crate::json::{self, Value};
 use crate::oracle;
-use crate::tool::{Case, Files, POSITION};
+use crate::tool::{Case, Files, LOG, POSITION, sha256};
 
 const SHAPE: Shape = Shape {
     parents: 5,
@@ -26,11 +26,19 @@ struct Saved {
     tables: Files,
 }
 
-/// The tables as they must be, and the position that must have been saved.
+/// The tables as they must be, the position that must have been saved, and the log.
 #[derive(Clone)]
 struct Model {
     tables: Files,
     saved: Option<Saved>,
+    log: Vec<Logged>,
+}
+
+/// An entry of the log: the model before it and the tables after it; an undo is not taken back.
+#[derive(Clone)]
+struct Logged {
+    before: Option<Box<Model>>,
+    after: Files,
 }
 
 /// What is asked of a run.
@@ -85,14 +93,56 @@ impl Model {
                 tables: after.tables.clone(),
             });
         }
+        if after.tables != self.tables {
+            after.log.push(Logged {
+                before: Some(Box::new(self.clone())),
+                after: after.tables.clone(),
+            });
+        }
         (resumed.is_some(), run, after)
     }
 
-    /// The tables of the case are those of the model.
+    /// What an undo does; none where it is refused.
+    fn undone(&self) -> Option<Model> {
+        let last = self.log.last().filter(|last| last.after == self.tables)?;
+        let mut before = (**last.before.as_ref()?).clone();
+        before.log = self.log.clone();
+        before.log.push(Logged {
+            before: None,
+            after: before.tables.clone(),
+        });
+        Some(before)
+    }
+
+    /// Tables, position and log of the case are those of the model.
     fn is_in(&self, case: &Case) -> bool {
-        TABLES
-            .iter()
-            .all(|name| case.read(name) == self.tables[*name])
+        let files = case.files();
+        let tables = TABLES.iter().all(|name| files[*name] == self.tables[*name]);
+        let log = files
+            .get(LOG)
+            .map_or("", |log| str::from_utf8(log).unwrap());
+        let entries: Vec<Value> = log.split_inclusive('\n').map(json::parse).collect();
+        let last = entries.last().zip(self.log.last());
+        let is_last = last.is_none_or(|(entry, logged)| {
+            let digest =
+                |name: &&str| entry.get("after").text(name) == sha256(&logged.after[*name]);
+            TABLES.iter().all(digest)
+        });
+        let position = files
+            .get(POSITION)
+            .map(|text| str::from_utf8(text).unwrap());
+        let is_position = match (position, &self.saved) {
+            (None, None) => true,
+            (Some(text), Some(saved)) => {
+                let [stage, row, part] = saved.position;
+                text.contains(&format!(
+                    "\nposition {stage} {row} {part}\npolicy {}\n",
+                    saved.policy
+                ))
+            }
+            _ => false,
+        };
+        tables && is_last && is_position && entries.len() == self.log.len()
     }
 }
 
@@ -113,6 +163,7 @@ impl History {
             model: Model {
                 tables: tables.clone(),
                 saved: None,
+                log: Vec::new(),
             },
             snapshots: vec![tables],
             case,
@@ -151,7 +202,7 @@ impl History {
         let (_, _, after) = self.model.after(&asked);
         let words = asked.words();
         let words: Vec<&str> = words.iter().map(String::as_str).collect();
-        let fault = format!("abort:{}", 1 + random.below(26));
+        let fault = format!("abort:{}", 1 + random.below(40));
         let position = || self.case.files().remove(POSITION);
         let before = position();
         let died = self.case.run_with_fault(&words, fault).status.is_none();
@@ -165,6 +216,28 @@ impl History {
             (true, false) => "a crash before the save",
             (false, _) => "no crash",
         }
+    }
+
+    /// The last run is taken back, or the undo is cut off before or after its save.
+    fn undo(&mut self, random: &mut Random) -> &'static str {
+        let Some(after) = self.model.undone() else {
+            let before = self.case.files();
+            self.case.run(&["undo"]).expect(2);
+            assert!(self.case.files() == before);
+            return "an undo that is refused";
+        };
+        if random.one_in(2) {
+            self.case.run(&["undo"]).expect(0);
+            self.model = after;
+            return "an undo";
+        }
+        let fault = format!("abort:{}", 1 + random.below(40));
+        self.case.run_with_fault(&["undo"], fault);
+        self.case.run(&["check"]).expect(0);
+        if after.is_in(&self.case) {
+            self.model = after;
+        }
+        "an undo that is cut off"
     }
 
     /// Somebody changes an owner or the reserve, or puts older tables back.
@@ -223,15 +296,19 @@ fn a_case_is_always_as_its_history_says() {
             "another reserve",
             "older tables",
             "a refusal",
+            "an undo",
+            "an undo that is refused",
+            "an undo that is cut off",
         ],
     );
     for round in 0..40 {
         let mut history = History::new(&format!("history-{round}"), &mut random);
         for _ in 0..16 {
-            let what = match random.below(8) {
+            let what = match random.below(10) {
                 0 => history.meddle(&mut random),
                 1 => history.refuse(),
                 2 | 3 => history.crash(&mut random),
+                4 | 5 => history.undo(&mut random),
                 _ => history.run(&mut random),
             };
             met.met(what);

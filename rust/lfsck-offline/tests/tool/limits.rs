@@ -1,14 +1,15 @@
 //! Cases at the limits of document 01.
 
-use std::process::{Child, Command, Stdio};
+use std::process::{Child, Stdio};
 use std::time::{Duration, Instant};
 
 use crate::bytes::{object, object_row, parent_row};
 use crate::json::{Value, parse};
-use crate::tool::{Case, TOOL, Told};
+use crate::tool::{Case, Told};
 
 const PARENTS: usize = 1024;
-const SLOTS: usize = 160;
+/// The slots of a file.
+pub const SLOTS: usize = 160;
 const OBJECTS: usize = 65_536;
 /// Files with all their slots named; the others have holes.
 const NAMED: usize = 400;
@@ -19,7 +20,7 @@ fn id(row: usize, slot: usize) -> u32 {
 
 /// Files of 160 slots, the first of them with all slots named; every object is where it
 /// belongs.
-fn clean(files: usize, named: usize) -> (Vec<u8>, Vec<u8>) {
+pub fn clean(files: usize, named: usize) -> (Vec<u8>, Vec<u8>) {
     let (mut parents, mut objects) = (Vec::new(), Vec::new());
     for row in 0..files {
         let name = |slot| if row < named { id(row, slot) } else { 0 };
@@ -107,53 +108,13 @@ fn start_alone(case: &Case, words: &[&str]) -> Child {
         std::thread::sleep(Duration::from_millis(50 * attempt));
         let second = case.run(&["show", "1:1"]);
         if second.status == Some(74) {
-            second.expect_line(74, "another lfsck-offline has this case open");
+            second.expect_line(74, "another process has this case open");
             return child;
         }
         // The second was the first to open the case.
         child.wait().expect("the tool");
     }
     panic!("a command never has the case for itself");
-}
-
-/// What a command prints on a terminal, by the program `script`; none where there is no such
-/// program.
-fn on_terminal(case: &Case, words: &str) -> Option<String> {
-    let mut script = Command::new("script");
-    let command = format!("'{TOOL}' run . {words}");
-    script.args(["-qec", &command, "/dev/null"]);
-    script.current_dir(case.path()).stdin(Stdio::null());
-    let told: Told = script.output().ok()?.into();
-    Some(told.expect(0).out)
-}
-
-/// Work of some seconds shows a bar on a terminal, and clears it. Short work shows none.
-#[test]
-fn long_work_has_a_bar_on_a_terminal() {
-    let (parents, objects) = clean(500, 200);
-    let case = Case::with("bar", &parents, &objects, b"");
-    let started = Instant::now();
-    let Some(told) = on_terminal(&case, "--create --adopt") else {
-        println!("no program `script`: the bar is not tested");
-        return;
-    };
-    let long = started.elapsed() > Duration::from_secs(2);
-    println!("on a terminal: {:.1} s", started.elapsed().as_secs_f64());
-    let bar = told.contains("[####") && told.contains(" of 112500 steps");
-    assert!(bar || !long, "{told:?}");
-    let last = told
-        .rsplit('\r')
-        .find(|part| part.starts_with("The run begins"));
-    assert!(
-        told.starts_with("The run begins") || last.is_some(),
-        "{told:?}"
-    );
-    assert!(told.contains("Steps: 112500 done, 0 left."), "{told:?}");
-
-    let case = Case::sample("no-bar");
-    let told = on_terminal(&case, "--create --adopt").expect("a terminal");
-    assert!(told.starts_with("The run begins at the start"), "{told:?}");
-    assert!(!told.contains('#'), "{told:?}");
 }
 
 #[test]

@@ -1,14 +1,22 @@
 //! The tool, tested by running it.
 
+mod asking;
+mod beforehand;
 mod bytes;
+mod changes;
 mod commands;
+mod foresee;
 mod histories;
 mod json;
 mod limits;
+mod logs;
 mod oracle;
 mod refusals;
 mod resume;
 mod saves;
+mod signals;
+mod surroundings;
+mod terminal;
 mod tool;
 mod tour;
 mod two;

@@ -8,7 +8,7 @@ use std::os::unix::process::CommandExt;
 use std::path::{Path, PathBuf};
 use std::process::Command;
 
-use crate::tool::{Case, JOURNAL, NOBODY, POSITION, TOOL, Told, sha256};
+use crate::tool::{Case, JOURNAL, NOBODY, POSITION, TOOL, Told, sha256, skipped};
 
 /// The commands that read a case.
 const READERS: [&[&str]; 4] = [
@@ -155,6 +155,38 @@ fn a_table_of_broken_rows_is_refused() {
     let before = case.files();
     case.run(&["run"]).expect_line(2, "refused with 11");
     assert_eq!(case.files(), before);
+}
+
+/// A table, and what is done to it.
+type Harm = (&'static str, fn(&mut Vec<u8>));
+
+/// Whoever reads tables that are refused says the same line, in whichever of them the faults are,
+/// and whatever is asked for.
+#[test]
+fn all_refuse_with_the_same_line() {
+    let faults: [Harm; 4] = [
+        ("parents.tbl", |table| table[25] ^= 1),
+        ("objects.tbl", |table| table[13] = 1),
+        ("reserve.tbl", |table| table[..8].fill(0)),
+        ("reserve.tbl", |table| table.push(0)),
+    ];
+    for chosen in 1..1 << faults.len() {
+        let case = Case::sample("refused-alike");
+        for (bit, (table, fault)) in faults.iter().enumerate() {
+            if chosen >> bit & 1 == 1 {
+                case.edit(table, fault);
+            }
+        }
+        let line = case.run(&["run"]).expect_line(2, "refused with").err;
+        for words in [
+            &["classes"][..],
+            &["classes", "--file", "0x200000401:0x77"],
+            &["show", "0x200000401:1"],
+            &["show", "0x200000401:0x77"],
+        ] {
+            assert_eq!(case.run(words).expect(2).err, line, "{words:?}");
+        }
+    }
 }
 
 #[test]
@@ -324,8 +356,8 @@ impl Drop for ReadOnly {
 fn a_case_that_cannot_be_written_can_be_read() {
     let place = ReadOnly::new();
     if place.run(&["check"]).is_none() {
-        println!("no other user can be had: reading without the right to write is not tested");
-        return;
+        let why = "no other user can be had";
+        return skipped("a_case_that_cannot_be_written_can_be_read", why);
     }
     let run = |words: &[&str]| place.run(words).expect("the tool");
     let before = names(&place.case());

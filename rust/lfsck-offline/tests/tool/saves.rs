@@ -4,25 +4,25 @@ use std::fs;
 use std::os::unix::fs::{MetadataExt, PermissionsExt, chown};
 
 use crate::oracle;
-use crate::tool::{Case, Files, JOURNAL, NOBODY, Told, sha256};
+use crate::tool::{Case, Files, JOURNAL, LOG, NOBODY, POSITION, Told, sha256, timeless};
 
 const RUN: [&str; 5] = ["run", "--create", "--adopt", "--steps", "40"];
 
-/// The state that a crash left, as the next command finds it.
+/// The state that a crash left, as the next command finds it, without the times in the log.
 fn reopened(case: &Case) -> Files {
     case.run(&["check"]).expect(0);
-    case.files()
+    timeless(&case.files())
 }
 
-/// A case halfway through its repairs, and what the next run makes of it.
+/// A case halfway through its repairs, and what the next run makes of it, without times.
 fn old_and_new(name: &str) -> (Case, Files, Files) {
     let case = Case::sample(name);
     case.run(&["run", "--create", "--adopt", "--steps", "4"])
         .expect(1);
     let old = case.files();
     case.run(&RUN).expect(1);
-    let new = case.files();
-    for name in ["parents.tbl", "objects.tbl", "lfsck-offline.position"] {
+    let new = timeless(&case.files());
+    for name in ["parents.tbl", "objects.tbl", POSITION, LOG] {
         assert_ne!(old[name], new[name], "{name}");
     }
     (case, old, new)
@@ -42,6 +42,7 @@ fn aborted(told: &Told) -> Option<String> {
 #[test]
 fn a_kill_at_any_operation_leaves_the_old_or_the_new_state() {
     let (case, old, new) = old_and_new("kill");
+    let before = timeless(&old);
     let mut operations = Vec::new();
     let mut saved = false;
     for number in 1.. {
@@ -53,7 +54,7 @@ fn a_kill_at_any_operation_leaves_the_old_or_the_new_state() {
         };
         let crashed = case.files();
         let state = reopened(&case);
-        assert!(state == old || state == new, "after {operation}");
+        assert!(state == before || state == new, "after {operation}");
         assert!(state == new || !saved, "after {operation}: old again");
         saved = state == new;
         if operation.starts_with("rename") {
@@ -61,7 +62,7 @@ fn a_kill_at_any_operation_leaves_the_old_or_the_new_state() {
         }
         operations.push(operation);
     }
-    assert_eq!(case.files(), new);
+    assert_eq!(timeless(&case.files()), new);
     assert!(saved);
     expect_order(&operations);
 }
@@ -87,12 +88,10 @@ fn expect_order(operations: &[String]) {
         found.unwrap_or_else(|| panic!("no {wanted} in {operations:?}"))
     };
     let committed = at(&format!("rename to {JOURNAL}"));
-    for name in [
-        JOURNAL,
-        "parents.tbl",
-        "objects.tbl",
-        "lfsck-offline.position",
-    ] {
+    let log = ["extend", "write half of", "write the rest of", "sync"];
+    let log: Vec<usize> = log.iter().map(|it| at(&format!("{it} {LOG}"))).collect();
+    assert!(log.is_sorted() && log[0] == committed + 2, "{log:?}");
+    for name in [JOURNAL, "parents.tbl", "objects.tbl", POSITION] {
         let own = name.strip_prefix("lfsck-offline.").unwrap_or(name);
         let new = format!("lfsck-offline.{own}.new");
         let order = [
@@ -104,19 +103,20 @@ fn expect_order(operations: &[String]) {
         ];
         let places: Vec<usize> = order.iter().map(|it| at(it)).collect();
         assert!(places.is_sorted(), "{name}");
-        assert!(name == JOURNAL || places[0] > committed + 1, "{name}");
+        assert!(name == JOURNAL || places[0] > log[3], "{name}");
     }
     let removed = at(&format!("remove {JOURNAL}"));
     let last = operations.iter().rposition(|it| it.starts_with("rename"));
     assert_eq!(last, Some(removed - 2));
     for directory_synced in [committed + 1, removed - 1, removed + 1] {
-        assert_eq!(operations[directory_synced], "sync kill");
+        assert_eq!(operations[directory_synced], "sync .");
     }
 }
 
 #[test]
 fn an_operation_that_fails_leaves_the_old_or_the_new_state() {
     let (case, old, new) = old_and_new("fail");
+    let before = timeless(&old);
     for number in 1.. {
         case.restore(&old);
         let told = case.run_with_fault(&RUN, format!("fail:{number}"));
@@ -125,11 +125,11 @@ fn an_operation_that_fails_leaves_the_old_or_the_new_state() {
         }
         let told = told.expect_line(74, "made to fail by a test");
         let state = reopened(&case);
-        assert!(state == old || state == new);
+        assert!(state == before || state == new);
         let announced = told.err.contains("completed when the case is next opened");
         assert_eq!(state == new, announced, "{told:?}");
     }
-    assert_eq!(case.files(), new);
+    assert_eq!(timeless(&case.files()), new);
 }
 
 #[test]
@@ -137,7 +137,7 @@ fn a_run_goes_on_after_a_crash_as_if_there_had_been_none() {
     let case = Case::sample("after-crash");
     let start = case.files();
     let uncut = oracle::run(&start, 3, u64::MAX);
-    for number in 1..30 {
+    for number in 1..45 {
         case.restore(&start);
         case.run_with_fault(&["run", "--create", "--adopt"], format!("abort:{number}"));
         case.run(&["run", "--create", "--adopt"]).expect(0);
@@ -215,7 +215,7 @@ fn a_journal_that_is_not_whole_is_left_to_people() {
         }
         assert_eq!(case.files(), before);
         fs::remove_file(case.path().join(JOURNAL)).unwrap();
-        assert_eq!(reopened(&case), old);
+        assert_eq!(reopened(&case), timeless(&old));
     }
 }
 
@@ -227,7 +227,7 @@ fn other_files_in_the_directory_stay() {
     for name in names {
         case.write(name, name.as_bytes());
     }
-    case.run_with_fault(&RUN, "abort:9".to_string());
+    case.run_with_fault(&RUN, "abort:20".to_string());
     for words in [&["check"][..], &RUN] {
         case.run(words);
         for name in names {
@@ -240,9 +240,8 @@ fn other_files_in_the_directory_stay() {
 fn a_journal_writes_no_other_file() {
     let case = Case::sample("foreign-journal");
     let before = case.files();
-    let mut journal = b"lfsck-offline journal, format 1\n../stray 5 nothing\nwords\n".to_vec();
-    journal.truncate(journal.len() - 1);
-    journal.extend(b"end\n");
+    let mut journal = b"lfsck-offline journal, format 2\n".to_vec();
+    journal.extend(b"put ../stray 5 nothing 0\nwordsend\n");
     journal.extend(digest(&journal));
     case.write(JOURNAL, &journal);
     case.run(&["check"]).expect_line(74, "stray");

@@ -4,6 +4,7 @@ use std::collections::BTreeMap;
 use std::io::Write;
 use std::path::{Path, PathBuf};
 use std::process::{Command, Output, Stdio};
+use std::sync::OnceLock;
 
 use crate::json::{self, Value};
 
@@ -15,8 +16,32 @@ pub const POSITION: &str = "lfsck-offline.position";
 /// The journal of a save.
 pub const JOURNAL: &str = "lfsck-offline.journal";
 
+/// The log.
+pub const LOG: &str = "lfsck-offline.log";
+
 /// A user without rights.
 pub const NOBODY: u32 = 65_534;
+
+/// The program with the hook for faults, which the released one has not: built here.
+pub fn faulty() -> &'static Path {
+    static BUILT: OnceLock<PathBuf> = OnceLock::new();
+    BUILT.get_or_init(|| {
+        let target = Path::new(env!("CARGO_TARGET_TMPDIR")).join("with-faults");
+        let mut cargo = Command::new(env!("CARGO"));
+        cargo.args(["build", "--release", "--offline", "--quiet"]);
+        cargo
+            .args(["--features", "faults", "--target-dir"])
+            .arg(&target);
+        cargo.current_dir(env!("CARGO_MANIFEST_DIR"));
+        assert!(cargo.status().expect("cargo").success());
+        target.join("release/lfsck-offline")
+    })
+}
+
+/// Tells that a test cannot be made here, by its name; `tests/run` counts these.
+pub fn skipped(test: &str, why: &str) {
+    println!("skipped: {test}: {why}");
+}
 
 /// A directory of a test's own, removed when the test is done with it.
 pub struct Case {
@@ -115,7 +140,7 @@ impl Case {
 
     /// Runs a command with a fault, as `abort:3`.
     pub fn run_with_fault(&self, words: &[&str], fault: String) -> Told {
-        let mut command = self.command(words);
+        let mut command = self.command_of(faulty(), words);
         command.env("LFSCK_OFFLINE_FAULT", fault);
         command.output().expect("the tool").into()
     }
@@ -128,7 +153,11 @@ impl Case {
 
     /// A command that can be started.
     pub fn command(&self, words: &[&str]) -> Command {
-        let mut command = Command::new(TOOL);
+        self.command_of(Path::new(TOOL), words)
+    }
+
+    fn command_of(&self, tool: &Path, words: &[&str]) -> Command {
+        let mut command = Command::new(tool);
         command.arg(words[0]).arg(&self.directory).args(&words[1..]);
         command
     }
@@ -169,6 +198,19 @@ impl From<Output> for Told {
             err: text(output.stderr),
         }
     }
+}
+
+/// The files without the times in the log, which differ from run to run.
+pub fn timeless(files: &Files) -> Files {
+    let mut files = files.clone();
+    if let Some(log) = files.get_mut(LOG) {
+        let text = String::from_utf8(std::mem::take(log)).expect("a text");
+        let mut parts = text.split_inclusive("\"when\":\"");
+        let first = parts.next().unwrap_or_default().to_string();
+        let rest = parts.map(|part| &part["2026-11-16T01:06:34Z".len()..]);
+        *log = rest.fold(first, |text, part| text + part).into_bytes();
+    }
+    files
 }
 
 /// The SHA-256 digest in hexadecimal digits, by another program.

@@ -1,9 +1,9 @@
 use denote.Ref.{now}
 use Rattle.tables.specs.Positions.{place}
-use Rattle.capi_run.proofs.RunNumbers.{given-other, given-three}
+use Rattle.capi_tables.proofs.TableNumbers.{given-other, given-three}
 use borrow.Author.Needs.{needs}
-use Rattle.capi_run.proofs.position_given.Statement.{statement}
-use Rattle.capi_run.proofs.position_given.Tie as tie
+use Rattle.capi_tables.proofs.position_given.Statement.{statement}
+use Rattle.capi_tables.proofs.position_given.Tie as tie
 
 returns : tie.Need-returns
 unfolding place

@@ -1,0 +1,3 @@
+pub mod TellLaws
+pub mod ListingLaws
+pub mod InARow

@@ -1,0 +1,138 @@
+//! `log`: what was done in a case, and the story of one file or object.
+
+use std::path::Path;
+
+use crate::answers::meaning;
+use crate::case::Case;
+use crate::change::Change;
+use crate::class::Class;
+use crate::columns::{self, Line};
+use crate::fid::Fid;
+use crate::history::{Deed, Entry};
+use crate::json::Json;
+use crate::outcome::{Failure, Outcome};
+use crate::saved::policy_words;
+use crate::story::{concerns, mended};
+
+/// Tells everything.
+pub fn log(directory: &Path, json: bool) -> Result<Outcome, Failure> {
+    let entries = Case::open(directory)?.log()?;
+    let text = if json {
+        let list = entries.iter().map(entry_json).collect();
+        Json::Object(vec![("entries", Json::List(list))]).line()
+    } else if entries.is_empty() {
+        "The log is empty: no run has changed a table.\n".to_string()
+    } else {
+        entries.iter().map(entry_text).collect()
+    };
+    Ok(Outcome::done(text))
+}
+
+/// Tells what concerns one file or object.
+pub fn story(directory: &Path, fid: Fid, json: bool) -> Result<Outcome, Failure> {
+    let entries = Case::open(directory)?.log()?;
+    let told = entries.iter().map(|entry| (entry, entry.concerning(fid)));
+    let told: Vec<Told> = told.filter(|(_, changes)| !changes.is_empty()).collect();
+    let text = if json {
+        let list = told.iter().flat_map(story_json).collect();
+        let members = vec![("fid", Json::text(fid)), ("story", Json::List(list))];
+        Json::Object(members).line()
+    } else if told.is_empty() {
+        format!("Nothing in the log concerns {fid}.\n")
+    } else {
+        told.iter().map(story_text).collect()
+    };
+    Ok(Outcome::done(text))
+}
+
+/// An entry and what of it is told, each with the class that was mended; an undo mends none.
+type Told<'log> = (&'log Entry, Vec<(Change, Option<Class>)>);
+
+impl Entry {
+    fn concerning(&self, fid: Fid) -> Vec<(Change, Option<Class>)> {
+        let all = self.changes();
+        let is_run = matches!(self.deed, Deed::Run { .. });
+        let concerned = all.iter().filter(|change| concerns(change, fid));
+        concerned
+            .map(|change| (change.clone(), is_run.then(|| mended(change, &all))))
+            .collect()
+    }
+
+    fn title(&self) -> String {
+        let Entry { when, version, .. } = self;
+        match &self.deed {
+            Deed::Run { policy, .. } => {
+                let policy = policy_words(*policy);
+                format!("{when}  run, lfsck-offline {version}, policy: {policy}\n")
+            }
+            Deed::Undo { undoes } => {
+                format!("{when}  undo of the run of {undoes}, lfsck-offline {version}\n")
+            }
+        }
+    }
+}
+
+fn line(change: &Change, words: String) -> Line {
+    Line::new(change.file, change.slot, change.object, words)
+}
+
+fn entry_text(entry: &Entry) -> String {
+    let mut text = entry.title();
+    if let Deed::Run { from, run, .. } = &entry.deed {
+        let numbers = |[stage, row, part]: [u64; 3]| format!("{stage},{row},{part}");
+        text += &format!(
+            "  From position {} to {} in {} steps. Answer {}: {}.\n  Repairs: {}.\n",
+            numbers(*from),
+            numbers(run.position),
+            run.steps,
+            run.answer,
+            meaning(run.answer),
+            run.repairs_words()
+        );
+    }
+    let changes = entry.changes();
+    let lines: Vec<Line> = changes.iter().map(|it| line(it, it.what.words())).collect();
+    text + &columns::text(&lines)
+}
+
+fn story_text((entry, changes): &Told) -> String {
+    let words = |(change, class): &(Change, Option<Class>)| {
+        let words = change.what.words();
+        match class {
+            Some(class) => format!("{words}; {}: {}", class.name(), class.meaning()),
+            None => words,
+        }
+    };
+    let lines: Vec<Line> = changes.iter().map(|it| line(&it.0, words(it))).collect();
+    entry.title() + &columns::text(&lines)
+}
+
+/// The entry as it stands in the log, and its changes.
+fn entry_json(entry: &Entry) -> Json {
+    let changes = entry.changes();
+    let mut members = entry.members();
+    members.push((
+        "changes",
+        Json::List(changes.iter().map(Change::json).collect()),
+    ));
+    Json::Object(members)
+}
+
+fn story_json((entry, changes): &Told) -> Vec<Json> {
+    let (policy, undoes) = match &entry.deed {
+        Deed::Run { policy, .. } => (Some(*policy), None),
+        Deed::Undo { undoes } => (None, Some(undoes)),
+    };
+    let one = |(change, class): &(Change, Option<Class>)| {
+        Json::Object(vec![
+            ("what", Json::text(entry.what())),
+            ("when", Json::text(&entry.when)),
+            ("policy", Json::maybe_number(policy)),
+            ("undoes", Json::maybe(undoes)),
+            ("class", Json::maybe(class.map(Class::name))),
+            ("why", Json::maybe(class.map(Class::meaning))),
+            ("change", change.json()),
+        ])
+    };
+    changes.iter().map(one).collect()
+}

@@ -1,0 +1,26 @@
+//! What a call answers.
+
+/// Done; of a run, the end is reached.
+pub const OK: u32 = 0;
+/// The steps are used up and the end is not reached.
+pub const STEPS_USED: u32 = 1;
+/// A table is not whole rows or too long, or a mark is not 0 or 1.
+pub const BAD_TABLE: u32 = 11;
+/// The policy is none.
+pub const BAD_POLICY: u32 = 12;
+/// A layout or a slot is against the rules.
+pub const BAD_LAYOUT: u32 = 13;
+/// A bad FID, OST index or claim, or fresh without claim.
+pub const BAD_FID: u32 = 14;
+/// A FID twice among used parents, or twice among used objects.
+pub const FID_TWICE: u32 = 15;
+/// There is no such position.
+pub const NO_POSITION: u32 = 16;
+/// Too few places for what is handed out.
+pub const NO_ROOM: u32 = 17;
+/// A slot is to be redirected, and no FID of the reserve can be used.
+pub const NO_RESERVE: u32 = 21;
+/// An object is to be made, and no object row is unused.
+pub const NO_OBJECT_ROW: u32 = 22;
+/// A file is to be made, and no parent row is unused.
+pub const NO_PARENT_ROW: u32 = 23;

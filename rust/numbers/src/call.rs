@@ -1,0 +1,34 @@
+//! What calls of the library are handed, and hand out.
+
+/// The policy that lets a run make objects.
+pub const CREATE: u64 = 1;
+/// The policy that lets a run adopt and destroy objects.
+pub const ADOPT: u64 = 2;
+/// The greatest policy: both.
+pub const BOTH: u64 = CREATE | ADOPT;
+
+/// The numbers of a position: stage, row and part.
+pub const POSITION: usize = 3;
+/// The stage of headers and slots.
+pub const STAGE_PARENTS: u64 = 1;
+/// The stage of objects.
+pub const STAGE_OBJECTS: u64 = 2;
+/// The stage of the end.
+pub const STAGE_END: u64 = 3;
+/// The end.
+pub const END: [u64; POSITION] = [STAGE_END, 0, 0];
+
+/// The classes that there are.
+pub const CLASSES: usize = 14;
+/// The numbers of a class: which one, and the claim of an object that claims another slot.
+pub const CLASS: usize = 4;
+/// The classes whose repairs a run counts.
+pub const COUNTED: usize = 8;
+/// The numbers of a run's report: the steps and the counts.
+pub const REPORT: usize = 1 + COUNTED;
+/// The numbers of a header that is read.
+pub const HEADER_READ: usize = 8;
+/// The numbers of a header that is written.
+pub const HEADER_WRITTEN: usize = HEADER_READ - 1;
+/// The numbers of a slot.
+pub const SLOT: usize = 5;

@@ -1,0 +1,93 @@
+//! The numbers are those of the C header.
+
+use numbers::{answer, call, layout, object, parent, reserve};
+
+const HEADER: &str = include_str!("../../../include/lfsck_layout.h");
+
+/// The number that the header gives a name.
+fn number_of(name: &str) -> u64 {
+    let words: Vec<&str> = HEADER.split_whitespace().collect();
+    let value = words.windows(3).find_map(|three| match three {
+        [found, "=", value] if *found == name => Some(value.trim_end_matches(',')),
+        ["#define", found, value] if *found == name => value
+            .strip_prefix("UINT64_C(0x")
+            .map(|value| value.trim_end_matches(')')),
+        _ => None,
+    });
+    let value = value.unwrap_or_else(|| panic!("{name} is not in the header"));
+    let radix = if name.starts_with("LFSCK_PATTERN") {
+        16
+    } else {
+        10
+    };
+    u64::from_str_radix(value, radix).expect(name)
+}
+
+#[test]
+fn sizes_and_limits() {
+    for (name, number) in [
+        ("LFSCK_PARENT_BYTES", parent::BYTES),
+        ("LFSCK_OBJECT_BYTES", object::BYTES),
+        ("LFSCK_RESERVE_BYTES", reserve::BYTES),
+        ("LFSCK_PARENTS_MAX", parent::MOST),
+        ("LFSCK_OBJECTS_MAX", object::MOST),
+        ("LFSCK_RESERVE_MAX", reserve::MOST),
+        ("LFSCK_SLOTS_MAX", layout::MOST_SLOTS),
+        ("LFSCK_OST_MAX", layout::LAST_OST as usize),
+        ("LFSCK_HEADER_V1", layout::HEADER_ONE),
+        ("LFSCK_HEADER_V3", layout::HEADER_THREE),
+        ("LFSCK_POOL_BYTES", layout::POOL_BYTES),
+        ("LFSCK_SLOT_BYTES", layout::SLOT_BYTES),
+        ("LFSCK_LAYOUT_BYTES", layout::MOST_BYTES),
+        ("LFSCK_PATTERN_PLAIN", layout::PLAIN as usize),
+        ("LFSCK_PATTERN_HOLES", layout::HOLES as usize),
+    ] {
+        assert_eq!(number as u64, number_of(name), "{name}");
+    }
+}
+
+#[test]
+fn what_calls_are_handed() {
+    for (name, number) in [
+        ("LFSCK_READ_FIELDS", call::HEADER_READ),
+        ("LFSCK_WRITE_FIELDS", call::HEADER_WRITTEN),
+        ("LFSCK_SLOT_NUMBERS", call::SLOT),
+        ("LFSCK_POSITION_NUMBERS", call::POSITION),
+        ("LFSCK_CLASS_NUMBERS", call::CLASS),
+        ("LFSCK_REPORT_NUMBERS", call::REPORT),
+        // The last of each.
+        ("LFSCK_UNUSED", call::CLASSES - 1),
+        ("LFSCK_REPORT_ORPHAN", call::COUNTED),
+    ] {
+        assert_eq!(number as u64, number_of(name), "{name}");
+    }
+    for (name, number) in [
+        ("LFSCK_CREATE", call::CREATE),
+        ("LFSCK_ADOPT", call::ADOPT),
+        ("LFSCK_STAGE_PARENTS", call::STAGE_PARENTS),
+        ("LFSCK_STAGE_OBJECTS", call::STAGE_OBJECTS),
+        ("LFSCK_STAGE_END", call::STAGE_END),
+    ] {
+        assert_eq!(number, number_of(name), "{name}");
+    }
+}
+
+#[test]
+fn answers() {
+    for (name, number) in [
+        ("LFSCK_OK", answer::OK),
+        ("LFSCK_STEPS_USED", answer::STEPS_USED),
+        ("LFSCK_BAD_TABLE", answer::BAD_TABLE),
+        ("LFSCK_BAD_POLICY", answer::BAD_POLICY),
+        ("LFSCK_BAD_LAYOUT", answer::BAD_LAYOUT),
+        ("LFSCK_BAD_FID", answer::BAD_FID),
+        ("LFSCK_FID_TWICE", answer::FID_TWICE),
+        ("LFSCK_NO_POSITION", answer::NO_POSITION),
+        ("LFSCK_NO_ROOM", answer::NO_ROOM),
+        ("LFSCK_NO_RESERVE", answer::NO_RESERVE),
+        ("LFSCK_NO_OBJECT_ROW", answer::NO_OBJECT_ROW),
+        ("LFSCK_NO_PARENT_ROW", answer::NO_PARENT_ROW),
+    ] {
+        assert_eq!(u64::from(number), number_of(name), "{name}");
+    }
+}
