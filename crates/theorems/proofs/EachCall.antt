@@ -1,5 +1,6 @@
 -- Demand 3 of each call within a list: from that of the calls up to it. Assumes nothing.
 use Prim.Native.Nat.{ℕ, _≤_}
+use native.Mathlib.Omega.{arith}
 use mathlib.Core.Path.{_≡_, refl, sym, ap, subst, _∙_}
 use mathlib.Core.List.{List, [], _∷_, _++_, List·Memᴰ}
 use mathlib.Core.Logic.{_⊎_, inl, inr}
@@ -39,7 +40,7 @@ unfolding Fair after passedAfter AtEnd
 each-call policy reserve t xs c ys b f =
     record {
       ended = λ a e. let r = reached-last t xs c a e in (d1 .ended r .0, sym same ∙ d1 .ended r .1, subst (λ (u : Lent). after u ys ≡ u) same (d1 .kept r ys later));
-      enough = λ a h. let w = s .1 .0 a in subst (λ (k : RunCall). SameEnd (ran (after t xs) k) (uncut policy reserve t)) (sym (as-called w)) (d0 .enough (c .from) (w .handed) (c .steps) h);
+      enough = λ a h. let w = s .1 .0 a in subst (λ (k : RunCall). SameEnd (ran (after t xs) k) (uncut policy reserve t)) (sym (as-called w)) (d0 .enough (c .from) (w .handed) (c .steps) (omega arith));
     }
   where
     ps : List Position
