@@ -17,10 +17,10 @@ use Rattle.rules.specs.Settings.{settingsOf}
 use Rattle.engine.specs.RunBytes.{Ran, refused, rendered, runBytes}
 use Rattle.theorems.specs.Calls.{Lent, call, number, Accepted, ran, left, leaves, after}
 use Rattle.theorems.proofs.EveryRun.{parts}
-use Rattle.capi_tables.specs.Tables.{positionNumbers}
-use Rattle.capi_run.specs.Runs.{positionGiven, Called, unwritten, handedOut, called}
-use Rattle.capi_run.proofs.RunNumbers.{given-is}
+use Rattle.capi_tables.specs.Tables.{positionNumbers, positionGiven}
+use Rattle.capi_run.specs.Runs.{Called, unwritten, handedOut, called}
 use Rattle.capi_calls.specs.Lists.{NumberCall, answers, leavesOf, afterOf, asked, short, runCalls, EveryNumberCall, DropOut}
+use Rattle.capi_tables.proofs.TableNumbers.{given-is}
 
 -- three numbers, written over three
 put-three : (l : List ℕ) (p : Position) → length l ≡ 3 → positionGiven (sets l 0 (positionNumbers p)) ≡ p

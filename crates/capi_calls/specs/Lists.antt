@@ -6,7 +6,8 @@ use mathlib.Core.List.{List, [], _∷_}
 use lib.Dec.{eqb, ltb}
 use lib.ListN.{length}
 use Rattle.theorems.specs.Calls.{Lent, RunCall, call, number, Accepted, ran, leaves, after}
-use Rattle.capi_run.specs.Runs.{positionGiven, Called, unwritten, called}
+use Rattle.capi_run.specs.Runs.{Called, unwritten, called}
+use Rattle.capi_tables.specs.Tables.{positionGiven}
 
 -- what a call of `lfsck_run` is lent beside the tables, and its numbers
 pub record NumberCall : Type 0 where
