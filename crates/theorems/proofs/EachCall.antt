@@ -1,13 +1,12 @@
 -- Demand 3 of each call within a list: from that of the calls up to it. Assumes nothing.
-use Prim.Native.Nat.{ℕ, _≤_}
+use Prim.Native.Nat.{ℕ}
 use native.Mathlib.Omega.{arith}
 use mathlib.Core.Path.{_≡_, refl, sym, ap, subst, _∙_}
-use mathlib.Core.List.{List, [], _∷_, _++_, List·Memᴰ}
-use mathlib.Core.Logic.{_⊎_, inl, inr}
-use Rattle.tables.specs.Positions.{start, countSteps}
+use mathlib.Core.List.{List, [], _∷_, _++_}
+use mathlib.Core.Logic.{inl, inr}
+use Rattle.tables.specs.Positions.{start}
 use Rattle.tables.specs.declared.Position.{Position}
-use Rattle.engine.specs.RunBytes.{Ran}
-use Rattle.theorems.specs.Calls.{Lent, tablesOf, RunCall, call, Accepted, ran, leaves, passedBy, AtEnd, after, passedAfter, Reached, Follows, Fair, fromStart, uncut}
+use Rattle.theorems.specs.Calls.{Lent, tablesOf, RunCall, call, Accepted, ran, leaves, passedBy, AtEnd, after, passedAfter, Reached, Follows, Fair, uncut}
 use Rattle.theorems.specs.Promises.{Begins, SameEnd, DemandThree, EachCall}
 use Rattle.theorems.proofs.Lists.{demand-three}
 
