@@ -1,30 +1,37 @@
 -- A run for C, case by case. Assumes nothing.
-use Prim.Native.Nat.{ℕ, _≤_, _<_}
+use Prim.Native.Nat.{ℕ, zero, suc, _+_, _≤_, _<_}
+use native.Mathlib.Omega.{arith}
 use mathlib.Core.Path.{_≡_, refl, sym, ap, _∙_}
 use mathlib.Core.List.{List, [], _∷_}
 use borrow.Author.Tests.{eq-eqb, ne-eqb, lt-ltb, le-ltb}
-use lib.ListN.{length, set}
-use lib.Seq.{sets}
-use Rattle.wire.proofs.Splice.{sets-at}
+use lib.ListN.{length, getD, set, drop}
+use lib.Seq.{sets, drop-cons, drop-nil}
 use Rattle.tables.specs.Check.{checkNumber}
 use Rattle.tables.specs.declared.Position.{Position}
-use Rattle.rules.specs.declared.Counts.{Counts}
 use Rattle.rules.specs.declared.Report.{Report}
 use Rattle.engine.specs.RunBytes.{Ran, runBytes}
 use Rattle.engine.specs.Ready.{stepsBytes}
 use Rattle.capi_tables.specs.Tables.{positionNumbers, positionGiven}
-use Rattle.capi_run.specs.Runs.{countNumbers, reportNumbers, Called, unwritten, handedOut, called}
+use Rattle.capi_run.specs.Runs.{reportNumbers, Called, unwritten, handedOut, called}
 
 -- ## The report
 
-pub counts-put : (l x y : List ℕ) (c : Counts) → x ≡ sets l 1 (c .own ∷ c .multiple ∷ c .dangling ∷ c .blank ∷ []) →
-    y ≡ sets x 5 (c .unmatched ∷ c .owner ∷ c .empty ∷ c .orphan ∷ []) → y ≡ sets l 1 (countNumbers c)
-unfolding countNumbers
-counts-put l x y c p q =
-    q ∙ ap (λ (z : List ℕ). sets z 5 (c .unmatched ∷ c .owner ∷ c .empty ∷ c .orphan ∷ [])) p
-    ∙ sets-at (c .own ∷ c .multiple ∷ c .dangling ∷ c .blank ∷ []) (c .unmatched ∷ c .owner ∷ c .empty ∷ c .orphan ∷ []) l 1 4 refl
+-- one more number put, and all of them
+pub put-next : (l v : List ℕ) (i : ℕ) → i < length v → sets l (1 + i) (drop i v) ≡ sets (set l (1 + i) (getD v i 0)) (1 + (i + 1)) (drop (i + 1) v)
+put-next l v i h =
+    let n : suc (1 + i) ≡ 1 + (i + 1) = omega arith in
+    let m : suc i ≡ i + 1 = omega arith in
+    ap (sets l (1 + i)) (drop-cons v i 0 h) ∙ (λ k. sets (set l (1 + i) (getD v i 0)) (n k) (drop (m k) v))
 
-pub report-put : (l x y : List ℕ) (r : Report) → x ≡ set l 0 (r .steps) → y ≡ sets x 1 (countNumbers (r .counts)) → y ≡ sets l 0 (reportNumbers r)
+pub put-all : (l x v : List ℕ) (i : ℕ) → sets l 1 v ≡ sets x (1 + i) (drop i v) → length v ≤ i → x ≡ sets l 1 v
+put-all l x v i e h = sym (e ∙ ap (sets x (1 + i)) (drop-over v i h))
+  where
+    drop-over : (v : List ℕ) (i : ℕ) → length v ≤ i → drop i v ≡ []
+    drop-over [] i h = drop-nil i
+    drop-over (a ∷ v) zero h = absurd (omega arith)
+    drop-over (a ∷ v) (suc i) h = drop-over v i (omega arith)
+
+pub report-put : (l x y : List ℕ) (r : Report) → x ≡ set l 0 (r .steps) → y ≡ sets x 1 (r .counts .of) → y ≡ sets l 0 (reportNumbers r)
 unfolding reportNumbers
 report-put l x y r p q = rw (q, p)
 

@@ -1,23 +1,18 @@
 -- A run for C: the position in and out, the report as nine numbers.
 use Prim.Native.Nat.{ℕ}
-use mathlib.Core.List.{List, [], _∷_}
+use mathlib.Core.List.{List, _∷_}
 use mathlib.Core.Bool.{cond}
 use lib.Dec.{eqb, ltb}
 use lib.ListN.{length}
 use lib.Seq.{sets}
 use Rattle.tables.specs.Check.{checkNumber}
-use Rattle.rules.specs.declared.Counts.{Counts}
 use Rattle.rules.specs.declared.Report.{Report}
 use Rattle.engine.specs.RunBytes.{Ran, runBytes}
 use Rattle.capi_tables.specs.Tables.{positionNumbers, positionGiven}
 
--- "the repairs of SELF, MULTIPLE, DANGLING, BLANK, UNMATCHED, OWNER, EMPTY, ORPHAN"
-unfoldable pub countNumbers : Counts → List ℕ
-countNumbers c = c .own ∷ c .multiple ∷ c .dangling ∷ c .blank ∷ c .unmatched ∷ c .owner ∷ c .empty ∷ c .orphan ∷ []
-
--- "steps done, then the repairs"
+-- "steps done, then the repairs of SELF, MULTIPLE, DANGLING, BLANK, UNMATCHED, OWNER, EMPTY, ORPHAN"
 unfoldable pub reportNumbers : Report → List ℕ
-reportNumbers r = r .steps ∷ countNumbers (r .counts)
+reportNumbers r = r .steps ∷ r .counts .of
 
 -- what a call answers and how it leaves what is lent
 pub record Called : Type 0 where

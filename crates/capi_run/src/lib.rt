@@ -1,22 +1,25 @@
 // Runs over the lent tables, as numbers.
 use rules::Counts;
+use rules::REPAIRS;
 use rules::Report;
 ghost use mathlib.Core.Path.{_≡_};
 ghost use Prim.Native.Nat.{_≤_};
 ghost use lib.ListN.{length};
 ghost use lib.Seq.{sets};
-ghost use Rattle.capi_run.specs.Runs.{countNumbers, reportNumbers, called};
+ghost use Rattle.capi_run.specs.Runs.{reportNumbers, called};
 
-// The numbers of a report.
-const REPORT_SIZE: usize = 9;
+// The numbers of a report: the steps, and the repairs of each class.
+const REPORT_SIZE: usize = 1 + REPAIRS;
 
 // Stores the repairs by class.
 fn put_counts(out: &mut [u64], c: Counts)
     requires { ⌜ 9 ≤ length (now out) ⌝ }
-    ensures { λ _. ⌜ now (out .exit) ≡ sets (now (out .entry)) 1 (countNumbers c) ⌝ }
+    ensures { λ _. ⌜ now (out .exit) ≡ sets (now (out .entry)) 1 (c .of) ⌝ }
 {
-    capi_out::put_four(out, 1, c.own, c.multiple, c.dangling, c.blank);
-    capi_out::put_four(out, 5, c.unmatched, c.owner, c.empty, c.orphan);
+    let of = c.of;
+    for i in 0..REPAIRS {
+        out[1 + i] = of[i];
+    }
 }
 
 // Stores the nine numbers of a report.
