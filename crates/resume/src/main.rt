@@ -59,8 +59,10 @@ fn print_position(name: &[u8], at: Position) {
 
 // The repairs of E8's two classes.
 fn print_repairs(report: Report) {
-    print_number(b"; DANGLING ", report.counts.dangling);
-    print_number(b", ORPHAN ", report.counts.orphan);
+    let counts = report.counts;
+    let of = counts.of;
+    print_number(b"; DANGLING ", of[2]);
+    print_number(b", ORPHAN ", of[7]);
 }
 
 // One call of at most so many steps, without reserve; where it leaves the position.

@@ -3,11 +3,12 @@ use Prim.Native.Nat.{ℕ, _+_}
 use native.Mathlib.Omega.{arith}
 use mathlib.Core.Path.{_≡_, refl, sym, ap, subst, _∙_}
 use mathlib.Core.Bool.{Bool, true, false, cond}
+use mathlib.Core.List.{List, [], _∷_}
 use Rattle.tables.specs.Records.{Tables}
 use Rattle.tables.specs.Positions.{isEnd, next}
 use Rattle.tables.specs.declared.Position.{Position}
 use Rattle.rules.specs.Steps.{stepAt}
-use Rattle.rules.specs.Runs.{counts, noCounts, countOf, addCounts, Run, halt, after, onStep, run}
+use Rattle.rules.specs.Runs.{repairNumber, sums, noCounts, countOf, addCounts, Run, halt, after, onStep, run}
 use Rattle.rules.specs.Repairs.{applyWrites}
 use Rattle.rules.specs.Settings.{Settings}
 use Rattle.rules.specs.Promises.{Distinct, CountedStep}
@@ -20,12 +21,16 @@ use Rattle.rules.specs.declared.Step.the-variants.{Rests as rests, Repai
 use Rattle.rules.proofs.Theorem.{Makes, Exists, step-makes, quiet-rests, quietAt}
 
 -- the repairs that counts tell
+total : List ℕ → ℕ
+total [] = 0
+total (n ∷ l) = n + total l
+
 sum : Counts → ℕ
-sum x = x .own + x .multiple + x .dangling + x .blank + x .unmatched + x .owner + x .empty + x .orphan
+sum x = total (x .of)
 
 -- every repair counts one
 counts-one : (c : Repair) → sum (addCounts (countOf c) noCounts) ≡ 1
-unfolding sum addCounts countOf noCounts counts
+unfolding sum total addCounts sums countOf noCounts repairNumber
 counts-one OfSelf = refl
 counts-one OfMultiple = refl
 counts-one OfDangling = refl
@@ -36,7 +41,7 @@ counts-one OfEmpty = refl
 counts-one OfOrphan = refl
 
 no-count : (c : Repair) → addCounts (countOf c) noCounts ≡ noCounts → ⊥
-unfolding sum noCounts counts
+unfolding sum total noCounts
 no-count c e = let k : sum noCounts ≡ 1 = sym (ap sum e) ∙ counts-one c in absurd (omega arith)
 
 -- a step that repairs leaves other tables
@@ -48,7 +53,7 @@ repair-changes settings T p sound there c a b e s same =
     let z : _≡_ {A = ℕ} 0 1 = cc in absurd (omega arith)
 
 pub counted-step : (settings : Settings) (T : Tables) (p : Position) → Distinct T → Exists T p → CountedStep settings T p
-unfolding run halt onStep after addCounts noCounts counts
+unfolding run halt onStep after addCounts sums noCounts
 counted-step settings T p sound there =
     record { uncounted = go (isEnd p) (stepAt settings T p) refl .0; unchanged = go (isEnd p) (stepAt settings T p) refl .1 }
   where
