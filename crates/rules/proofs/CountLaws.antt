@@ -17,7 +17,7 @@ use Rattle.rules.specs.declared.Repair.the-variants.{OfSelf, OfMultiple,
 use Rattle.rules.specs.declared.Counts.{Counts}
 use Rattle.rules.specs.Settings.{Settings}
 use Rattle.rules.specs.Steps.{stepAt}
-use Rattle.rules.specs.Runs.{repairNumber, repairKinds, noCounts, countOf, sums, addCounts, halt, after, onStep, run, Run}
+use Rattle.rules.specs.Runs.{repairNumber, repairKinds, noCounts, countOf, sums, addCounts, halt, after, onStep, run}
 
 -- ## Sums
 

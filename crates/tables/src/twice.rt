@@ -4,12 +4,10 @@ use super::rows::OBJECT_SIZE;
 use super::rows::PARENT_SIZE;
 use fid::Fid;
 ghost use mathlib.Core.Path.{_≡_};
-ghost use mathlib.Core.Bool.{_&&_};
 ghost use Prim.Native.Nat.{_-_, _*_, _/_, _≤_};
 ghost use lib.ListN.{length, drop};
 ghost use Rattle.wire.specs.Rows.{rows};
-ghost use Rattle.fid.specs.Fid.{sameFid};
-ghost use Rattle.tables.specs.Bytes.{isUsed, ownerAt, selfFid};
+ghost use Rattle.tables.specs.Bytes.{ownerAt};
 ghost use Rattle.tables.specs.Check.{hasSelf, noneTwice, allDifferent, isRowOf};
 
 // Whether a row is used and has this self FID. The object id comes first, in which most rows differ.

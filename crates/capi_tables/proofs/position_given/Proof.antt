@@ -14,6 +14,4 @@ unfolding place
 returns-2 c = given-three (now (c .before .before .before .before .args .position)) (c .before .before .before .if1 .left)
 
 pub position-given-spec : {M : Type 1} → statement M
-position-given-spec =
-    tie.close
-    (tie.spec returns (λ c. search needs) (λ c. search needs) (λ c. search needs) returns-2)
+position-given-spec = tie.close (tie.spec returns (λ c. search needs) (λ c. search needs) (λ c. search needs) returns-2)

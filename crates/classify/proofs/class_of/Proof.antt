@@ -26,13 +26,4 @@ returns-3 : tie.Need-returns-3
 returns-3 c = let a = c .before .before .before .before .before .before .before .before .args in at-slot (now (a .parents)) (now (a .objects)) (a .at) (omega arith) (a .at .part - 1) (omega arith) _ (c .slot-class .ensures)
 
 pub class-of-spec : {M : Type 1} → statement M
-class-of-spec =
-    tie.close
-    (tie.spec
-    object-class-requires
-    returns
-    header-class-requires
-    returns-2
-    (λ c. search needs)
-    slot-class-requires
-    returns-3)
+class-of-spec = tie.close (tie.spec object-class-requires returns header-class-requires returns-2 (λ c. search needs) slot-class-requires returns-3)

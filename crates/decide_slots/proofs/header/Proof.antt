@@ -18,6 +18,4 @@ returns-3 : tie.Need-returns-3
 returns-3 c = let d = c .before .before .before .before .before in let a = d .args in header-self (now (a .parents)) (now (a .objects)) (a .r) (d .pre .0) (d .pre .1) _ (c .before .before .header-class .ensures) (c .enum-told3 .given .1)
 
 pub header-spec : {M : Type 1} → statement M
-header-spec =
-    tie.close
-    (tie.spec header-class-requires (λ c. search needs) (λ c. search needs) (λ c. search needs) returns returns-2 returns-3)
+header-spec = tie.close (tie.spec header-class-requires (λ c. search needs) (λ c. search needs) (λ c. search needs) returns returns-2 returns-3)

@@ -24,13 +24,4 @@ returns-2 : tie.Need-returns-2
 returns-2 c = let d = c .before .before .before .before .before .before .before .before in let a = d .args in let v = c .before .before .slot .given in decides-same (now (a .parents)) (now (a .objects)) _ _ _ (c .named-slot .ensures) (step-names (now (a .parents)) (now (a .objects)) (settingsOf (a .policy) (now (a .reserve))) (a .r) (a .j) _ (c .before .before .before .before .slot-of .ensures) (v .0 .0) (v .0 .1 .0) (v .0 .1 .1 .0) (v .1))
 
 pub slot-spec : {M : Type 1} → statement M
-slot-spec =
-    tie.close
-    (tie.spec
-    slot-of-requires
-    (λ c. search needs)
-    (λ c. search needs)
-    cast-named-slot
-    named-slot-requires
-    returns
-    returns-2)
+slot-spec = tie.close (tie.spec slot-of-requires (λ c. search needs) (λ c. search needs) cast-named-slot named-slot-requires returns returns-2)

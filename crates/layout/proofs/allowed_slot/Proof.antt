@@ -21,5 +21,4 @@ returns-3 c =
     cc (allowed-index (c .before .before .before .before .before .args .holes) (v .0) (v .1 .0) (v .1 .1 .0) (sym (c .before .good-object .ensures) ∙ not-false _ (c .if1 .left)))
 
 pub allowed-slot-spec : {M : Type 1} → statement M
-allowed-slot-spec =
-    tie.close (tie.spec (λ c. search needs) (λ c. search needs) (λ c κs. search needs) returns returns-2 returns-3)
+allowed-slot-spec = tie.close (tie.spec (λ c. search needs) (λ c. search needs) (λ c κs. search needs) returns returns-2 returns-3)

@@ -17,22 +17,10 @@ abbrev μ-loop : tie.MeasureT-loop
 loop-holds : tie.Need-loop-holds Inv-loop μ-loop
 loop-holds c = (omega arith, allowed-start _ _ _)
 
-slot-at-requires : tie.Need-slot-at-requires Inv-loop μ-loop
-slot-at-requires c κs = omega arith
-
-allowed-slot-requires : tie.Need-allowed-slot-requires Inv-loop μ-loop
-allowed-slot-requires c κs = search needs
-
 returns : tie.Need-returns Inv-loop μ-loop
 returns c =
     let i = c .before .before .before .before .loop .inv in
     allowed-stop _ _ _ _ _ _ (i .1) (omega arith) (c .before .before .slot-at .ensures) (c .before .allowed-slot .ensures) (not-true _ (c .if1 .taken))
-
-add-j : tie.Need-add-j Inv-loop μ-loop
-add-j c = omega arith
-
-loop-less : tie.Need-loop-less Inv-loop μ-loop
-loop-less c = omega arith
 
 loop-again : tie.Need-loop-again Inv-loop μ-loop
 loop-again c =
@@ -45,14 +33,5 @@ returns-2 c = allowed-end _ _ _ _ (c .before .loop .inv .1) (omega arith)
 pub allowed-slots-spec : {M : Type 1} → statement M
 allowed-slots-spec =
     tie.close
-    (tie.spec
-    Inv-loop
-    μ-loop
-    loop-holds
-    slot-at-requires
-    allowed-slot-requires
-    returns
-    add-j
-    loop-less
-    loop-again
+    (tie.spec Inv-loop μ-loop loop-holds (λ c κs. omega arith) (λ c κs. search needs) returns (λ c. omega arith) (λ c. omega arith) loop-again
     returns-2)

@@ -12,5 +12,4 @@ returns-2 : tie.Need-returns-2
 returns-2 c = known-then _ _ (sym (c .before .before .known-version .ensures) ∙ not-false _ (c .before .if1 .left)) (c .known-pattern .ensures)
 
 pub known-header-spec : {M : Type 1} → statement M
-known-header-spec =
-    tie.close (tie.spec (λ c κs. search needs) returns (λ c κs. search needs) returns-2)
+known-header-spec = tie.close (tie.spec (λ c κs. search needs) returns (λ c κs. search needs) returns-2)

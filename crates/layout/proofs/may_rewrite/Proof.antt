@@ -15,12 +15,4 @@ returns-2 : tie.Need-returns-2
 returns-2 c = may-slot _ _ _ _ _ (sym (c .before .before .before .before .accepted .ensures) ∙ not-false _ (c .before .before .before .if1 .left)) (c .before .before .read-header .ensures) (c .before .with-holes .ensures) (c .allowed-slot .ensures)
 
 pub may-rewrite-spec : {M : Type 1} → statement M
-may-rewrite-spec =
-    tie.close
-    (tie.spec
-    (λ c κs. search needs)
-    returns
-    read-header-requires
-    (λ c κs. search needs)
-    (λ c κs. search needs)
-    returns-2)
+may-rewrite-spec = tie.close (tie.spec (λ c κs. search needs) returns read-header-requires (λ c κs. search needs) (λ c κs. search needs) returns-2)

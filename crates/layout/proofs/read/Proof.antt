@@ -19,6 +19,4 @@ returns-2 : tie.Need-returns-2
 returns-2 c = read-accepted _ _ _ (sym (c .before .before .before .accepted .ensures) ∙ not-false _ (c .before .before .if1 .left)) (c .before .read-header .ensures) (c .stripe-count .ensures)
 
 pub read-spec : {M : Type 1} → statement M
-read-spec =
-    tie.close
-    (tie.spec (λ c κs. search needs) returns read-header-requires stripe-count-requires returns-2)
+read-spec = tie.close (tie.spec (λ c κs. search needs) returns read-header-requires stripe-count-requires returns-2)

@@ -10,5 +10,4 @@ returns-2 : tie.Need-returns-2
 returns-2 c = let v = c .before .before .g .given .0 in given-test _ _ (v .0) _ (cc) (c .allowed-slot .ensures)
 
 pub allowed-given-spec : {M : Type 1} → statement M
-allowed-given-spec =
-    tie.close (tie.spec (λ c. search needs) (λ c. search needs) (λ c κs. search needs) returns returns-2)
+allowed-given-spec = tie.close (tie.spec (λ c. search needs) (λ c. search needs) (λ c κs. search needs) returns returns-2)

@@ -19,22 +19,10 @@ abbrev μ-loop : tie.MeasureT-loop
 loop-holds : tie.Need-loop-holds Inv-loop μ-loop
 loop-holds c = (omega arith, given-start _ _ _)
 
-given-at-requires : tie.Need-given-at-requires Inv-loop μ-loop
-given-at-requires c κs = omega arith
-
-allowed-given-requires : tie.Need-allowed-given-requires Inv-loop μ-loop
-allowed-given-requires c κs = search needs
-
 returns : tie.Need-returns Inv-loop μ-loop
 returns c =
     let i = c .before .before .before .before .loop .inv in
     given-stop _ _ _ _ _ _ (i .1) (omega arith) (c .before .before .given-at .ensures) (c .before .allowed-given .ensures) (not-true _ (c .if1 .taken))
-
-add-j : tie.Need-add-j Inv-loop μ-loop
-add-j c = omega arith
-
-loop-less : tie.Need-loop-less Inv-loop μ-loop
-loop-less c = omega arith
 
 loop-again : tie.Need-loop-again Inv-loop μ-loop
 loop-again c =
@@ -47,14 +35,5 @@ returns-2 c = given-end _ _ _ _ (c .before .loop .inv .1) (omega arith)
 pub allowed-numbers-spec : {M : Type 1} → statement M
 allowed-numbers-spec =
     tie.close
-    (tie.spec
-    Inv-loop
-    μ-loop
-    loop-holds
-    given-at-requires
-    allowed-given-requires
-    returns
-    add-j
-    loop-less
-    loop-again
+    (tie.spec Inv-loop μ-loop loop-holds (λ c κs. omega arith) (λ c κs. search needs) returns (λ c. omega arith) (λ c. omega arith) loop-again
     returns-2)

@@ -15,22 +15,10 @@ abbrev μ-loop : tie.MeasureT-loop
 loop-holds : tie.Need-loop-holds Inv-loop μ-loop
 loop-holds c = (omega arith, refl, pool-start _ _)
 
-shared-slice-read-b : tie.Need-shared-slice-read-b Inv-loop μ-loop
-shared-slice-read-b c = omega arith
-
-add-dest : tie.Need-add-dest Inv-loop μ-loop
-add-dest c = omega arith
-
 slice-write-dest : tie.Need-slice-write-dest Inv-loop μ-loop
 slice-write-dest c =
     let i = c .before .before .loop .inv in
     omega arith
-
-add-i : tie.Need-add-i Inv-loop μ-loop
-add-i c = omega arith
-
-loop-less : tie.Need-loop-less Inv-loop μ-loop
-loop-less c = omega arith
 
 loop-again : tie.Need-loop-again Inv-loop μ-loop
 loop-again c =
@@ -46,15 +34,5 @@ returns c = pool-end _ _ _ _ (c .before .loop .inv .2) (omega arith)
 pub write-pool-spec : {M : Type 1} → statement M
 write-pool-spec =
     tie.close
-    (tie.spec
-    Inv-loop
-    μ-loop
-    loop-holds
-    shared-slice-read-b
-    add-dest
-    slice-write-dest
-    add-i
-    loop-less
-    loop-again
-    same-length
-    returns)
+    (tie.spec Inv-loop μ-loop loop-holds (λ c. omega arith) (λ c. omega arith) slice-write-dest (λ c. omega arith) (λ c. omega arith) loop-again
+    same-length returns)

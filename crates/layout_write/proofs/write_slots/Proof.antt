@@ -16,32 +16,8 @@ abbrev μ-loop : tie.MeasureT-loop
 loop-holds : tie.Need-loop-holds Inv-loop μ-loop
 loop-holds c = (omega arith, refl, slots-start _ _ _)
 
-mul-a : tie.Need-mul-a Inv-loop μ-loop
-mul-a c = omega arith
-
-add-a : tie.Need-add-a Inv-loop μ-loop
-add-a c = omega arith
-
-add-e : tie.Need-add-e Inv-loop μ-loop
-add-e c = omega arith
-
-sub-put-given : tie.Need-sub-put-given Inv-loop μ-loop
-sub-put-given c = omega arith
-
-part-put-given-start : tie.Need-part-put-given-start Inv-loop μ-loop
-part-put-given-start c = search needs
-
-part-put-given-end : tie.Need-part-put-given-end Inv-loop μ-loop
-part-put-given-end c = omega arith
-
 put-given-requires : tie.Need-put-given-requires Inv-loop μ-loop
 put-given-requires c κs = (search needs, omega arith)
-
-add-j : tie.Need-add-j Inv-loop μ-loop
-add-j c = omega arith
-
-loop-less : tie.Need-loop-less Inv-loop μ-loop
-loop-less c = omega arith
 
 loop-again : tie.Need-loop-again Inv-loop μ-loop
 loop-again c =
@@ -58,19 +34,5 @@ returns c = slots-end _ _ _ _ _ _ (c .before .loop .inv .2) (omega arith) (omega
 pub write-slots-spec : {M : Type 1} → statement M
 write-slots-spec =
     tie.close
-    (tie.spec
-    Inv-loop
-    μ-loop
-    loop-holds
-    mul-a
-    add-a
-    add-e
-    sub-put-given
-    part-put-given-start
-    part-put-given-end
-    put-given-requires
-    add-j
-    loop-less
-    loop-again
-    same-length
-    returns)
+    (tie.spec Inv-loop μ-loop loop-holds (λ c. omega arith) (λ c. omega arith) (λ c. omega arith) (λ c. omega arith) (λ c. search needs)
+    (λ c. omega arith) put-given-requires (λ c. omega arith) (λ c. omega arith) loop-again same-length returns)

@@ -19,5 +19,4 @@ returns-3 : tie.Need-returns-3
 returns-3 c = let a = c .before .before .before .before .before .before .args in number-none (now (a .parents)) (now (a .objects)) (a .at) _ (c .before .before .before .check-tables .ensures) (c .before .before .if1 .left) (sym (c .before .is-position .ensures) ∙ not-false _ (c .if2 .left))
 
 pub number-spec : {M : Type 1} → statement M
-number-spec =
-    tie.close (tie.spec (λ c κs. search needs) returns is-position-requires returns-2 returns-3)
+number-spec = tie.close (tie.spec (λ c κs. search needs) returns is-position-requires returns-2 returns-3)

@@ -27,12 +27,6 @@ loop-holds c =
     let a = w .args in
     (omega arith, refl, w .pre .1, leaves-start (parse (now (a .parents)) (now (a .objects))) _ (a .at) (now (a .out)))
 
-is-end-requires : tie.Need-is-end-requires Inv-loop μ-loop
-is-end-requires c κs = search needs
-
-same-length : tie.Need-same-length Inv-loop μ-loop
-same-length c = search needs
-
 returns : tie.Need-returns Inv-loop μ-loop
 unfolding room toldPositions
 returns c =
@@ -44,20 +38,8 @@ class-of-requires : tie.Need-class-of-requires Inv-loop μ-loop
 class-of-requires c κs =
     (c .before .before .before .before .before .before .before .pre .0, c .before .before .before .loop .inv .2, sym (c .before .is-end .ensures) ∙ c .if1 .left)
 
-mul-put-class : tie.Need-mul-put-class Inv-loop μ-loop
-mul-put-class c = omega arith
-
-put-class-requires : tie.Need-put-class-requires Inv-loop μ-loop
-put-class-requires c κs = omega arith
-
 next-position-requires : tie.Need-next-position-requires Inv-loop μ-loop
 next-position-requires c κs = (c .before .before .before .before .before .before .before .before .before .before .before .before .pre .0, c .before .before .before .before .before .before .before .before .loop .inv .2)
-
-add-done : tie.Need-add-done Inv-loop μ-loop
-add-done c = omega arith
-
-loop-less : tie.Need-loop-less Inv-loop μ-loop
-loop-less c = omega arith
 
 loop-again : tie.Need-loop-again Inv-loop μ-loop
 loop-again c =
@@ -71,9 +53,6 @@ loop-again c =
       leaves-next T _ (a .at) (now (a .out)) (l .done) (l .position) (l .out) (l .inv .3) (omega arith) (sym (c .before .before .before .before .before .before .before .is-end .ensures) ∙ c .before .before .before .before .before .before .if1 .left) _ (c .before .before .before .before .before .class-of .ensures) _ (c .before .before .before .put-class .ensures) _ y,
     )
 
-same-length-2 : tie.Need-same-length-2 Inv-loop μ-loop
-same-length-2 c = search needs
-
 returns-2 : tie.Need-returns-2 Inv-loop μ-loop
 unfolding room toldPositions
 returns-2 c =
@@ -84,19 +63,5 @@ returns-2 c =
 pub tell-spec : {M : Type 1} → statement M
 tell-spec =
     tie.close
-    (tie.spec
-    Inv-loop
-    μ-loop
-    loop-holds
-    is-end-requires
-    same-length
-    returns
-    class-of-requires
-    mul-put-class
-    put-class-requires
-    next-position-requires
-    add-done
-    loop-less
-    loop-again
-    same-length-2
-    returns-2)
+    (tie.spec Inv-loop μ-loop loop-holds (λ c κs. search needs) (λ c. search needs) returns class-of-requires (λ c. omega arith) (λ c κs. omega arith)
+    next-position-requires (λ c. omega arith) (λ c. omega arith) loop-again (λ c. search needs) returns-2)

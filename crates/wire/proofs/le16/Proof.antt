@@ -24,14 +24,4 @@ returns : tie.Need-returns
 returns c = let a = c .before .before .args in le-two (now (a .s)) (a .at)
 
 pub le16-spec : {M : Type 1} → statement M
-le16-spec =
-    tie.close
-    (tie.spec
-    (λ c. search needs)
-    cast-lo
-    (λ c. search needs)
-    (λ c. search needs)
-    cast-hi
-    mul-result
-    add-result
-    returns)
+le16-spec = tie.close (tie.spec (λ c. search needs) cast-lo (λ c. search needs) (λ c. search needs) cast-hi mul-result add-result returns)

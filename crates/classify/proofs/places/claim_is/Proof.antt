@@ -21,6 +21,4 @@ returns-3 c =
     cc (claim-index (c .before .before .before .before .before .claim .given .0 .0) (placeAt (a .f) (a .i)) (sym (c .before .before .same-mdt .ensures) ∙ not-false _ (c .before .if1 .left)))
 
 pub claim-is-spec : {M : Type 1} → statement M
-claim-is-spec =
-    tie.close
-    (tie.spec (λ c. search needs) (λ c. search needs) (λ c κs. search needs) returns (λ c. search needs) returns-2 returns-3)
+claim-is-spec = tie.close (tie.spec (λ c. search needs) (λ c. search needs) (λ c κs. search needs) returns (λ c. search needs) returns-2 returns-3)

@@ -23,5 +23,4 @@ returns-3 c =
     slot-held (parse (now (a .parents)) (now (a .objects))) (a .place) (a .r) (a .j) (a .s) (v .0) (v .1 .0) (v .1 .1 .0) (c .before .before .before .s .given .1) _ (c .before .takeable .ensures) (c .if1 .left)
 
 pub slot-way-spec : {M : Type 1} → statement M
-slot-way-spec =
-    tie.close (tie.spec (λ c. search needs) (λ c. search needs) (λ c κs. search needs) returns returns-2 returns-3)
+slot-way-spec = tie.close (tie.spec (λ c. search needs) (λ c. search needs) (λ c κs. search needs) returns returns-2 returns-3)

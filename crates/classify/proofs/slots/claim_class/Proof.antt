@@ -27,6 +27,4 @@ returns-4 c =
     class-owner (placeAt (a .file) (a .j)) (a .owned) (a .claim) (c .before .before .before .before .claim .given .0 .0) (cc) (sym (c .before .before .claim-is .ensures) ∙ not-false _ (c .before .if1 .left)) (c .if2 .left)
 
 pub claim-class-spec : {M : Type 1} → statement M
-claim-class-spec =
-    tie.close
-    (tie.spec (λ c. search needs) (λ c. search needs) (λ c κs. search needs) returns returns-2 returns-3 returns-4)
+claim-class-spec = tie.close (tie.spec (λ c. search needs) (λ c. search needs) (λ c κs. search needs) returns returns-2 returns-3 returns-4)

@@ -21,5 +21,4 @@ returns : tie.Need-returns
 returns c = counted-is (c .before .before .args .c) (c .before .before .pre) (c .before .before .args .r) (c .before .repair-number .result) (c .before .repair-number .ensures)
 
 pub counted-spec : {M : Type 1} → statement M
-counted-spec =
-    tie.close (tie.spec (λ c κs. search needs) mul-of array-read-of add-of array-write-of returns)
+counted-spec = tie.close (tie.spec (λ c κs. search needs) mul-of array-read-of add-of array-write-of returns)

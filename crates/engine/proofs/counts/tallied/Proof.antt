@@ -20,6 +20,4 @@ unfolding tally
 returns-3 c = rest-is (c .before .before .args .c) (c .before .before .pre) (c .before .before .args .o) (ap tally (c .enum-told2 .given .1))
 
 pub tallied-spec : {M : Type 1} → statement M
-tallied-spec =
-    tie.close
-    (tie.spec (λ c. search needs) (λ c. search needs) (λ c κs. search needs) (λ c. search needs) returns returns-2 returns-3)
+tallied-spec = tie.close (tie.spec (λ c. search needs) (λ c. search needs) (λ c κs. search needs) (λ c. search needs) returns returns-2 returns-3)

@@ -26,12 +26,4 @@ returns-2 c =
     c .keeper-at .ensures ∙ ap (keeperBy (parse (now (a .parents)) []) (a .f)) (sym (c .before .before .claim .given .1))
 
 pub keeper-by-spec : {M : Type 1} → statement M
-keeper-by-spec =
-    tie.close
-    (tie.spec
-    (λ c. search needs)
-    (λ c κs. search needs)
-    (λ c. search needs)
-    (λ c κs. search needs)
-    returns
-    returns-2)
+keeper-by-spec = tie.close (tie.spec (λ c. search needs) (λ c κs. search needs) (λ c. search needs) (λ c κs. search needs) returns returns-2)

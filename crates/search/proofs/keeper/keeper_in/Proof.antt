@@ -11,6 +11,4 @@ returns-2 : tie.Need-returns-2
 returns-2 c = or-other _ _ _ (sym (c .before .enum-told .given .1) ∙ c .before .before .before .first-in .ensures) (c .first-naming .ensures)
 
 pub keeper-in-spec : {M : Type 1} → statement M
-keeper-in-spec =
-    tie.close
-    (tie.spec (λ c κs. search needs) (λ c. search needs) (λ c. search needs) (λ c κs. search needs) returns returns-2)
+keeper-in-spec = tie.close (tie.spec (λ c κs. search needs) (λ c. search needs) (λ c. search needs) (λ c κs. search needs) returns returns-2)

@@ -17,24 +17,12 @@ abbrev μ-loop : tie.MeasureT-loop
 loop-holds : tie.Need-loop-holds Inv-loop μ-loop
 loop-holds c = usable-start _ _
 
-row-at-requires : tie.Need-row-at-requires Inv-loop μ-loop
-row-at-requires c κs = omega arith
-
-read-fid-requires : tie.Need-read-fid-requires Inv-loop μ-loop
-read-fid-requires c κs = omega arith
-
 in-use-requires : tie.Need-in-use-requires Inv-loop μ-loop
 in-use-requires c κs = c .before .before .before .before .before .before .before .pre
 
 returns : tie.Need-returns Inv-loop μ-loop
 returns c =
     usable-takes _ _ _ _ _ _ _ (c .before .before .before .before .before .loop .inv) (omega arith) (c .before .before .before .row-at .ensures .0) (c .before .before .read-fid .ensures) (sym (c .before .in-use .ensures) ∙ not-true _ (c .if1 .taken))
-
-add-k : tie.Need-add-k Inv-loop μ-loop
-add-k c = omega arith
-
-loop-less : tie.Need-loop-less Inv-loop μ-loop
-loop-less c = omega arith
 
 loop-again : tie.Need-loop-again Inv-loop μ-loop
 loop-again c =
@@ -46,15 +34,5 @@ returns-2 c = usable-none _ _ _ _ _ (c .before .loop .inv) (omega arith)
 pub usable-spec : {M : Type 1} → statement M
 usable-spec =
     tie.close
-    (tie.spec
-    Inv-loop
-    μ-loop
-    loop-holds
-    row-at-requires
-    read-fid-requires
-    in-use-requires
-    returns
-    add-k
-    loop-less
-    loop-again
-    returns-2)
+    (tie.spec Inv-loop μ-loop loop-holds (λ c κs. omega arith) (λ c κs. omega arith) in-use-requires returns (λ c. omega arith) (λ c. omega arith)
+    loop-again returns-2)

@@ -23,9 +23,6 @@ Inv-loop parents f r area count j₀ j = slotFrom r (width (parse parents []) r)
 abbrev μ-loop : tie.MeasureT-loop
 μ-loop parents f r area count j₀ j = count - j
 
-row-at-requires : tie.Need-row-at-requires Inv-loop μ-loop
-row-at-requires c κs = omega arith
-
 slot-area-requires : tie.Need-slot-area-requires Inv-loop μ-loop
 slot-area-requires c κs = (c .row-at .ensures .1, layout-at (now (c .before .before .args .parents)) _ (c .before .before .args .r) (c .before .before .pre .0) (c .before .before .pre .1) (c .row-at .ensures .0))
 
@@ -38,22 +35,10 @@ area c = area-of _ _ _ (now (c .slot-area .result)) (c .before .before .before .
 loop-holds : tie.Need-loop-holds Inv-loop μ-loop
 loop-holds c = row-slots-start _ _ _ _ (area c) _
 
-slot-at-requires : tie.Need-slot-at-requires Inv-loop μ-loop
-slot-at-requires c κs = omega arith
-
-names-requires : tie.Need-names-requires Inv-loop μ-loop
-names-requires c κs = search needs
-
 returns : tie.Need-returns Inv-loop μ-loop
 returns c =
     slot-hit _ _ _ _ _ (c .before .before .before .before .loop .inv) (omega arith)
     (area-names _ _ _ _ (area (c .before .before .before .before .before)) _ _ _ _ (omega arith) (c .before .before .slot-at .ensures) (c .before .names .ensures) ∙ c .if1 .taken)
-
-add-j : tie.Need-add-j Inv-loop μ-loop
-add-j c = omega arith
-
-loop-less : tie.Need-loop-less Inv-loop μ-loop
-loop-less c = omega arith
 
 loop-again : tie.Need-loop-again Inv-loop μ-loop
 loop-again c =
@@ -66,16 +51,5 @@ returns-2 c = slot-none _ _ _ _ _ (c .before .loop .inv) (omega arith)
 pub first-in-spec : {M : Type 1} → statement M
 first-in-spec =
     tie.close
-    (tie.spec
-    Inv-loop
-    μ-loop
-    row-at-requires
-    slot-area-requires
-    loop-holds
-    slot-at-requires
-    names-requires
-    returns
-    add-j
-    loop-less
-    loop-again
-    returns-2)
+    (tie.spec Inv-loop μ-loop (λ c κs. omega arith) slot-area-requires loop-holds (λ c κs. omega arith) (λ c κs. search needs) returns
+    (λ c. omega arith) (λ c. omega arith) loop-again returns-2)

@@ -29,5 +29,4 @@ returns-2 : tie.Need-returns-2
 returns-2 c = area-slot _ _ _ _ (area (c .before .before)) _ _ (omega arith) (c .slot-at .ensures)
 
 pub slot-of-spec : {M : Type 1} → statement M
-slot-of-spec =
-    tie.close (tie.spec (λ c κs. search needs) slot-area-requires returns (λ c κs. search needs) returns-2)
+slot-of-spec = tie.close (tie.spec (λ c κs. search needs) slot-area-requires returns (λ c κs. search needs) returns-2)

@@ -28,12 +28,5 @@ returns c = let d = c .before .before .before .before .before .before .before .b
 pub put-own-spec : {M : Type 1} → statement M
 put-own-spec =
     tie.close
-    (tie.spec
-    self-of-requires
-    layout-of-requires
-    read-header-requires
-    stripe-count-requires
-    (λ c κs. search needs)
-    put-header-requires
-    (λ c. search needs)
-    returns)
+    (tie.spec self-of-requires layout-of-requires read-header-requires stripe-count-requires (λ c κs. search needs) put-header-requires
+    (λ c. search needs) returns)

@@ -16,5 +16,4 @@ returns-2 c =
     ap not (c .is-zero .ensures) ∙ fresh-is (now (a .row)) (omega arith) _ (c .before .read-fid .ensures)
 
 pub fresh-claims-spec : {M : Type 1} → statement M
-fresh-claims-spec =
-    tie.close (tie.spec (λ c. search needs) returns (λ c κs. search needs) (λ c κs. search needs) returns-2)
+fresh-claims-spec = tie.close (tie.spec (λ c. search needs) returns (λ c κs. search needs) (λ c κs. search needs) returns-2)

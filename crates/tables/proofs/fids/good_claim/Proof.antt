@@ -16,6 +16,4 @@ returns-2 c =
     c .is-good-number .ensures ∙ claim-number (now (a .row)) _ (c .before .before .before .read-fid .ensures) (sym (c .before .before .is-zero .ensures) ∙ c .before .if1 .left)
 
 pub good-claim-spec : {M : Type 1} → statement M
-good-claim-spec =
-    tie.close
-    (tie.spec (λ c κs. search needs) (λ c κs. search needs) returns (λ c κs. search needs) returns-2)
+good-claim-spec = tie.close (tie.spec (λ c κs. search needs) (λ c κs. search needs) returns (λ c κs. search needs) returns-2)

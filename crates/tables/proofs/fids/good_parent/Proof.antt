@@ -15,5 +15,4 @@ unfolding goodSelf
 returns-2 c = c .is-good .ensures ∙ ap goodFid (c .before .self-fid .ensures) ∙ when-used goodSelf _ (sym (c .before .before .before .is-used .ensures) ∙ not-false _ (c .before .before .if1 .left))
 
 pub good-parent-spec : {M : Type 1} → statement M
-good-parent-spec =
-    tie.close (tie.spec (λ c κs. search needs) returns (λ c κs. search needs) (λ c κs. search needs) returns-2)
+good-parent-spec = tie.close (tie.spec (λ c κs. search needs) returns (λ c κs. search needs) (λ c κs. search needs) returns-2)

@@ -18,23 +18,11 @@ loop-holds : tie.Need-loop-holds Inv-loop μ-loop
 unfolding parentRows
 loop-holds c = (omega arith, all-start (whenUsed goodSelf) parentSize _ _)
 
-row-at-requires : tie.Need-row-at-requires Inv-loop μ-loop
-row-at-requires c κs = omega arith
-
-good-parent-requires : tie.Need-good-parent-requires Inv-loop μ-loop
-good-parent-requires c κs = omega arith
-
 returns : tie.Need-returns Inv-loop μ-loop
 returns c =
     let d = c .before .before in
     let i = d .before .before .loop .inv in
     all-fail (whenUsed goodSelf) parentSize _ _ _ _ _ (i .1) (omega arith) (d .row-at .ensures .0) (sym (c .before .good-parent .ensures) ∙ not-true _ (c .if1 .taken))
-
-add-r : tie.Need-add-r Inv-loop μ-loop
-add-r c = omega arith
-
-loop-less : tie.Need-loop-less Inv-loop μ-loop
-loop-less c = omega arith
 
 loop-again : tie.Need-loop-again Inv-loop μ-loop
 loop-again c =
@@ -48,14 +36,5 @@ returns-2 c = all-end (whenUsed goodSelf) parentSize _ _ _ _ (c .before .loop .i
 pub good-parents-spec : {M : Type 1} → statement M
 good-parents-spec =
     tie.close
-    (tie.spec
-    Inv-loop
-    μ-loop
-    loop-holds
-    row-at-requires
-    good-parent-requires
-    returns
-    add-r
-    loop-less
-    loop-again
+    (tie.spec Inv-loop μ-loop loop-holds (λ c κs. omega arith) (λ c κs. omega arith) returns (λ c. omega arith) (λ c. omega arith) loop-again
     returns-2)

@@ -19,15 +19,6 @@ loop-holds : tie.Need-loop-holds Inv-loop μ-loop
 unfolding reserveEntries
 loop-holds c = (omega arith, all-start (goodEntry) entrySize _ _)
 
-row-at-requires : tie.Need-row-at-requires Inv-loop μ-loop
-row-at-requires c κs = omega arith
-
-read-fid-requires : tie.Need-read-fid-requires Inv-loop μ-loop
-read-fid-requires c κs = omega arith
-
-is-good-requires : tie.Need-is-good-requires Inv-loop μ-loop
-is-good-requires c κs = omega arith
-
 returns : tie.Need-returns Inv-loop μ-loop
 unfolding goodEntry
 returns c =
@@ -35,12 +26,6 @@ returns c =
     let i = d .before .before .loop .inv in
     all-fail goodEntry entrySize _ _ _ _ _ (i .1) (omega arith) (d .row-at .ensures .0)
     (ap goodFid (sym (c .before .before .read-fid .ensures)) ∙ sym (c .before .is-good .ensures) ∙ not-true _ (c .if1 .taken))
-
-add-r : tie.Need-add-r Inv-loop μ-loop
-add-r c = omega arith
-
-loop-less : tie.Need-loop-less Inv-loop μ-loop
-loop-less c = omega arith
 
 loop-again : tie.Need-loop-again Inv-loop μ-loop
 unfolding goodEntry
@@ -58,15 +43,5 @@ returns-2 c = all-end (goodEntry) entrySize _ _ _ _ (c .before .loop .inv .1) (o
 pub good-reserve-spec : {M : Type 1} → statement M
 good-reserve-spec =
     tie.close
-    (tie.spec
-    Inv-loop
-    μ-loop
-    loop-holds
-    row-at-requires
-    read-fid-requires
-    is-good-requires
-    returns
-    add-r
-    loop-less
-    loop-again
-    returns-2)
+    (tie.spec Inv-loop μ-loop loop-holds (λ c κs. omega arith) (λ c κs. omega arith) (λ c κs. omega arith) returns (λ c. omega arith)
+    (λ c. omega arith) loop-again returns-2)

@@ -13,5 +13,4 @@ returns : tie.Need-returns
 returns c = let a = c .before .before .before .before .args in count-is (now (a .parents)) (now (a .objects)) _ _ (c .before .row-steps .ensures) (c .object-count .ensures)
 
 pub count-steps-spec : {M : Type 1} → statement M
-count-steps-spec =
-    tie.close (tie.spec row-steps-requires (λ c. omega arith) (λ c κs. search needs) (λ c. omega arith) returns)
+count-steps-spec = tie.close (tie.spec row-steps-requires (λ c. omega arith) (λ c κs. search needs) (λ c. omega arith) returns)

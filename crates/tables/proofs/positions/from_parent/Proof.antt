@@ -15,5 +15,4 @@ unfolding place
 returns-2 c = let a = c .before .before .before .before .args in parent-is (now (a .parents)) (now (a .objects)) (a .r) (omega arith)
 
 pub from-parent-spec : {M : Type 1} → statement M
-from-parent-spec =
-    tie.close (tie.spec (λ c κs. search needs) (λ c κs. search needs) returns returns-2)
+from-parent-spec = tie.close (tie.spec (λ c κs. search needs) (λ c κs. search needs) returns returns-2)

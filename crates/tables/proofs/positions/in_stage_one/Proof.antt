@@ -13,5 +13,4 @@ returns-2 : tie.Need-returns-2
 returns-2 c = let a = c .before .before .before .before .args in one-part (now (a .parents)) [] (a .row) (a .part) (omega arith) _ (c .width .ensures)
 
 pub in-stage-one-spec : {M : Type 1} → statement M
-in-stage-one-spec =
-    tie.close (tie.spec (λ c κs. search needs) returns (λ c κs. search needs) (λ c. search needs) returns-2)
+in-stage-one-spec = tie.close (tie.spec (λ c κs. search needs) returns (λ c κs. search needs) (λ c. search needs) returns-2)

@@ -29,12 +29,4 @@ returns-3 c =
     c .is-end .ensures ∙ position-end (parse (now (a .parents)) (now (a .objects))) (a .at) (λ e. omega arith) (λ e. omega arith)
 
 pub is-position-spec : {M : Type 1} → statement M
-is-position-spec =
-    tie.close
-    (tie.spec
-    in-stage-one-requires
-    returns
-    (λ c κs. search needs)
-    returns-2
-    (λ c κs. search needs)
-    returns-3)
+is-position-spec = tie.close (tie.spec in-stage-one-requires returns (λ c κs. search needs) returns-2 (λ c κs. search needs) returns-3)

@@ -19,26 +19,8 @@ abbrev μ-loop : tie.MeasureT-loop
 loop-holds : tie.Need-loop-holds Inv-loop μ-loop
 loop-holds c = (omega arith, omega arith, steps-start _)
 
-add-steps : tie.Need-add-steps Inv-loop μ-loop
-add-steps c = omega arith
-
-row-at-requires : tie.Need-row-at-requires Inv-loop μ-loop
-row-at-requires c κs = omega arith
-
 row-width-requires : tie.Need-row-width-requires Inv-loop μ-loop
 row-width-requires c κs = let d = c .before .before .before .before in (c .row-at .ensures .1, layout-at (now (d .args .parents)) _ (c .before .before .loop .r) (d .pre .0) (omega arith) (c .row-at .ensures .0))
-
-cast-steps : tie.Need-cast-steps Inv-loop μ-loop
-cast-steps c = omega arith
-
-add-steps-2 : tie.Need-add-steps-2 Inv-loop μ-loop
-add-steps-2 c = omega arith
-
-add-r : tie.Need-add-r Inv-loop μ-loop
-add-r c = omega arith
-
-loop-less : tie.Need-loop-less Inv-loop μ-loop
-loop-less c = omega arith
 
 loop-again : tie.Need-loop-again Inv-loop μ-loop
 loop-again c =
@@ -51,16 +33,5 @@ returns c = steps-end _ _ _ _ _ (c .before .loop .inv .2) (omega arith)
 pub row-steps-spec : {M : Type 1} → statement M
 row-steps-spec =
     tie.close
-    (tie.spec
-    Inv-loop
-    μ-loop
-    loop-holds
-    add-steps
-    row-at-requires
-    row-width-requires
-    cast-steps
-    add-steps-2
-    add-r
-    loop-less
-    loop-again
-    returns)
+    (tie.spec Inv-loop μ-loop loop-holds (λ c. omega arith) (λ c κs. omega arith) row-width-requires (λ c. omega arith) (λ c. omega arith)
+    (λ c. omega arith) (λ c. omega arith) loop-again returns)

@@ -27,5 +27,4 @@ returns-2 c =
     ∙ slots-used (now (c .before .before .before .before .before .args .row)) (sym (c .before .before .before .is-used .ensures) ∙ not-false _ (c .before .before .if1 .left))
 
 pub row-width-spec : {M : Type 1} → statement M
-row-width-spec =
-    tie.close (tie.spec (λ c κs. search needs) returns layout-of-requires stripe-count-requires returns-2)
+row-width-spec = tie.close (tie.spec (λ c κs. search needs) returns layout-of-requires stripe-count-requires returns-2)

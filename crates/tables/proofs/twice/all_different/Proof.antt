@@ -15,5 +15,4 @@ unfolding parentRows objectRows
 returns-2 c = c .none-twice2 .ensures ∙ objects-twice _ _ (sym (c .before .before .none-twice .ensures) ∙ not-false _ (c .before .if1 .left))
 
 pub all-different-spec : {M : Type 1} → statement M
-all-different-spec =
-    tie.close (tie.spec (λ c κs. search needs) returns (λ c κs. search needs) returns-2)
+all-different-spec = tie.close (tie.spec (λ c κs. search needs) returns (λ c κs. search needs) returns-2)

@@ -15,17 +15,11 @@ Inv-loop table size from f n r₀ r = hasFrom f size table n from ≡ hasFrom f 
 abbrev μ-loop : tie.MeasureT-loop
 μ-loop table size from f n r₀ r = n - r
 
-div-n : tie.Need-div-n Inv-loop μ-loop
-div-n c = omega arith
-
 loop-holds : tie.Need-loop-holds Inv-loop μ-loop
 loop-holds c = refl
 
 row-at-requires : tie.Need-row-at-requires Inv-loop μ-loop
 row-at-requires c κs = let a = c .before .before .before .args in row-fits (a .size) _ (length (now (a .table))) (omega arith) (omega arith)
-
-has-fid-requires : tie.Need-has-fid-requires Inv-loop μ-loop
-has-fid-requires c κs = omega arith
 
 returns : tie.Need-returns Inv-loop μ-loop
 returns c =
@@ -34,9 +28,6 @@ returns c =
 
 add-r : tie.Need-add-r Inv-loop μ-loop
 add-r c = let a = c .before .before .before .before .before .before .args in omega (arith, div-le-self (length (now (a .table))) (a .size))
-
-loop-less : tie.Need-loop-less Inv-loop μ-loop
-loop-less c = omega arith
 
 loop-again : tie.Need-loop-again Inv-loop μ-loop
 loop-again c =
@@ -49,15 +40,5 @@ returns-2 c = has-none _ _ _ _ _ _ (c .before .loop .inv) (omega arith) ∙ has-
 pub has-self-spec : {M : Type 1} → statement M
 has-self-spec =
     tie.close
-    (tie.spec
-    Inv-loop
-    μ-loop
-    div-n
-    loop-holds
-    row-at-requires
-    has-fid-requires
-    returns
-    add-r
-    loop-less
-    loop-again
+    (tie.spec Inv-loop μ-loop (λ c. omega arith) loop-holds row-at-requires (λ c κs. omega arith) returns add-r (λ c. omega arith) loop-again
     returns-2)

@@ -18,26 +18,14 @@ Inv-loop table size n r₀ r = (r ≤ n) × (noneTwice (rows size n table) ≡ n
 abbrev μ-loop : tie.MeasureT-loop
 μ-loop table size n r₀ r = n - r
 
-div-n : tie.Need-div-n Inv-loop μ-loop
-div-n c = omega arith
-
 loop-holds : tie.Need-loop-holds Inv-loop μ-loop
 loop-holds c = (omega arith, none-start _ _ _)
 
 row-at-requires : tie.Need-row-at-requires Inv-loop μ-loop
 row-at-requires c κs = let a = c .before .before .before .args in row-fits (a .size) _ (length (now (a .table))) (omega arith) (omega arith)
 
-is-used-requires : tie.Need-is-used-requires Inv-loop μ-loop
-is-used-requires c κs = omega arith
-
 add-has-self : tie.Need-add-has-self Inv-loop μ-loop
 add-has-self c = let a = c .before .before .before .before .before .before .args in omega (arith, div-le-self (length (now (a .table))) (a .size))
-
-self-fid-requires : tie.Need-self-fid-requires Inv-loop μ-loop
-self-fid-requires c κs = omega arith
-
-has-self-requires : tie.Need-has-self-requires Inv-loop μ-loop
-has-self-requires c κs = omega arith
 
 returns : tie.Need-returns Inv-loop μ-loop
 returns c =
@@ -47,9 +35,6 @@ returns c =
 
 add-r : tie.Need-add-r Inv-loop μ-loop
 add-r c = let a = c .before .before .before .before .before .before .args in omega (arith, div-le-self (length (now (a .table))) (a .size))
-
-loop-less : tie.Need-loop-less Inv-loop μ-loop
-loop-less c = omega arith
 
 loop-again : tie.Need-loop-again Inv-loop μ-loop
 loop-again c =
@@ -70,18 +55,5 @@ returns-2 c = none-end _ _ _ _ _ (c .before .loop .inv .1) (omega arith)
 pub none-twice-spec : {M : Type 1} → statement M
 none-twice-spec =
     tie.close
-    (tie.spec
-    Inv-loop
-    μ-loop
-    div-n
-    loop-holds
-    row-at-requires
-    is-used-requires
-    add-has-self
-    self-fid-requires
-    has-self-requires
-    returns
-    add-r
-    loop-less
-    loop-again
-    returns-2)
+    (tie.spec Inv-loop μ-loop (λ c. omega arith) loop-holds row-at-requires (λ c κs. omega arith) add-has-self (λ c κs. omega arith)
+    (λ c κs. omega arith) returns add-r (λ c. omega arith) loop-again returns-2)

@@ -14,5 +14,4 @@ returns-2 : tie.Need-returns-2
 returns-2 c = let a = c .before .before .before .before .before .args in c .objects-whole .ensures ∙ first-on (parentsWhole (now (a .parents))) (objectsWhole (now (a .objects))) (sym (c .before .before .parents-whole .ensures) ∙ not-false _ (c .before .if1 .left))
 
 pub both-whole-spec : {M : Type 1} → statement M
-both-whole-spec =
-    tie.close (tie.spec (λ c κs. search needs) returns (λ c κs. search needs) returns-2)
+both-whole-spec = tie.close (tie.spec (λ c κs. search needs) returns (λ c κs. search needs) returns-2)

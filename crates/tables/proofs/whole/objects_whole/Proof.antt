@@ -18,12 +18,4 @@ unfolding objectRows
 returns-3 c = c .fresh-marks .ensures ∙ objects-fresh _ (sym (c .before .before .before .before .whole-rows .ensures) ∙ not-false _ (c .before .before .before .if1 .left)) (sym (c .before .before .used-marks .ensures) ∙ not-false _ (c .before .if2 .left))
 
 pub objects-whole-spec : {M : Type 1} → statement M
-objects-whole-spec =
-    tie.close
-    (tie.spec
-    (λ c κs. search needs)
-    returns
-    (λ c κs. search needs)
-    returns-2
-    (λ c κs. search needs)
-    returns-3)
+objects-whole-spec = tie.close (tie.spec (λ c κs. search needs) returns (λ c κs. search needs) returns-2 (λ c κs. search needs) returns-3)

@@ -17,17 +17,11 @@ Inv-loop table size n r₀ r = (r ≤ n) × (all usedMark (rows size n table) �
 abbrev μ-loop : tie.MeasureT-loop
 μ-loop table size n r₀ r = n - r
 
-div-n : tie.Need-div-n Inv-loop μ-loop
-div-n c = omega arith
-
 loop-holds : tie.Need-loop-holds Inv-loop μ-loop
 loop-holds c = (omega arith, all-start usedMark _ _ _)
 
 row-at-requires : tie.Need-row-at-requires Inv-loop μ-loop
 row-at-requires c κs = let a = c .before .before .before .args in row-fits (a .size) _ (length (now (a .table))) (omega arith) (omega arith)
-
-shared-slice-read-if1 : tie.Need-shared-slice-read-if1 Inv-loop μ-loop
-shared-slice-read-if1 c = omega arith
 
 returns : tie.Need-returns Inv-loop μ-loop
 returns c =
@@ -36,9 +30,6 @@ returns c =
 
 add-r : tie.Need-add-r Inv-loop μ-loop
 add-r c = let a = c .before .before .before .before .before .before .args in omega (arith, div-le-self (length (now (a .table))) (a .size))
-
-loop-less : tie.Need-loop-less Inv-loop μ-loop
-loop-less c = omega arith
 
 loop-again : tie.Need-loop-again Inv-loop μ-loop
 loop-again c =
@@ -51,15 +42,4 @@ returns-2 c = all-end usedMark _ _ _ _ _ (c .before .loop .inv .1) (omega arith)
 pub used-marks-spec : {M : Type 1} → statement M
 used-marks-spec =
     tie.close
-    (tie.spec
-    Inv-loop
-    μ-loop
-    div-n
-    loop-holds
-    row-at-requires
-    shared-slice-read-if1
-    returns
-    add-r
-    loop-less
-    loop-again
-    returns-2)
+    (tie.spec Inv-loop μ-loop (λ c. omega arith) loop-holds row-at-requires (λ c. omega arith) returns add-r (λ c. omega arith) loop-again returns-2)
