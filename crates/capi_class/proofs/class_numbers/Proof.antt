@@ -18,6 +18,5 @@ returns-3 c = c .object-numbers .ensures ∙ ap classNumbers (sym (c .before .be
 
 pub class-numbers-spec : {M : Type 1} → statement M
 class-numbers-spec =
-    tie.close
-    (tie.spec (λ c. search needs) (λ c κs. search needs) (λ c. search needs) (λ c κs. search needs) (λ c. search needs) (λ c κs. search needs) returns
-    returns-2 returns-3)
+    tie.close (tie.spec (λ c. search needs) (λ c κs. search needs) (λ c. search needs) (λ c κs. search needs) (λ c. search needs)
+    (λ c κs. search needs) returns returns-2 returns-3)

@@ -18,6 +18,5 @@ returns-3 c = c .bare3 .ensures ∙ ap headerNumbers (sym (c .before .enum-told3
 
 pub header-numbers-spec : {M : Type 1} → statement M
 header-numbers-spec =
-    tie.close
-    (tie.spec (λ c. search needs) (λ c κs. search needs) (λ c. search needs) (λ c κs. search needs) (λ c. search needs) (λ c κs. search needs) returns
-    returns-2 returns-3)
+    tie.close (tie.spec (λ c. search needs) (λ c κs. search needs) (λ c. search needs) (λ c κs. search needs) (λ c. search needs)
+    (λ c κs. search needs) returns returns-2 returns-3)

@@ -18,6 +18,5 @@ returns-4 c = let v = c .before .before .before .before .before .before .read .g
 
 pub layout-slot-spec : {M : Type 1} → statement M
 layout-slot-spec =
-    tie.close
-    (tie.spec (λ c κs. search needs) (λ c. search needs) (λ c. search needs) (λ c. search needs) returns (λ c κs. search needs) returns-2 returns-3
-    (λ c. search needs) returns-4)
+    tie.close (tie.spec (λ c κs. search needs) (λ c. search needs) (λ c. search needs) (λ c. search needs) returns (λ c κs. search needs) returns-2
+    returns-3 (λ c. search needs) returns-4)

@@ -23,6 +23,5 @@ returns-5 c = fit-generation _ (omega arith) (sym (c .before .before .before .be
 
 pub fields-fit-spec : {M : Type 1} → statement M
 fields-fit-spec =
-    tie.close
-    (tie.spec returns (λ c. search needs) (λ c κs. search needs) returns-2 (λ c. search needs) returns-3 (λ c. search needs) returns-4
+    tie.close (tie.spec returns (λ c. search needs) (λ c κs. search needs) returns-2 (λ c. search needs) returns-3 (λ c. search needs) returns-4
     (λ c. search needs) returns-5)

@@ -41,6 +41,5 @@ returns-2 c = header-is _ _ (sym (c .before .before .before .before .before .bef
 
 pub given-header-spec : {M : Type 1} → statement M
 given-header-spec =
-    tie.close
-    (tie.spec (λ c κs. search needs) returns shared-slice-read-magic-of (λ c κs. search needs) shared-slice-read-t8 cast-t9 shared-slice-read-t11
-    shared-slice-read-t13 shared-slice-read-t15 cast-t16 shared-slice-read-t18 cast-t19 returns-2)
+    tie.close (tie.spec (λ c κs. search needs) returns shared-slice-read-magic-of (λ c κs. search needs) shared-slice-read-t8 cast-t9
+    shared-slice-read-t11 shared-slice-read-t13 shared-slice-read-t15 cast-t16 shared-slice-read-t18 cast-t19 returns-2)

@@ -17,6 +17,5 @@ returns-2 c = let v = c .before .before .before .before .before .before .before 
 
 pub layout-write-spec : {M : Type 1} → statement M
 layout-write-spec =
-    tie.close
-    (tie.spec (λ c κs. search needs) (λ c. search needs) (λ c. search needs) shared-slice-read-write-given (λ c κs. search needs) returns
+    tie.close (tie.spec (λ c κs. search needs) (λ c. search needs) (λ c. search needs) shared-slice-read-write-given (λ c κs. search needs) returns
     (λ c. search needs) (λ c. search needs) returns-2)

@@ -22,6 +22,5 @@ returns-5 c = write-done _ _ _ _ _ _ (c .before .before .before .before .before 
 
 pub write-given-spec : {M : Type 1} → statement M
 write-given-spec =
-    tie.close
-    (tie.spec (λ c κs. search needs) returns returns-2 (λ c κs. search needs) (λ c. search needs) (λ c. search needs) (λ c. search needs)
+    tie.close (tie.spec (λ c κs. search needs) returns returns-2 (λ c κs. search needs) (λ c. search needs) (λ c. search needs) (λ c. search needs)
     (λ c κs. search needs) (λ c. search needs) returns-3 (λ c. search needs) returns-4 (λ c. search needs) (λ c. search needs) returns-5)

@@ -26,5 +26,4 @@ returns-4 c = let a = c .before .before .before .before .before .before .before 
 
 pub class-at-spec : {M : Type 1} → statement M
 class-at-spec =
-    tie.close
-    (tie.spec (λ c κs. search needs) returns is-position-requires returns-2 (λ c κs. search needs) returns-3 class-of-requires returns-4)
+    tie.close (tie.spec (λ c κs. search needs) returns is-position-requires returns-2 (λ c κs. search needs) returns-3 class-of-requires returns-4)

@@ -13,5 +13,4 @@ returns-2 c = let a = c .before .before .before .before .before .before .before 
 
 pub adopt-spec : {M : Type 1} → statement M
 adopt-spec =
-    tie.close
-    (tie.spec (λ c κs. search needs) (λ c κs. search needs) (λ c. search needs) (λ c. search needs) (λ c κs. search needs) returns returns-2)
+    tie.close (tie.spec (λ c κs. search needs) (λ c κs. search needs) (λ c. search needs) (λ c. search needs) (λ c κs. search needs) returns returns-2)

@@ -44,8 +44,7 @@ returns-5 c = let d = c .before .before .before .before .before .before .before 
 
 pub adopt-by-spec : {M : Type 1} → statement M
 adopt-by-spec =
-    tie.close
-    (tie.spec way-requires (λ c. search needs) (λ c. search needs) (λ c. search needs) adopt-new-requires (λ c. search needs) (λ c κs. search needs)
-    file-owner-requires (λ c κs. search needs) (λ c. search needs) (λ c κs. search needs) file-owner-requires-2 (λ c κs. search needs)
-    (λ c. search needs) (λ c κs. search needs) file-owner-requires-3 (λ c κs. search needs) slot-of-requires (λ c κs. search needs) returns returns-2
-    returns-3 returns-4 returns-5)
+    tie.close (tie.spec way-requires (λ c. search needs) (λ c. search needs) (λ c. search needs) adopt-new-requires (λ c. search needs)
+    (λ c κs. search needs) file-owner-requires (λ c κs. search needs) (λ c. search needs) (λ c κs. search needs) file-owner-requires-2
+    (λ c κs. search needs) (λ c. search needs) (λ c κs. search needs) file-owner-requires-3 (λ c κs. search needs) slot-of-requires
+    (λ c κs. search needs) returns returns-2 returns-3 returns-4 returns-5)

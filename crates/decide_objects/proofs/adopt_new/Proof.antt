@@ -13,5 +13,4 @@ returns-2 c = let d = c .before .before .before .before .before .before .before 
 
 pub adopt-new-spec : {M : Type 1} → statement M
 adopt-new-spec =
-    tie.close
-    (tie.spec (λ c κs. search needs) (λ c. search needs) (λ c. search needs) (λ c κs. search needs) (λ c. search needs) returns returns-2)
+    tie.close (tie.spec (λ c κs. search needs) (λ c. search needs) (λ c. search needs) (λ c κs. search needs) (λ c. search needs) returns returns-2)

@@ -14,5 +14,5 @@ returns-3 c = let v = c .before .before .before .before .before .s .given in let
 
 pub drop-named-spec : {M : Type 1} → statement M
 drop-named-spec =
-    tie.close
-    (tie.spec (λ c. search needs) (λ c. search needs) (λ c κs. search needs) (λ c. search needs) (λ c. search needs) returns returns-2 returns-3)
+    tie.close (tie.spec (λ c. search needs) (λ c. search needs) (λ c κs. search needs) (λ c. search needs) (λ c. search needs) returns returns-2
+    returns-3)

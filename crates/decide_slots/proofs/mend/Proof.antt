@@ -19,6 +19,5 @@ returns-2 c = let a = c .before .before .before .before .before .before .before 
 
 pub mend-spec : {M : Type 1} → statement M
 mend-spec =
-    tie.close
-    (tie.spec (λ c κs. search needs) (λ c. search needs) (λ c. search needs) row-at-requires (λ c κs. search needs) (λ c κs. search needs) returns
-    returns-2)
+    tie.close (tie.spec (λ c κs. search needs) (λ c. search needs) (λ c. search needs) row-at-requires (λ c κs. search needs) (λ c κs. search needs)
+    returns returns-2)

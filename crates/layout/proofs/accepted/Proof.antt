@@ -46,6 +46,6 @@ returns-4 c =
 
 pub accepted-spec : {M : Type 1} → statement M
 accepted-spec =
-    tie.close
-    (tie.spec (λ c κs. search needs) returns read-header-requires (λ c κs. search needs) returns-2 stripe-count-requires (λ c. search needs) returns-3
-    slot-start-requires sub-allowed-slots part-allowed-slots-start (λ c. search needs) (λ c κs. search needs) allowed-slots-requires returns-4)
+    tie.close (tie.spec (λ c κs. search needs) returns read-header-requires (λ c κs. search needs) returns-2 stripe-count-requires (λ c. search needs)
+    returns-3 slot-start-requires sub-allowed-slots part-allowed-slots-start (λ c. search needs) (λ c κs. search needs) allowed-slots-requires
+    returns-4)

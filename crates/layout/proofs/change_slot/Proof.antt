@@ -47,6 +47,5 @@ returns c =
 
 pub change-slot-spec : {M : Type 1} → statement M
 change-slot-spec =
-    tie.close
-    (tie.spec slot-start-requires mul-a add-a add-e (λ c. search needs) (λ c. search needs) part-put-slot-end (λ c κs. search needs)
+    tie.close (tie.spec slot-start-requires mul-a add-a add-e (λ c. search needs) (λ c. search needs) part-put-slot-end (λ c κs. search needs)
     (λ c. search needs) returns)

@@ -15,5 +15,4 @@ returns-2 c = exact-is _ _ _ (c .before .slot-start .ensures) (c .stripe-count .
 
 pub exact-length-spec : {M : Type 1} → statement M
 exact-length-spec =
-    tie.close
-    (tie.spec returns (λ c κs. search needs) (λ c κs. search needs) (λ c. search needs) (λ c. search needs) add-result returns-2)
+    tie.close (tie.spec returns (λ c κs. search needs) (λ c κs. search needs) (λ c. search needs) (λ c. search needs) add-result returns-2)

@@ -8,6 +8,5 @@ returns c = header-at _ _ _ _ _ _ _ (c .before .before .before .before .before .
 
 pub read-header-spec : {M : Type 1} → statement M
 read-header-spec =
-    tie.close
-    (tie.spec (λ c κs. search needs) (λ c κs. search needs) (λ c κs. search needs) (λ c κs. search needs) (λ c κs. search needs)
+    tie.close (tie.spec (λ c κs. search needs) (λ c κs. search needs) (λ c κs. search needs) (λ c κs. search needs) (λ c κs. search needs)
     (λ c κs. search needs) returns)

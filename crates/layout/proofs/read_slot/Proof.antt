@@ -32,6 +32,5 @@ returns-3 c = slot-is _ _ _ _ _ (sym (c .before .before .before .before .before 
 
 pub read-slot-spec : {M : Type 1} → statement M
 read-slot-spec =
-    tie.close
-    (tie.spec (λ c κs. search needs) returns stripe-count-requires (λ c. search needs) returns-2 slot-start-requires sub-slot-at part-slot-at-start
-    (λ c. search needs) slot-at-requires returns-3)
+    tie.close (tie.spec (λ c κs. search needs) returns stripe-count-requires (λ c. search needs) returns-2 slot-start-requires sub-slot-at
+    part-slot-at-start (λ c. search needs) slot-at-requires returns-3)

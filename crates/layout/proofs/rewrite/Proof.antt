@@ -29,6 +29,5 @@ returns-3 c =
 
 pub rewrite-spec : {M : Type 1} → statement M
 rewrite-spec =
-    tie.close
-    (tie.spec (λ c κs. search needs) (λ c. search needs) returns stripe-count-requires (λ c. search needs) (λ c. search needs) returns-2
+    tie.close (tie.spec (λ c κs. search needs) (λ c. search needs) returns stripe-count-requires (λ c. search needs) (λ c. search needs) returns-2
     change-slot-requires (λ c. search needs) returns-3)

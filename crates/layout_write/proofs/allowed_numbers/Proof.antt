@@ -34,6 +34,5 @@ returns-2 c = given-end _ _ _ _ (c .before .loop .inv .1) (omega arith)
 
 pub allowed-numbers-spec : {M : Type 1} → statement M
 allowed-numbers-spec =
-    tie.close
-    (tie.spec Inv-loop μ-loop loop-holds (λ c κs. omega arith) (λ c κs. search needs) returns (λ c. omega arith) (λ c. omega arith) loop-again
-    returns-2)
+    tie.close (tie.spec Inv-loop μ-loop loop-holds (λ c κs. omega arith) (λ c κs. search needs) returns (λ c. omega arith) (λ c. omega arith)
+    loop-again returns-2)

@@ -25,6 +25,5 @@ returns-6 c = given-names _ _ _ _ _ (sym (c .before .before .before .before .bef
 
 pub given-from-spec : {M : Type 1} → statement M
 given-from-spec =
-    tie.close
-    (tie.spec (λ c κs. search needs) returns returns-2 returns-3 returns-4 returns-5 (λ c. search needs) (λ c. search needs) (λ c. search needs)
-    returns-6)
+    tie.close (tie.spec (λ c κs. search needs) returns returns-2 returns-3 returns-4 returns-5 (λ c. search needs) (λ c. search needs)
+    (λ c. search needs) returns-6)

@@ -30,6 +30,5 @@ returns-5 c =
 
 pub may-write-spec : {M : Type 1} → statement M
 may-write-spec =
-    tie.close
-    (tie.spec returns (λ c. search needs) returns-2 (λ c κs. search needs) sub-if3 returns-3 (λ c κs. search needs) returns-4 (λ c κs. search needs)
-    (λ c κs. search needs) returns-5)
+    tie.close (tie.spec returns (λ c. search needs) returns-2 (λ c κs. search needs) sub-if3 returns-3 (λ c κs. search needs) returns-4
+    (λ c κs. search needs) (λ c κs. search needs) returns-5)

@@ -12,6 +12,5 @@ returns-2 c = given-put _ _ _ _ (c .before .before .put-slot2 .ensures) (sym (c 
 
 pub put-given-spec : {M : Type 1} → statement M
 put-given-spec =
-    tie.close
-    (tie.spec (λ c κs. search needs) (λ c. search needs) (λ c κs. search needs) (λ c. search needs) (λ c κs. search needs) (λ c. search needs) returns
-    (λ c. search needs) returns-2)
+    tie.close (tie.spec (λ c κs. search needs) (λ c. search needs) (λ c κs. search needs) (λ c. search needs) (λ c κs. search needs)
+    (λ c. search needs) returns (λ c. search needs) returns-2)

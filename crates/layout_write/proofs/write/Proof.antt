@@ -38,6 +38,5 @@ returns-3 c = write-done _ _ _ _ _ _ _ _ _ (sym (c .before .before .before .befo
 
 pub write-spec : {M : Type 1} → statement M
 write-spec =
-    tie.close
-    (tie.spec (λ c κs. search needs) returns (λ c κs. search needs) mul-size add-size returns-2 cast-write-header write-header-requires
+    tie.close (tie.spec (λ c κs. search needs) returns (λ c κs. search needs) mul-size add-size returns-2 cast-write-header write-header-requires
     write-pool-requires write-slots-requires (λ c. search needs) returns-3)

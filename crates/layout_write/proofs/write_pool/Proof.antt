@@ -33,6 +33,5 @@ returns c = pool-end _ _ _ _ (c .before .loop .inv .2) (omega arith)
 
 pub write-pool-spec : {M : Type 1} → statement M
 write-pool-spec =
-    tie.close
-    (tie.spec Inv-loop μ-loop loop-holds (λ c. omega arith) (λ c. omega arith) slice-write-dest (λ c. omega arith) (λ c. omega arith) loop-again
-    same-length returns)
+    tie.close (tie.spec Inv-loop μ-loop loop-holds (λ c. omega arith) (λ c. omega arith) slice-write-dest (λ c. omega arith) (λ c. omega arith)
+    loop-again same-length returns)

@@ -33,6 +33,5 @@ returns c = slots-end _ _ _ _ _ _ (c .before .loop .inv .2) (omega arith) (omega
 
 pub write-slots-spec : {M : Type 1} → statement M
 write-slots-spec =
-    tie.close
-    (tie.spec Inv-loop μ-loop loop-holds (λ c. omega arith) (λ c. omega arith) (λ c. omega arith) (λ c. omega arith) (λ c. search needs)
+    tie.close (tie.spec Inv-loop μ-loop loop-holds (λ c. omega arith) (λ c. omega arith) (λ c. omega arith) (λ c. omega arith) (λ c. search needs)
     (λ c. omega arith) put-given-requires (λ c. omega arith) (λ c. omega arith) loop-again same-length returns)

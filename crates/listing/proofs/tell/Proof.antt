@@ -62,6 +62,5 @@ returns-2 c =
 
 pub tell-spec : {M : Type 1} → statement M
 tell-spec =
-    tie.close
-    (tie.spec Inv-loop μ-loop loop-holds (λ c κs. search needs) (λ c. search needs) returns class-of-requires (λ c. omega arith) (λ c κs. omega arith)
-    next-position-requires (λ c. omega arith) (λ c. omega arith) loop-again (λ c. search needs) returns-2)
+    tie.close (tie.spec Inv-loop μ-loop loop-holds (λ c κs. search needs) (λ c. search needs) returns class-of-requires (λ c. omega arith)
+    (λ c κs. omega arith) next-position-requires (λ c. omega arith) (λ c. omega arith) loop-again (λ c. search needs) returns-2)

@@ -39,6 +39,5 @@ returns-3 c =
 
 pub header-class-spec : {M : Type 1} → statement M
 header-class-spec =
-    tie.close
-    (tie.spec (λ c κs. search needs) (λ c κs. search needs) returns layout-of-requires read-header-requires (λ c κs. search needs)
+    tie.close (tie.spec (λ c κs. search needs) (λ c κs. search needs) returns layout-of-requires read-header-requires (λ c κs. search needs)
     (λ c κs. search needs) returns-2 returns-3)

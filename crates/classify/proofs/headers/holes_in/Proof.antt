@@ -33,5 +33,4 @@ returns-2 c =
 
 pub holes-in-spec : {M : Type 1} → statement M
 holes-in-spec =
-    tie.close
-    (tie.spec (λ c κs. search needs) (λ c κs. search needs) returns layout-of-requires read-header-requires (λ c κs. search needs) returns-2)
+    tie.close (tie.spec (λ c κs. search needs) (λ c κs. search needs) returns layout-of-requires read-header-requires (λ c κs. search needs) returns-2)

@@ -32,6 +32,5 @@ returns-3 c =
 
 pub object-class-spec : {M : Type 1} → statement M
 object-class-spec =
-    tie.close
-    (tie.spec (λ c κs. search needs) (λ c κs. search needs) returns (λ c κs. search needs) keeper-by-requires (λ c κs. search needs) returns-2
-    unnamed-class-requires returns-3)
+    tie.close (tie.spec (λ c κs. search needs) (λ c κs. search needs) returns (λ c κs. search needs) keeper-by-requires (λ c κs. search needs)
+    returns-2 unnamed-class-requires returns-3)

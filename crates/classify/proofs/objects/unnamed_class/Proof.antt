@@ -27,5 +27,4 @@ returns-4 c =
 
 pub unnamed-class-spec : {M : Type 1} → statement M
 unnamed-class-spec =
-    tie.close
-    (tie.spec (λ c. search needs) (λ c. search needs) returns (λ c κs. search needs) (λ c κs. search needs) returns-2 returns-3 returns-4)
+    tie.close (tie.spec (λ c. search needs) (λ c. search needs) returns (λ c κs. search needs) (λ c κs. search needs) returns-2 returns-3 returns-4)

@@ -22,6 +22,5 @@ returns-3 c =
 
 pub row-way-spec : {M : Type 1} → statement M
 row-way-spec =
-    tie.close
-    (tie.spec (λ c. search needs) (λ c κs. search needs) (λ c. search needs) (λ c κs. search needs) (λ c κs. search needs) returns
+    tie.close (tie.spec (λ c. search needs) (λ c κs. search needs) (λ c. search needs) (λ c κs. search needs) (λ c κs. search needs) returns
     (λ c κs. search needs) returns-2 returns-3)

@@ -28,6 +28,5 @@ returns-4 c =
 
 pub takeable-spec : {M : Type 1} → statement M
 takeable-spec =
-    tie.close
-    (tie.spec (λ c κs. search needs) (λ c. search needs) (λ c. search needs) returns (λ c. search needs) (λ c κs. search needs) returns-2
+    tie.close (tie.spec (λ c κs. search needs) (λ c. search needs) (λ c. search needs) returns (λ c. search needs) (λ c κs. search needs) returns-2
     (λ c κs. search needs) returns-3 returns-4)

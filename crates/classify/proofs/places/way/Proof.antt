@@ -21,5 +21,5 @@ returns-3 c = let a = c .before .before .before .before .before .before .before 
 
 pub way-spec : {M : Type 1} → statement M
 way-spec =
-    tie.close
-    (tie.spec (λ c. search needs) returns (λ c κs. search needs) (λ c. search needs) (λ c. search needs) row-way-requires returns-2 returns-3)
+    tie.close (tie.spec (λ c. search needs) returns (λ c κs. search needs) (λ c. search needs) (λ c. search needs) row-way-requires returns-2
+    returns-3)

@@ -42,6 +42,5 @@ returns-3 c =
 
 pub slot-class-spec : {M : Type 1} → statement M
 slot-class-spec =
-    tie.close
-    (tie.spec slot-of-requires (λ c. search needs) (λ c. search needs) (λ c κs. search needs) (λ c κs. search needs) keeper-by-requires
+    tie.close (tie.spec slot-of-requires (λ c. search needs) (λ c. search needs) (λ c κs. search needs) (λ c κs. search needs) keeper-by-requires
     (λ c κs. search needs) returns (λ c κs. search needs) (λ c κs. search needs) (λ c κs. search needs) (λ c κs. search needs) returns-2 returns-3)

@@ -50,6 +50,5 @@ returns-3 c =
 
 pub keeper-at-spec : {M : Type 1} → statement M
 keeper-at-spec =
-    tie.close
-    (tie.spec (λ c κs. search needs) (λ c. search needs) (λ c κs. search needs) (λ c. search needs) (λ c. search needs) names-at-requires returns
-    keeper-in-requires returns-2 returns-3)
+    tie.close (tie.spec (λ c κs. search needs) (λ c. search needs) (λ c κs. search needs) (λ c. search needs) (λ c. search needs) names-at-requires
+    returns keeper-in-requires returns-2 returns-3)

@@ -50,6 +50,5 @@ returns-2 c = slot-none _ _ _ _ _ (c .before .loop .inv) (omega arith)
 
 pub first-in-spec : {M : Type 1} → statement M
 first-in-spec =
-    tie.close
-    (tie.spec Inv-loop μ-loop (λ c κs. omega arith) slot-area-requires loop-holds (λ c κs. omega arith) (λ c κs. search needs) returns
+    tie.close (tie.spec Inv-loop μ-loop (λ c κs. omega arith) slot-area-requires loop-holds (λ c κs. omega arith) (λ c κs. search needs) returns
     (λ c. omega arith) (λ c. omega arith) loop-again returns-2)

@@ -42,6 +42,5 @@ returns-2 c =
 
 pub slot-area-spec : {M : Type 1} → statement M
 slot-area-spec =
-    tie.close
-    (tie.spec (λ c κs. search needs) (λ c. search needs) returns layout-of-requires slot-start-requires sub-result part-result-start
+    tie.close (tie.spec (λ c κs. search needs) (λ c. search needs) returns layout-of-requires slot-start-requires sub-result part-result-start
     (λ c. search needs) returns-2)

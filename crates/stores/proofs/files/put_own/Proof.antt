@@ -14,6 +14,5 @@ returns c = let d = c .before .before .before .before .before in let a = d .args
 
 pub put-own-spec : {M : Type 1} → statement M
 put-own-spec =
-    tie.close
-    (tie.spec (λ c. search needs) (λ c. search needs) (λ c. search needs) (λ c. search needs) (λ c. search needs) put-own-requires (λ c. search needs)
-    returns)
+    tie.close (tie.spec (λ c. search needs) (λ c. search needs) (λ c. search needs) (λ c. search needs) (λ c. search needs) put-own-requires
+    (λ c. search needs) returns)

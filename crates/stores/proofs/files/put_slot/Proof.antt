@@ -14,6 +14,5 @@ returns c = let d = c .before .before .before .before .before in let a = d .args
 
 pub put-slot-spec : {M : Type 1} → statement M
 put-slot-spec =
-    tie.close
-    (tie.spec (λ c. search needs) (λ c. search needs) (λ c. search needs) (λ c. search needs) (λ c. search needs) put-slot-requires
+    tie.close (tie.spec (λ c. search needs) (λ c. search needs) (λ c. search needs) (λ c. search needs) (λ c. search needs) put-slot-requires
     (λ c. search needs) returns)

@@ -14,6 +14,5 @@ returns c = let a = c .before .before .before .before .before .args in part-whol
 
 pub destroy-spec : {M : Type 1} → statement M
 destroy-spec =
-    tie.close
-    (tie.spec (λ c. search needs) (λ c. search needs) (λ c. search needs) (λ c. search needs) (λ c. search needs) (λ c κs. search needs)
+    tie.close (tie.spec (λ c. search needs) (λ c. search needs) (λ c. search needs) (λ c. search needs) (λ c. search needs) (λ c κs. search needs)
     (λ c. search needs) returns)

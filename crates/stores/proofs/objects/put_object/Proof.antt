@@ -14,6 +14,5 @@ returns c = let a = c .before .before .before .before .before .args in part-whol
 
 pub put-object-spec : {M : Type 1} → statement M
 put-object-spec =
-    tie.close
-    (tie.spec (λ c. search needs) (λ c. search needs) (λ c. search needs) (λ c. search needs) (λ c. search needs) (λ c κs. search needs)
+    tie.close (tie.spec (λ c. search needs) (λ c. search needs) (λ c. search needs) (λ c. search needs) (λ c. search needs) (λ c κs. search needs)
     (λ c. search needs) returns)

@@ -61,8 +61,7 @@ returns c =
 
 pub grow-spec : {M : Type 1} → statement M
 grow-spec =
-    tie.close
-    (tie.spec layout-of-requires read-header-requires slot-start-requires stripe-count-requires (λ c. search needs) (λ c. search needs)
+    tie.close (tie.spec layout-of-requires read-header-requires slot-start-requires stripe-count-requires (λ c. search needs) (λ c. search needs)
     (λ c. search needs) add-size-2 cast-put-le16 put-le16-requires (λ c. search needs) (λ c. search needs) put-header-requires add-put-holes
     (λ c. search needs) add-put-holes-2 (λ c. search needs) sub-put-holes put-holes-requires add-put-slot (λ c. search needs) add-put-slot-2
     put-slot-requires (λ c. search needs) returns)

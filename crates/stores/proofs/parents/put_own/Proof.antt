@@ -27,6 +27,5 @@ returns c = let d = c .before .before .before .before .before .before .before .b
 
 pub put-own-spec : {M : Type 1} → statement M
 put-own-spec =
-    tie.close
-    (tie.spec self-of-requires layout-of-requires read-header-requires stripe-count-requires (λ c κs. search needs) put-header-requires
+    tie.close (tie.spec self-of-requires layout-of-requires read-header-requires stripe-count-requires (λ c κs. search needs) put-header-requires
     (λ c. search needs) returns)

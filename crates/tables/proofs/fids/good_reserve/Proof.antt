@@ -42,6 +42,5 @@ returns-2 c = all-end (goodEntry) entrySize _ _ _ _ (c .before .loop .inv .1) (o
 
 pub good-reserve-spec : {M : Type 1} → statement M
 good-reserve-spec =
-    tie.close
-    (tie.spec Inv-loop μ-loop loop-holds (λ c κs. omega arith) (λ c κs. omega arith) (λ c κs. omega arith) returns (λ c. omega arith)
+    tie.close (tie.spec Inv-loop μ-loop loop-holds (λ c κs. omega arith) (λ c κs. omega arith) (λ c κs. omega arith) returns (λ c. omega arith)
     (λ c. omega arith) loop-again returns-2)

@@ -24,5 +24,4 @@ returns-2 c =
 
 pub after-part-spec : {M : Type 1} → statement M
 after-part-spec =
-    tie.close
-    (tie.spec (λ c κs. search needs) (λ c. search needs) (λ c. omega arith) (λ c κs. search needs) returns (λ c. search needs) returns-2)
+    tie.close (tie.spec (λ c κs. search needs) (λ c. search needs) (λ c. omega arith) (λ c κs. search needs) returns (λ c. search needs) returns-2)

@@ -44,5 +44,4 @@ returns-3 c =
 
 pub next-position-spec : {M : Type 1} → statement M
 next-position-spec =
-    tie.close
-    (tie.spec after-part-requires returns add-from-object (λ c κs. search needs) returns-2 (λ c κs. search needs) returns-3)
+    tie.close (tie.spec after-part-requires returns add-from-object (λ c κs. search needs) returns-2 (λ c κs. search needs) returns-3)

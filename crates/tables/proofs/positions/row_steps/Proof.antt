@@ -32,6 +32,5 @@ returns c = steps-end _ _ _ _ _ (c .before .loop .inv .2) (omega arith)
 
 pub row-steps-spec : {M : Type 1} → statement M
 row-steps-spec =
-    tie.close
-    (tie.spec Inv-loop μ-loop loop-holds (λ c. omega arith) (λ c κs. omega arith) row-width-requires (λ c. omega arith) (λ c. omega arith)
+    tie.close (tie.spec Inv-loop μ-loop loop-holds (λ c. omega arith) (λ c κs. omega arith) row-width-requires (λ c. omega arith) (λ c. omega arith)
     (λ c. omega arith) (λ c. omega arith) loop-again returns)

@@ -20,5 +20,4 @@ returns-4 c = let a = c .before .before .before .before .before .before .before 
 
 pub has-fid-spec : {M : Type 1} → statement M
 has-fid-spec =
-    tie.close
-    (tie.spec (λ c κs. search needs) returns (λ c κs. search needs) returns-2 (λ c κs. search needs) returns-3 (λ c. search needs) returns-4)
+    tie.close (tie.spec (λ c κs. search needs) returns (λ c κs. search needs) returns-2 (λ c κs. search needs) returns-3 (λ c. search needs) returns-4)

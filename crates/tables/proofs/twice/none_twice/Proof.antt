@@ -54,6 +54,5 @@ returns-2 c = none-end _ _ _ _ _ (c .before .loop .inv .1) (omega arith)
 
 pub none-twice-spec : {M : Type 1} → statement M
 none-twice-spec =
-    tie.close
-    (tie.spec Inv-loop μ-loop (λ c. omega arith) loop-holds row-at-requires (λ c κs. omega arith) add-has-self (λ c κs. omega arith)
+    tie.close (tie.spec Inv-loop μ-loop (λ c. omega arith) loop-holds row-at-requires (λ c κs. omega arith) add-has-self (λ c κs. omega arith)
     (λ c κs. omega arith) returns add-r (λ c. omega arith) loop-again returns-2)

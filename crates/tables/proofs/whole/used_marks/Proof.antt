@@ -41,5 +41,5 @@ returns-2 c = all-end usedMark _ _ _ _ _ (c .before .loop .inv .1) (omega arith)
 
 pub used-marks-spec : {M : Type 1} → statement M
 used-marks-spec =
-    tie.close
-    (tie.spec Inv-loop μ-loop (λ c. omega arith) loop-holds row-at-requires (λ c. omega arith) returns add-r (λ c. omega arith) loop-again returns-2)
+    tie.close (tie.spec Inv-loop μ-loop (λ c. omega arith) loop-holds row-at-requires (λ c. omega arith) returns add-r (λ c. omega arith) loop-again
+    returns-2)
