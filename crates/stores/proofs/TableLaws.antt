@@ -11,12 +11,12 @@ use Rattle.wire.specs.Rows.{rows}
 use Rattle.wire.proofs.NumberLaws.{bytes-drop, bytes-take}
 use Rattle.wire.proofs.RowLaws.{rows-at, rows-inside}
 use Rattle.wire.proofs.Splice.{sets-whole}
-use Rattle.tables.specs.Records.{ParentRow, ObjectRow, Tables}
-use Rattle.tables.specs.Bytes.{parentSize, objectSize, parseParent, parseObject, renderParent, renderObject, parentRows, objectRows, parse, join, renderParents, renderObjects}
+use Rattle.tables.specs.Records.{ParentRow, Tables}
+use Rattle.tables.specs.Bytes.{parentSize, parseParent, renderParent, parentRows, parse, join, renderParents}
 use Rattle.tables.specs.Check.{Sound}
-use Rattle.tables.proofs.SoundLaws.{sound-facts, parent-size, parent-mark, parent-facts, object-size, object-mark, object-facts}
-use Rattle.tables.proofs.RenderLaws.{parent-row-back, object-row-back}
-use Rattle.rules.specs.Repairs.{putParent, putObject}
+use Rattle.tables.proofs.SoundLaws.{sound-facts, parent-size, parent-mark, parent-facts}
+use Rattle.tables.proofs.RenderLaws.{parent-row-back}
+use Rattle.rules.specs.Repairs.{putParent}
 
 -- ## Lists
 
@@ -27,13 +27,13 @@ map-set f (x ∷ l) (suc i) a = ap (λ t. f x ∷ t) (map-set f l i a)
 
 -- ## Rows
 
-join-rows : (size n : ℕ) (l : List ℕ) → length l ≡ size * n → join (rows size n l) ≡ l
+pub join-rows : (size n : ℕ) (l : List ℕ) → length l ≡ size * n → join (rows size n l) ≡ l
 unfolding join rows
 join-rows size zero [] h = refl
 join-rows size zero (x ∷ l) h = absurd (omega (arith, mul-zero size))
 join-rows size (suc n) l h = rw (join-rows size n (drop size l) (rw length-drop (omega (arith, mul-suc size n))), take-append-drop size l)
 
-rows-put : (size n r : ℕ) (l y : List ℕ) → length l ≡ size * n → r < n → length y ≡ size → rows size n (sets l (size * r) y) ≡ set (rows size n l) r y
+pub rows-put : (size n r : ℕ) (l y : List ℕ) → length l ≡ size * n → r < n → length y ≡ size → rows size n (sets l (size * r) y) ≡ set (rows size n l) r y
 rows-put size n r l y h k e =
     let q : size * r + 0 ≡ size * r = add-zero (size * r) in
     let m : size * suc r ≤ size * n = mul-le-mul-left size k in
@@ -47,7 +47,7 @@ join-put size n r l y h k e = rw (← rows-put size n r l y h k e) (join-rows si
 
 -- rows that are each written back
 module _ {R : Type 0} (read : List ℕ → R) (write : R → List ℕ) (size : ℕ) where
-  map-back : (n : ℕ) (l : List ℕ) →
+  pub map-back : (n : ℕ) (l : List ℕ) →
       ((r : ℕ) → r < n → write (read (take size (drop (size * r) l))) ≡ take size (drop (size * r) l)) →
       map write (map read (rows size n l)) ≡ rows size n l
   unfolding rows
@@ -70,14 +70,6 @@ module _ (p o : List ℕ) (h : Sound p o) where
       parent-row-back row (bytes-take parentSize (drop (parentSize * r) p) (bytes-drop (parentSize * r) p b))
       (parent-size p o h r row k refl) (parent-mark p o h r row k refl) (parent-facts p o h r row k refl))
 
-  objects-rows : Bytes o → map renderObject (map parseObject (objectRows o)) ≡ objectRows o
-  unfolding objectRows
-  objects-rows b =
-      map-back parseObject renderObject objectSize (length o / objectSize) o
-      (λ r k. let row : List ℕ = take objectSize (drop (objectSize * r) o) in
-      object-row-back row (bytes-take objectSize (drop (objectSize * r) o) (bytes-drop (objectSize * r) o b))
-      (object-size p o h r row k refl) (object-mark p o h r row k refl) (object-facts p o h r row k refl))
-
   -- a parent row written
   pub parents-put : Bytes p → (T : Tables) → T .parents ≡ parse p o .parents → (r : ℕ) (w : ParentRow) → r < length p / parentSize → length (renderParent w) ≡ parentSize →
       renderParents (putParent T r w) ≡ sets p (parentSize * r) (renderParent w)
@@ -85,33 +77,3 @@ module _ (p o : List ℕ) (h : Sound p o) where
   parents-put b T t r w k e =
       rw (t, map-set renderParent (map parseParent (rows parentSize (length p / parentSize) p)) r w, parents-rows b)
       (join-put parentSize (length p / parentSize) r p (renderParent w) (sym (sound-facts p o h .parents-length)) k e)
-
-  -- an object row written
-  pub objects-put : Bytes o → (T : Tables) → T .objects ≡ parse p o .objects → (i : ℕ) (w : ObjectRow) → i < length o / objectSize → length (renderObject w) ≡ objectSize →
-      renderObjects (putObject T i w) ≡ sets o (objectSize * i) (renderObject w)
-  unfolding renderObjects putObject parse objectRows
-  objects-put b T t i w k e =
-      rw (t, map-set renderObject (map parseObject (rows objectSize (length o / objectSize) o)) i w, objects-rows b)
-      (join-put objectSize (length o / objectSize) i o (renderObject w) (sym (sound-facts p o h .objects-length)) k e)
-
-  -- and one more
-  pub objects-put-2 : Bytes o → (T : Tables) → T .objects ≡ parse p o .objects → (i : ℕ) (w : ObjectRow) (j : ℕ) (v : ObjectRow) → i < length o / objectSize → j < length o / objectSize →
-      length (renderObject w) ≡ objectSize → length (renderObject v) ≡ objectSize →
-      renderObjects (putObject (putObject T i w) j v) ≡ sets (sets o (objectSize * i) (renderObject w)) (objectSize * j) (renderObject v)
-  unfolding renderObjects putObject parse objectRows
-  objects-put-2 b T t i w j v k m e g =
-      let n : ℕ = length o / objectSize in
-      let R : List (List ℕ) = rows objectSize n o in
-      let z : length o ≡ objectSize * n = sym (sound-facts p o h .objects-length) in
-      rw (t, map-set renderObject (set (map parseObject R) i w) j v, map-set renderObject (map parseObject R) i w, objects-rows b, ← rows-put objectSize n i o (renderObject w) z k e)
-      (join-put objectSize n j (sets o (objectSize * i) (renderObject w)) (renderObject v) (length-sets o (objectSize * i) (renderObject w) ∙ z) m g)
-
--- ## The other table
-
-pub parents-kept : (T : Tables) (i : ℕ) (w : ObjectRow) → renderParents (putObject T i w) ≡ renderParents T
-unfolding renderParents putObject
-parents-kept T i w = refl
-
-pub objects-kept : (T : Tables) (r : ℕ) (w : ParentRow) → renderObjects (putParent T r w) ≡ renderObjects T
-unfolding renderObjects putParent
-objects-kept T r w = refl
