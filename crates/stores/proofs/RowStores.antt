@@ -10,7 +10,7 @@ use lib.Seq.{sets, length-sets, length-take-le}
 use Rattle.wire.specs.Numbers.{bytes, Bytes}
 use Rattle.wire.proofs.NumberLaws.{bytes-drop, bytes-take}
 use borrow.Rule.Slice.PartMut.{putMid}
-use Rattle.fid.specs.Fid.{encodeFid}
+use Rattle.fid.specs.Fid.{encodeFid, goodFile}
 use Rattle.fid.specs.declared.MdtFid.{MdtFid}
 use Rattle.layout.specs.declared.Header.{Header}
 use Rattle.layout.specs.declared.Slot.{Slot}
@@ -21,7 +21,7 @@ use Rattle.layout.proofs.SlotLaws.{length-slots}
 use Rattle.layout.proofs.LayoutLaws.{start-most, accepted-exact, length-changed, written-back}
 use Rattle.tables.specs.Records.{Parent, ParentRow, used}
 use Rattle.tables.specs.Bytes.{parentSize, layoutRoom, isUsed, encodeOwner, layoutLength, layoutBytes, decodeParent, parseParent, renderParent}
-use Rattle.tables.specs.Check.{whenUsed, goodSelf}
+use Rattle.tables.specs.Check.{whenUsed, goodParent}
 use Rattle.tables.specs.declared.Owner.{Owner}
 use Rattle.tables.proofs.SoundLaws.{ParentFacts, layout-of-row}
 use Rattle.tables.proofs.RenderLaws.{parent-row-back}
@@ -35,7 +35,7 @@ use Rattle.stores.proofs.ParentStores.{own-render, slot-put, grown-rend
 -- ## What is known of a used row
 
 pub used-facts : (row : List ℕ) → UsedRow row → ParentFacts row
-unfolding whenUsed goodSelf
+unfolding whenUsed goodParent goodFile
 used-facts row u =
     let l = layout-of-row row (u .size) (rw (u .used) (u .layout)) (u .used) in
     let f = l .facts in

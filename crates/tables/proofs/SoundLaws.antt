@@ -9,12 +9,12 @@ use lib.Dec.{leb, eqb}
 use lib.ListN.{length, getD, take, drop}
 use Rattle.wire.specs.Numbers.{le}
 use Rattle.wire.proofs.Both.{and-first, and-second}
-use Rattle.fid.specs.Fid.{goodFid, sameFid, zeroFid}
+use Rattle.fid.specs.Fid.{goodFid, sameFid, zeroFid, goodObject as goodObjectFid, goodFile}
 use Rattle.layout.specs.Slot.{maxIndex}
 use Rattle.layout.specs.Layout.{acceptedLayout}
 use Rattle.layout.proofs.LayoutLaws.{LayoutFacts, accepted-facts}
 use Rattle.tables.specs.Bytes.{parentSize, objectSize, layoutRoom, isUsed, layoutLength, layoutBytes, parentRows, objectRows, reserveEntries, claimedFid, selfFid}
-use Rattle.tables.specs.Check.{all, whenUsed, maxParents, maxObjects, wholeRows, isMark, usedMark, freshMark, parentsWhole, objectsWhole, reserveWhole, tablesWhole, goodLayout, goodLayouts, goodSelf, goodIndex, goodClaim, freshClaims, goodObject, goodEntry, goodFids, noneTwice, allDifferent, Sound}
+use Rattle.tables.specs.Check.{all, whenUsed, maxParents, maxObjects, wholeRows, isMark, usedMark, freshMark, parentsWhole, objectsWhole, reserveWhole, tablesWhole, goodLayout, goodLayouts, goodParent, goodIndex, goodClaim, freshClaims, goodObject, goodEntry, goodFids, noneTwice, allDifferent, Sound}
 use Rattle.tables.proofs.AllLaws.{part-length, all-at}
 use Rattle.tables.proofs.RowReads.{layout-bytes}
 use Rattle.tables.proofs.CheckLaws.{sound-pass}
@@ -30,7 +30,7 @@ pub record SoundFacts (p o : List ℕ) : Type 0 where
   pub objects-marks : all usedMark (objectRows o) ≡ true
   pub fresh-marks : all (whenUsed freshMark) (objectRows o) ≡ true
   pub layouts : goodLayouts p ≡ true
-  pub selves : all (whenUsed goodSelf) (parentRows p) ≡ true
+  pub selves : all (whenUsed goodParent) (parentRows p) ≡ true
   pub objects : all (whenUsed goodObject) (objectRows o) ≡ true
   pub parents-differ : noneTwice (parentRows p) ≡ true
   pub objects-differ : noneTwice (objectRows o) ≡ true
@@ -61,7 +61,7 @@ sound-facts p o h =
     let e : Bool = all usedMark (objectRows o) in
     let f : Bool = all (whenUsed freshMark) (objectRows o) in
     let ow : (d && e && f) ≡ true = and-second (parentsWhole p) (objectsWhole o) w in
-    let m : Bool = all (whenUsed goodSelf) (parentRows p) in
+    let m : Bool = all (whenUsed goodParent) (parentRows p) in
     let n : Bool = all (whenUsed goodObject) (objectRows o) in
     let g : (m && n) ≡ true = and-first (m && n) (all goodEntry (reserveEntries [])) (k .fids) in
     let wp = whole-facts parentSize maxParents p (and-first a b pw) in
@@ -154,15 +154,15 @@ module _ (p o : List ℕ) (h : Sound p o) (r : ℕ) (row : List ℕ) where
         leb-true (getD row 0 0) 1 (rw e (all-at usedMark parentSize (length p / parentSize) r p (sound-facts p o h .parents-marks) k))
 
     pub parent-facts : isUsed row ≡ true → ParentFacts row
-    unfolding parentRows goodSelf
+    unfolding parentRows goodParent goodFile
     parent-facts u =
         let l = layout-of-row row parent-size (layout-at p row r (sound-facts p o h .layouts) k e) u in
-        let s : whenUsed goodSelf row ≡ true =
-        rw e (all-at (whenUsed goodSelf) parentSize (length p / parentSize) r p (sound-facts p o h .selves) k) in
+        let s : whenUsed goodParent row ≡ true =
+        rw e (all-at (whenUsed goodParent) parentSize (length p / parentSize) r p (sound-facts p o h .selves) k) in
         let f = l .facts in
         record {
           size = parent-size;
-          self = used-passes goodSelf row s u;
+          self = used-passes goodParent row s u;
           room = l .room;
           least = omega (arith, l .bytes, f .size, f .head);
           accepted = l .accepted;
@@ -181,7 +181,7 @@ module _ (p o : List ℕ) (h : Sound p o) (r : ℕ) (row : List ℕ) where
         leb-true (getD row 0 0) 1 (rw e (all-at usedMark objectSize (length o / objectSize) r o (sound-facts p o h .objects-marks) k))
 
     pub object-facts : isUsed row ≡ true → ObjectFacts row
-    unfolding objectRows goodObject goodSelf goodIndex freshMark isMark
+    unfolding objectRows goodObject goodObjectFid goodIndex freshMark isMark
     object-facts u =
         let m : whenUsed freshMark row ≡ true =
         rw e (all-at (whenUsed freshMark) objectSize (length o / objectSize) r o (sound-facts p o h .fresh-marks) k) in

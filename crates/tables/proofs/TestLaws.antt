@@ -8,12 +8,12 @@ use lib.Dec.{leb, eqb}
 use lib.ListN.{length, getD, drop}
 use lib.Seq.{drop-drop}
 use Rattle.wire.specs.Numbers.{le}
-use Rattle.fid.specs.Fid.{decodeFid, goodFid, goodNumber, sameFid, zeroFid}
+use Rattle.fid.specs.Fid.{decodeFid, goodFid, goodNumber, sameFid, zeroFid, goodObject as goodObjectFid}
 use Rattle.fid.specs.declared.Fid.{Fid}
 use Rattle.layout.specs.Slot.{maxIndex}
 use Rattle.layout.specs.Layout.{acceptedLayout}
 use Rattle.tables.specs.Bytes.{parentSize, objectSize, layoutRoom, layoutLength, layoutBytes, isUsed, parentRows, objectRows, selfFid, claimedFid}
-use Rattle.tables.specs.Check.{all, whenUsed, goodLayout, maxParents, maxObjects, wholeRows, parentsWhole, objectsWhole, allDifferent, noneTwice, isMark, usedMark, freshMark, goodSelf, goodIndex, goodClaim, freshClaims, goodObject, isRowOf}
+use Rattle.tables.specs.Check.{all, whenUsed, goodLayout, maxParents, maxObjects, wholeRows, parentsWhole, objectsWhole, allDifferent, noneTwice, isMark, usedMark, freshMark, goodParent, goodIndex, goodClaim, freshClaims, goodObject, isRowOf}
 
 module _ (test : List ℕ → Bool) (row : List ℕ) where
   pub when-unused : isUsed row ≡ false → true ≡ whenUsed test row
@@ -105,19 +105,19 @@ module _ (row : List ℕ) where
   fresh-is h f e = rw (eq-eqb _ _ h, e)
 
   pub object-self : goodFid (selfFid row) ≡ false → false ≡ goodObject row
-  unfolding goodObject goodSelf
+  unfolding goodObject goodObjectFid
   object-self h = rw h
 
   pub object-index : goodFid (selfFid row) ≡ true → maxIndex < le 4 (drop 17 row) → false ≡ goodObject row
-  unfolding goodObject goodSelf goodIndex
+  unfolding goodObject goodObjectFid goodIndex
   object-index h k = rw (h, lt-leb _ _ k)
 
   pub object-claim : goodFid (selfFid row) ≡ true → le 4 (drop 17 row) ≤ maxIndex → goodClaim row ≡ false → false ≡ goodObject row
-  unfolding goodObject goodSelf goodIndex
+  unfolding goodObject goodObjectFid goodIndex
   object-claim h k m = rw (h, le-leb _ _ k, m)
 
   pub object-fresh : goodFid (selfFid row) ≡ true → le 4 (drop 17 row) ≤ maxIndex → goodClaim row ≡ true → freshClaims row ≡ goodObject row
-  unfolding goodObject goodSelf goodIndex
+  unfolding goodObject goodObjectFid goodIndex
   object-fresh h k m = rw (h, le-leb _ _ k, m)
 
 -- ## 15

@@ -11,7 +11,7 @@ use lib.ListN.{length, getD, drop}
 use Rattle.wire.specs.Numbers.{le}
 use Rattle.wire.specs.Rows.{rows}
 use Rattle.wire.proofs.Both.{and-first, and-second, and-both}
-use Rattle.fid.specs.Fid.{goodFid, goodNumber, sameFid, zeroFid}
+use Rattle.fid.specs.Fid.{goodFid, goodNumber, sameFid, zeroFid, goodObject as goodObjectFid, goodFile}
 use Rattle.fid.specs.declared.Fid.{Fid}
 use Rattle.fid.proofs.FidLaws.{good-positive}
 use Rattle.layout.specs.Slot.{maxIndex}
@@ -19,7 +19,7 @@ use Rattle.layout.specs.Layout.{acceptedLayout}
 use Rattle.layout.proofs.LayoutLaws.{written-accepted}
 use Rattle.tables.specs.Records.{Parent, unused, used, Tables, TableRow}
 use Rattle.tables.specs.Bytes.{parentSize, objectSize, layoutRoom, isUsed, layoutLength, layoutBytes, renderParent, claimFid, mark, renderObject, parentRows, objectRows, renderParents, renderObjects, selfFid, claimedFid, renderRow, encodeParent, encodeObject, ostAt, freshAt, join}
-use Rattle.tables.specs.Check.{all, whenUsed, maxParents, maxObjects, wholeRows, isMark, usedMark, freshMark, parentsWhole, objectsWhole, goodLayout, goodLayouts, goodSelf, goodIndex, goodClaim, freshClaims, goodObject, hasSelf, noneTwice, allDifferent, Sound, isRowOf}
+use Rattle.tables.specs.Check.{all, whenUsed, maxParents, maxObjects, wholeRows, isMark, usedMark, freshMark, parentsWhole, objectsWhole, goodLayout, goodLayouts, goodParent, goodIndex, goodClaim, freshClaims, goodObject, hasSelf, noneTwice, allDifferent, Sound, isRowOf}
 use Rattle.tables.specs.declared.Claim.{Claim}
 use Rattle.tables.specs.declared.Claim.the-variants.{Unclaimed, Claims}
 use Rattle.tables.specs.declared.Object.{Object}
@@ -39,8 +39,8 @@ parent-layout a f =
     (le-leb (layoutLength (1 ∷ encodeParent a)) layoutRoom (file-room a f))
     (ap acceptedLayout (file-layout a f) ∙ written-accepted (a .layout) (f .layout))
 
-parent-self : (a : Parent) → FitFile a → goodSelf (1 ∷ encodeParent a) ≡ true
-unfolding goodSelf
+parent-self : (a : Parent) → FitFile a → goodParent (1 ∷ encodeParent a) ≡ true
+unfolding goodParent goodFile
 parent-self a f = ap goodFid (file-self a f) ∙ f .good
 
 mark-small : (b : Bool) → isMark (mark b) ≡ true
@@ -78,7 +78,7 @@ fresh-has true k f h = rw (claim-nonzero k f (h refl))
 fresh-has false k f h = refl
 
 object-good : (x : Object) → FitThing x → goodObject (1 ∷ encodeObject x) ≡ true
-unfolding goodObject goodSelf goodIndex goodClaim freshClaims
+unfolding goodObject goodObjectFid goodIndex goodClaim freshClaims
 object-good x f =
     let row : List ℕ = 1 ∷ encodeObject x in
     let a : goodFid (selfFid row) ≡ true = ap goodFid (thing-self x f) ∙ f .good in
@@ -236,6 +236,6 @@ module _ (T : Tables) (f : FitTables T) where
       let p : List ℕ = renderParents T in
       let o : List ℕ = renderObjects T in
       tables-sound p o (and-both (parentsWhole p) (objectsWhole o) (whole-parents m) (whole-objects n)) (parents-pass goodLayout parent-layout)
-      (and-both (all (whenUsed goodSelf) (parentRows p)) (all (whenUsed goodObject) (objectRows o)) (parents-pass goodSelf parent-self)
+      (and-both (all (whenUsed goodParent) (parentRows p)) (all (whenUsed goodObject) (objectRows o)) (parents-pass goodParent parent-self)
       (objects-pass goodObject object-good))
       (different a)

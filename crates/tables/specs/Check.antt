@@ -6,11 +6,11 @@ use mathlib.Core.Bool.{Bool, true, false, cond, not, _&&_, _||_}
 use lib.ListN.{length, getD, drop}
 use lib.Dec.{leb, eqb}
 use Rattle.wire.specs.Numbers.{le}
-use Rattle.fid.specs.Fid.{decodeFid, goodFid, goodNumber, sameFid, zeroFid}
+use Rattle.fid.specs.Fid.{goodFile, goodObject as goodObjectFid, goodReserve, goodNumber, sameFid, zeroFid}
 use Rattle.fid.specs.declared.Fid.{Fid}
 use Rattle.layout.specs.Slot.{maxIndex}
 use Rattle.layout.specs.Layout.{acceptedLayout}
-use Rattle.tables.specs.Bytes.{parentSize, objectSize, entrySize, ostAt, freshAt, layoutRoom, isUsed, selfFid, layoutLength, layoutBytes, claimedFid, parentRows, objectRows, reserveEntries, parse}
+use Rattle.tables.specs.Bytes.{parentSize, objectSize, entrySize, ostAt, freshAt, layoutRoom, isUsed, selfFid, layoutLength, layoutBytes, claimedFid, parentRows, objectRows, reserveEntries, reserveFid, parse}
 use Rattle.tables.specs.Positions.{isPosition}
 use Rattle.tables.specs.declared.Position.{Position}
 
@@ -75,8 +75,8 @@ goodLayouts parents = all (whenUsed goodLayout) (parentRows parents)
 
 -- ## 14: "bad FID, object index or claim, or fresh without claim"
 
-unfoldable pub goodSelf : List ℕ → Bool
-goodSelf row = goodFid (selfFid row)
+unfoldable pub goodParent : List ℕ → Bool
+goodParent row = goodFile (record { 0 = selfFid row })
 
 -- "OST index 4 (at most 65,535)"
 unfoldable pub goodIndex : List ℕ → Bool
@@ -91,14 +91,14 @@ unfoldable pub freshClaims : List ℕ → Bool
 freshClaims row = cond (eqb (getD row freshAt 0) 1) (not (sameFid (claimedFid row) zeroFid)) true
 
 unfoldable pub goodObject : List ℕ → Bool
-goodObject row = goodSelf row && goodIndex row && goodClaim row && freshClaims row
+goodObject row = goodObjectFid (record { 0 = selfFid row }) && goodIndex row && goodClaim row && freshClaims row
 
 unfoldable pub goodEntry : List ℕ → Bool
-goodEntry entry = goodFid (decodeFid entry)
+goodEntry entry = goodReserve (reserveFid entry)
 
 unfoldable pub goodFids : List ℕ → List ℕ → List ℕ → Bool
 goodFids parents objects reserve =
-    all (whenUsed goodSelf) (parentRows parents) && all (whenUsed goodObject) (objectRows objects)
+    all (whenUsed goodParent) (parentRows parents) && all (whenUsed goodObject) (objectRows objects)
     && all goodEntry (reserveEntries reserve)
 
 -- ## 15: "a FID twice among used parents, or twice among used objects"

@@ -6,27 +6,29 @@ use super::rows::FRESH_AT;
 use super::rows::OBJECT_SIZE;
 use super::rows::OST_AT;
 use super::rows::PARENT_SIZE;
+use fid::MdtFid;
+use fid::OstFid;
 use layout::MAX_INDEX;
 ghost use mathlib.Core.Path.{_≡_};
 ghost use mathlib.Core.Bool.{_&&_};
 ghost use lib.ListN.{length};
 ghost use Prim.Native.Nat.{_≤_};
 ghost use Rattle.tables.specs.Bytes.{objectSize, parentRows, objectRows, reserveEntries, ownerAt};
-ghost use Rattle.tables.specs.Check.{all, whenUsed, goodSelf, goodClaim, freshClaims, goodObject, goodEntry};
+ghost use Rattle.tables.specs.Check.{all, whenUsed, goodParent, goodClaim, freshClaims, goodObject, goodEntry};
 
 // Whether the self FID of a parent row is good, where it is examined.
 pub fn good_parent(row: &[u8]) -> bool
     requires { ⌜ ownerAt ≤ length (now row) ⌝ }
-    ensures { λ r. ⌜ r ≡ whenUsed goodSelf (now (row .entry)) ⌝ }
+    ensures { λ r. ⌜ r ≡ whenUsed goodParent (now (row .entry)) ⌝ }
 {
     if !rows::is_used(row) {
         return true;
     }
-    fid::is_good(rows::self_fid(row))
+    fid::good_file(MdtFid(rows::self_fid(row)))
 }
 
 pub fn good_parents(parents: &[u8]) -> bool
-    ensures { λ r. ⌜ r ≡ all (whenUsed goodSelf) (parentRows (now (parents .entry))) ⌝ }
+    ensures { λ r. ⌜ r ≡ all (whenUsed goodParent) (parentRows (now (parents .entry))) ⌝ }
 {
     let n = parents.len() / PARENT_SIZE;
     for r in 0..n {
@@ -68,7 +70,7 @@ pub fn good_object(row: &[u8]) -> bool
     if !rows::is_used(row) {
         return true;
     }
-    if !fid::is_good(rows::self_fid(row)) {
+    if !fid::good_object(OstFid(rows::self_fid(row))) {
         return false;
     }
     if MAX_INDEX < wire::le32(row, OST_AT) {
@@ -99,7 +101,7 @@ pub fn good_reserve(reserve: &[u8]) -> bool
     let n = reserve.len() / ENTRY_SIZE;
     for r in 0..n {
         let entry = rows::row_at(reserve, ENTRY_SIZE, r);
-        if !fid::is_good(fid::read_fid(entry, 0)) {
+        if !fid::good_reserve(OstFid(fid::read_fid(entry, 0))) {
             return false;
         }
     }
@@ -108,7 +110,7 @@ pub fn good_reserve(reserve: &[u8]) -> bool
 
 // Whether the rows of both tables are good.
 pub fn good_rows(parents: &[u8], objects: &[u8]) -> bool
-    ensures { λ r. ⌜ r ≡ (all (whenUsed goodSelf) (parentRows (now (parents .entry))) && all (whenUsed goodObject) (objectRows (now (objects .entry)))) ⌝ }
+    ensures { λ r. ⌜ r ≡ (all (whenUsed goodParent) (parentRows (now (parents .entry))) && all (whenUsed goodObject) (objectRows (now (objects .entry)))) ⌝ }
 {
     if !good_parents(parents) {
         return false;

@@ -5,6 +5,7 @@ use mathlib.Core.Bool.{Bool, true, false, cond}
 use Prim.Native.Nat.{ℕ, zero, suc, _*_, _/_, _<_}
 use native.Mathlib.Omega.{arith}
 use lib.ListN.{length, getD, take, drop}
+use Rattle.fid.specs.Fid.{goodFile}
 use Rattle.fid.specs.declared.OstFid.{OstFid}
 use Rattle.layout.specs.declared.Slot.{Slot}
 use Rattle.layout.specs.declared.Slot.the-variants.{Hole, Names}
@@ -12,7 +13,7 @@ use Rattle.layout.specs.Layout.{maxSlots}
 use Rattle.tables.specs.Records.{ParentRow, unused, used, Tables}
 use Rattle.tables.specs.Bytes.{parentSize, isUsed, decodeParent, parseParent, parse, parseRow}
 use Rattle.tables.specs.Positions.{rowAt, slotsOf}
-use Rattle.tables.specs.Check.{goodLayout, goodSelf, Sound}
+use Rattle.tables.specs.Check.{goodLayout, goodParent, Sound}
 use Rattle.tables.proofs.SoundLaws.{sound-facts, used-passes, layout-at, parent-size, parent-facts}
 use Rattle.tables.proofs.PositionLaws.{parsed-row}
 use Rattle.rules.specs.Rows.{slotAt}
@@ -48,7 +49,7 @@ row-is p o r k = parsed-row p o r k
 
 -- a used row of tables that passed
 pub used-at : (p o : List ℕ) (r : ℕ) → Sound p o → r < length p / parentSize → isUsed (rowBytes p r) ≡ true → UsedAt p r
-unfolding rowBytes goodSelf
+unfolding rowBytes goodParent goodFile
 used-at p o r h k u =
     let row : List ℕ = take parentSize (drop (parentSize * r) p) in
     record {

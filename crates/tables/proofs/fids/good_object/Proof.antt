@@ -3,7 +3,7 @@ use native.Mathlib.Omega.{arith}
 use borrow.Author.Tests.{not-true, not-false}
 use denote.Ref.{now}
 use Rattle.tables.proofs.TestLaws.{when-unused, when-used, object-self, object-index, object-claim, object-fresh}
-use Rattle.fid.specs.Fid.{goodFid}
+use Rattle.fid.specs.Fid.{goodFid, goodObject as goodObjectFid}
 use Rattle.tables.specs.Check.{goodObject}
 use borrow.Author.Needs.{needs}
 use Rattle.tables.proofs.fids.good_object.Statement.{statement}
@@ -13,29 +13,33 @@ returns : tie.Need-returns
 returns c = when-unused _ _ (sym (c .before .is-used .ensures) ∙ not-true _ (c .if1 .taken))
 
 returns-2 : tie.Need-returns-2
+unfolding goodObjectFid
 returns-2 c =
     let a = c .before .before .before .before .before .before .args in
-    object-self (now (a .row)) (ap goodFid (sym (c .before .before .self-fid .ensures)) ∙ sym (c .before .is-good .ensures) ∙ not-true _ (c .if2 .taken))
+    object-self (now (a .row)) (ap goodFid (sym (c .before .before .self-fid .ensures)) ∙ sym (c .before .good-object .ensures) ∙ not-true _ (c .if2 .taken))
     ∙ when-used goodObject (now (a .row)) (sym (c .before .before .before .before .is-used .ensures) ∙ not-false _ (c .before .before .before .if1 .left))
 
 returns-3 : tie.Need-returns-3
+unfolding goodObjectFid
 returns-3 c =
     let a = c .before .before .before .before .before .before .before .before .args in
-    object-index (now (a .row)) (ap goodFid (sym (c .before .before .before .before .self-fid .ensures)) ∙ sym (c .before .before .before .is-good .ensures) ∙ not-false _ (c .before .before .if2 .left)) (omega arith)
+    object-index (now (a .row)) (ap goodFid (sym (c .before .before .before .before .self-fid .ensures)) ∙ sym (c .before .before .before .good-object .ensures) ∙ not-false _ (c .before .before .if2 .left)) (omega arith)
     ∙ when-used goodObject (now (a .row)) (sym (c .before .before .before .before .before .before .is-used .ensures) ∙ not-false _ (c .before .before .before .before .before .if1 .left))
 
 returns-4 : tie.Need-returns-4
+unfolding goodObjectFid
 returns-4 c =
     let a = c .before .before .before .before .before .before .before .before .before .before .args in
-    object-claim (now (a .row)) (ap goodFid (sym (c .before .before .before .before .before .before .self-fid .ensures)) ∙ sym (c .before .before .before .before .before .is-good .ensures) ∙ not-false _ (c .before .before .before .before .if2 .left)) (omega arith)
+    object-claim (now (a .row)) (ap goodFid (sym (c .before .before .before .before .before .before .self-fid .ensures)) ∙ sym (c .before .before .before .before .before .good-object .ensures) ∙ not-false _ (c .before .before .before .before .if2 .left)) (omega arith)
     (sym (c .before .good-claim .ensures) ∙ not-true _ (c .if4 .taken))
     ∙ when-used goodObject (now (a .row)) (sym (c .before .before .before .before .before .before .before .before .is-used .ensures) ∙ not-false _ (c .before .before .before .before .before .before .before .if1 .left))
 
 returns-5 : tie.Need-returns-5
+unfolding goodObjectFid
 returns-5 c =
     let a = c .before .before .before .before .before .before .before .before .before .before .before .args in
     c .fresh-claims .ensures
-    ∙ object-fresh (now (a .row)) (ap goodFid (sym (c .before .before .before .before .before .before .before .self-fid .ensures)) ∙ sym (c .before .before .before .before .before .before .is-good .ensures) ∙ not-false _ (c .before .before .before .before .before .if2 .left)) (omega arith)
+    ∙ object-fresh (now (a .row)) (ap goodFid (sym (c .before .before .before .before .before .before .before .self-fid .ensures)) ∙ sym (c .before .before .before .before .before .before .good-object .ensures) ∙ not-false _ (c .before .before .before .before .before .if2 .left)) (omega arith)
     (sym (c .before .before .good-claim .ensures) ∙ not-false _ (c .before .if4 .left))
     ∙ when-used goodObject (now (a .row)) (sym (c .before .before .before .before .before .before .before .before .before .is-used .ensures) ∙ not-false _ (c .before .before .before .before .before .before .before .before .if1 .left))
 
