@@ -25,7 +25,7 @@ module _ (T : Tables) (p : Position) where
   pub end-left : (n : ℕ) → isEnd p ≡ true → positionsFrom n T p ≡ []
   unfolding positionsFrom
   end-left zero e = refl
-  end-left (suc n) e = rw e
+  end-left (suc n) e = rw e refl
 
   one-left : (m d : ℕ) → d < m → isEnd p ≡ false → positionsFrom (m - d) T p ≡ p ∷ positionsFrom (m - (d + 1)) T (next T p)
   unfolding positionsFrom

@@ -2,7 +2,7 @@
 use Prim.Native.Nat.{ℕ, zero, suc, _+_, _<_}
 use native.Mathlib.Omega.{arith}
 use native.Mathlib.Nat.{zero-add, add-zero}
-use mathlib.Core.Path.{_≡_, refl, _∙_}
+use mathlib.Core.Path.{_≡_, refl, sym, subst, _∙_}
 use mathlib.Core.Bool.{Bool, true, false, cond}
 use mathlib.Core.List.{List, [], _∷_}
 use lib.ListN.{length, getD, set, replicate, length-set}
@@ -17,7 +17,7 @@ use Rattle.rules.specs.declared.Repair.the-variants.{OfSelf, OfMultiple,
 use Rattle.rules.specs.declared.Counts.{Counts}
 use Rattle.rules.specs.Settings.{Settings}
 use Rattle.rules.specs.Steps.{stepAt}
-use Rattle.rules.specs.Runs.{repairNumber, repairKinds, noCounts, countOf, sums, addCounts, halt, after, onStep, run}
+use Rattle.rules.specs.Runs.{repairNumber, repairKinds, noCounts, countOf, sums, addCounts, Run, halt, after, onStep, run}
 
 -- ## Sums
 
@@ -116,6 +116,11 @@ sum-whole x y v w = sums-length (x .of) (y .of) (omega arith) ∙ w
 
 -- ## Runs
 
+-- a step that couldn't be made is none of those done, and counts nothing
+stop-none : (T : Tables) (p : Position) (go : Tables → Run) (a : ℕ) → (onStep T p go (stops a) .report .steps ≡ 0) × (onStep T p go (stops a) .report .counts ≡ noCounts)
+unfolding onStep halt after
+stop-none T p go a = (refl, refl)
+
 pub run-whole : (settings : Settings) (n : ℕ) (T : Tables) (p : Position) → Whole (run settings n T p .report .counts)
 unfolding run halt onStep after
 run-whole settings zero T p = none-whole
@@ -124,6 +129,6 @@ run-whole settings (suc n) T p = go (isEnd p) (stepAt settings T p) (λ S. run-w
     go : (e : Bool) (u : Step) → ((S : Tables) → Whole (run settings n S (next S p) .report .counts)) →
         Whole (cond e (halt T p 0) (onStep T p (λ S. run settings n S (next S p)) u) .report .counts)
     go true u ih = none-whole
-    go false (stops a) ih = none-whole
+    go false (stops a) ih = subst Whole (sym (stop-none T p (λ S. run settings n S (next S p)) a .1)) none-whole
     go false rests ih = sum-whole noCounts _ none-whole (ih T)
     go false (repairs c a b d) ih = sum-whole (countOf c) _ (one-whole c) (ih (applyWrites a b d T))
