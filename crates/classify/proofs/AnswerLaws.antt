@@ -1,12 +1,12 @@
 -- The class at a position, and the refusals, case by case as the code asks. Assumes nothing.
 use mathlib.Core.Path.{_≡_, sym, ap, _∙_}
-use mathlib.Core.List.{List, []}
+use mathlib.Core.List.{List}
 use mathlib.Core.Bool.{true, false}
 use Prim.Native.Nat.{ℕ, suc, _/_, _<_}
 use native.Mathlib.Decide.{ℕ-discrete}
 use borrow.Author.Tests.{eq-eqb, ne-eqb}
 use lib.ListN.{length}
-use Rattle.tables.specs.Bytes.{parentSize, objectSize, parse}
+use Rattle.tables.specs.Bytes.{parentSize, objectSize, parse, parseParents}
 use Rattle.tables.specs.Positions.{rowAt, isPosition, isEnd}
 use Rattle.tables.specs.Check.{tablesNumber, Sound}
 use Rattle.tables.specs.declared.Position.{Position}
@@ -19,21 +19,20 @@ use Rattle.rules.specs.declared.HeaderClass.{HeaderClass}
 use Rattle.rules.specs.declared.SlotClass.{SlotClass}
 use Rattle.rules.specs.declared.ObjectClass.{ObjectClass}
 use Rattle.rules.proofs.Tests.{clash}
-use Rattle.search.proofs.AloneLaws.{row-alone}
 use Rattle.classify.specs.declared.ClassAnswer.the-variants.{NoClass, ClassIs}
 use Rattle.classify.specs.Answer.{hasClass, classAnswer}
 
 -- ## The row of a position lies in its table
 
 pub parent-there : (p o : List ℕ) (at : Position) → isPosition (parse p o) at ≡ true → at .stage ≡ 1 → at .row < length p / parentSize
-parent-there p o at h e = one-row p o (at .row) (at .part) (position-one (parse p o) at e ∙ h)
+parent-there p o at h e = one-row p (at .row) (at .part) (position-one (parse p o) at e ∙ h)
 
 pub object-there : (p o : List ℕ) (at : Position) → isPosition (parse p o) at ≡ true → isEnd at ≡ false → (at .stage ≡ 1 → ⊥) →
     at .row < length o / objectSize
 object-there p o at h n d = go (ℕ-discrete (at .stage) 2)
   where
     go : Dec (at .stage ≡ 2) → at .row < length o / objectSize
-    go (yes e) = two-row p o (at .row) (at .part) (position-two (parse p o) at e ∙ h)
+    go (yes e) = two-row o (at .row) (at .part) (position-two (parse p o) at e ∙ h)
     go (no m) = clash (position-end (parse p o) at d m ∙ h) n
 
 -- ## The class
@@ -43,9 +42,9 @@ module _ (p o : List ℕ) (at : Position) where
   unfolding classAt
   at-object d c e = rw (ne-eqb (at .stage) 1 d, e)
 
-  pub at-header : at .stage ≡ 1 → at .part ≡ 0 → (c : HeaderClass) → c ≡ headerClass (rowAt (parse p []) (at .row)) → OfHeader c ≡ classAt (parse p o) at
+  pub at-header : at .stage ≡ 1 → at .part ≡ 0 → (c : HeaderClass) → c ≡ headerClass (rowAt (parseParents p) (at .row)) → OfHeader c ≡ classAt (parse p o) at
   unfolding classAt partClass
-  at-header h k c e = rw (eq-eqb (at .stage) 1 h, k) (ap (λ (x : HeaderClass). OfHeader x) (e ∙ ap headerClass (row-alone p o (at .row))))
+  at-header h k c e = rw (eq-eqb (at .stage) 1 h, k) (ap (λ (x : HeaderClass). OfHeader x) e)
 
   pub at-slot : at .stage ≡ 1 → (j : ℕ) → at .part ≡ suc j → (c : SlotClass) → c ≡ slotClass (parse p o) (at .row) j → OfSlot c ≡ classAt (parse p o) at
   unfolding classAt partClass

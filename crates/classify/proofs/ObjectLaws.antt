@@ -1,11 +1,11 @@
 -- The class of an object row, case by case as the code asks. Assumes nothing.
 use mathlib.Core.Path.{_≡_, sym, ap, _∙_}
-use mathlib.Core.List.{List, []}
+use mathlib.Core.List.{List}
 use mathlib.Core.Bool.{Bool, true, false}
 use Prim.Native.Nat.{ℕ, _*_, _/_, _<_}
 use lib.ListN.{length, take, drop}
 use Rattle.tables.specs.Records.{ObjectRow, unused, used, Tables}
-use Rattle.tables.specs.Bytes.{objectSize, isUsed, decodeObject, parseObject, parse}
+use Rattle.tables.specs.Bytes.{objectSize, isUsed, decodeObject, parseObject, parse, parseParents, parseObjects}
 use Rattle.tables.specs.declared.Object.{Object}
 use Rattle.tables.specs.declared.Claim.{Claim}
 use Rattle.tables.specs.declared.Claim.the-variants.{Claims}
@@ -19,7 +19,6 @@ use Rattle.rules.specs.declared.Way.{Way}
 use Rattle.rules.specs.declared.ObjectClass.{ObjectClass}
 use Rattle.rules.specs.declared.ObjectClass.the-variants.{UNUSED, KEPT, EMPTY, ORPHAN, CONFLICT}
 use Rattle.search.proofs.ParsedRows.{parsed-object, object-used, object-unused}
-use Rattle.search.proofs.AloneLaws.{keeper-alone}
 use Rattle.search.proofs.KeeperLaws.{named-kept}
 use Rattle.tables.specs.declared.Place.{Place}
 
@@ -45,19 +44,19 @@ module _ (T : Tables) (fresh : Bool) (claim : Claim) (home : Place) (e : claim �
 -- ## A row
 
 module _ (p o : List ℕ) (i : ℕ) (row : List ℕ) (h : i < length o / objectSize) (at : row ≡ take objectSize (drop (objectSize * i) o)) where
-  row-is : (x : ObjectRow) → parseObject row ≡ x → objectAt (parse p o) i ≡ x
-  row-is x e = parsed-object p o i h ∙ ap parseObject (sym at) ∙ e
+  row-is : (x : ObjectRow) → parseObject row ≡ x → objectAt (parseObjects o) i ≡ x
+  row-is x e = parsed-object o i h ∙ ap parseObject (sym at) ∙ e
 
   pub class-unused : isUsed row ≡ false → UNUSED ≡ objectClass (parse p o) i
   unfolding objectClass objectClassOf
   class-unused u = rw (row-is (unused (drop 1 row)) (object-unused row u))
 
-  module _ (u : isUsed row ≡ true) (x : Object) (q : x ≡ decodeObject row) (k : Found) (t : k ≡ keeperBy (parse p []) (x .fid) (x .claim))
+  module _ (u : isUsed row ≡ true) (x : Object) (q : x ≡ decodeObject row) (k : Found) (t : k ≡ keeperBy (parseParents p) (x .fid) (x .claim))
       (b : Bool) (d : b ≡ isSomewhere k) where
-    named-is : named (parse p o) (x .fid) ≡ b
-    named-is = sym (d ∙ ap isSomewhere (t ∙ keeper-alone p o (x .fid) (x .claim)) ∙ named-kept (parse p o) (x .fid) (x .claim))
+    named-is : named (parseParents p) (x .fid) ≡ b
+    named-is = sym (d ∙ ap isSomewhere t ∙ named-kept (parseParents p) (x .fid) (x .claim))
 
-    used-is : objectAt (parse p o) i ≡ used x
+    used-is : objectAt (parseObjects o) i ≡ used x
     used-is = row-is (used (decodeObject row)) (object-used row u) ∙ ap (λ (y : Object). used y) (sym q)
 
     pub class-kept : b ≡ true → KEPT ≡ objectClass (parse p o) i

@@ -1,6 +1,6 @@
 -- The class of a slot, case by case as the code asks. Assumes nothing.
 use mathlib.Core.Path.{_≡_, refl, sym, ap, _∙_}
-use mathlib.Core.List.{List, []}
+use mathlib.Core.List.{List}
 use mathlib.Core.Bool.{Bool, true, false}
 use Prim.Native.Nat.{ℕ, _*_, _/_, _<_}
 use native.Mathlib.Omega.{arith}
@@ -10,7 +10,7 @@ use Rattle.fid.specs.declared.OstFid.{OstFid}
 use Rattle.layout.specs.declared.Slot.{Slot}
 use Rattle.layout.specs.declared.Slot.the-variants.{Hole, Names}
 use Rattle.tables.specs.Records.{ParentRow, used}
-use Rattle.tables.specs.Bytes.{parentSize, isUsed, decodeParent, parseParent, parse}
+use Rattle.tables.specs.Bytes.{parentSize, isUsed, decodeParent, parseParent, parse, parseParents, parseObjects}
 use Rattle.tables.specs.Positions.{slotsOf, rowAt}
 use Rattle.tables.proofs.PositionLaws.{parsed-row}
 use Rattle.tables.specs.declared.Owner.{Owner}
@@ -23,18 +23,17 @@ use Rattle.rules.specs.declared.Lookup.{Lookup}
 use Rattle.rules.specs.declared.SlotClass.{SlotClass}
 use Rattle.rules.specs.declared.SlotClass.the-variants.{HOLE, MULTIPLE}
 use Rattle.search.proofs.ParsedRows.{parent-used, parent-unused}
-use Rattle.search.proofs.AloneLaws.{slot-alone, keeper-alone, object-of-alone}
 use Rattle.search.proofs.KeeperLaws.{keeper-is}
 use Rattle.rules.specs.Places.{placeAt}
 
 -- a row with a slot that names an object is used
 pub names-used : (p row : List ℕ) (r j : ℕ) (f : OstFid) (n i : ℕ) → r < length p / parentSize → row ≡ take parentSize (drop (parentSize * r) p) →
-    Names f n i ≡ slotAt (parse p []) r j → isUsed row ≡ true
+    Names f n i ≡ slotAt (parseParents p) r j → isUsed row ≡ true
 unfolding slotAt slotsOf
 names-used p row r j f n i h at e = go (isUsed row) refl
   where
     read : Names f n i ≡ getD (slotsOf (parseParent row)) j Hole
-    read = e ∙ ap (λ (w : ParentRow). getD (slotsOf w) j Hole) (parsed-row p [] r h ∙ ap parseParent (sym at))
+    read = e ∙ ap (λ (w : ParentRow). getD (slotsOf w) j Hole) (parsed-row p r h ∙ ap parseParent (sym at))
 
     go : (b : Bool) → isUsed row ≡ b → b ≡ true
     go true u = refl
@@ -43,26 +42,19 @@ names-used p row r j f n i h at e = go (isUsed row) refl
         let z : _≡_ {A = ℕ} 0 1 = cc in
         absurd (omega arith)
 
-module _ (p o : List ℕ) (r j : ℕ) (s : Slot) (e : s ≡ slotAt (parse p []) r j) where
-  slot-is : slotAt (parse p o) r j ≡ s
-  slot-is = sym (e ∙ slot-alone p o r j)
-
+module _ (p o : List ℕ) (r j : ℕ) (s : Slot) (e : s ≡ slotAt (parseParents p) r j) where
   pub class-hole : s ≡ Hole → HOLE ≡ slotClass (parse p o) r j
   unfolding slotClass slotClassOf
-  class-hole h = rw (slot-is, h)
+  class-hole h = rw (← e, h)
 
-  module _ (f : OstFid) (n i : ℕ) (h : s ≡ Names f n i) (found : Lookup) (q : found ≡ objectOf (parse [] o) f) (c : Claim) (m : c ≡ claimIn found)
-      (k : Found) (t : k ≡ keeperBy (parse p []) f c) (b : Bool) (d : b ≡ isPlace k r j) where
-    object-is : found ≡ objectOf (parse p o) f
-    object-is = q ∙ object-of-alone p o f
-
+  module _ (f : OstFid) (n i : ℕ) (h : s ≡ Names f n i) (found : Lookup) (q : found ≡ objectOf (parseObjects o) f) (c : Claim) (m : c ≡ claimIn found)
+      (k : Found) (t : k ≡ keeperBy (parseParents p) f c) (b : Bool) (d : b ≡ isPlace k r j) where
     place-is : isPlace (keeper (parse p o) f) r j ≡ b
-    place-is =
-        sym (d ∙ ap (λ (a : Found). isPlace a r j) (t ∙ keeper-alone p o f c ∙ keeper-is (parse p o) f c (m ∙ ap claimIn object-is)))
+    place-is = sym (d ∙ ap (λ (a : Found). isPlace a r j) (t ∙ keeper-is (parse p o) f c (m ∙ ap claimIn q)))
 
     pub class-multiple : b ≡ false → MULTIPLE ≡ slotClass (parse p o) r j
     unfolding slotClass slotClassOf
-    class-multiple z = rw (slot-is, h, place-is, z)
+    class-multiple z = rw (← e, h, place-is, z)
 
     pub class-keeper : b ≡ true → (row : List ℕ) (own : MdtFid) (owner : Owner) (a : SlotClass) → r < length p / parentSize →
         row ≡ take parentSize (drop (parentSize * r) p) → own ≡ decodeParent row .self → owner ≡ decodeParent row .owner →
@@ -70,5 +62,5 @@ module _ (p o : List ℕ) (r j : ℕ) (s : Slot) (e : s ≡ slotAt (parse p []) 
     unfolding slotClass slotClassOf selfOf ownerOf
     class-keeper z row own owner a l at x y w =
         let u : isUsed row ≡ true = names-used p row r j f n i l at (sym h ∙ e) in
-        let v : rowAt (parse p o) r ≡ used (decodeParent row) = parsed-row p o r l ∙ ap parseParent (sym at) ∙ parent-used row u in
-        rw (slot-is, h, place-is, z, v, ← x, ← y, ← object-is) w
+        let v : rowAt (parseParents p) r ≡ used (decodeParent row) = parsed-row p r l ∙ ap parseParent (sym at) ∙ parent-used row u in
+        rw (← e, h, place-is, z, v, ← x, ← y, ← q) w

@@ -5,12 +5,11 @@ use rules::HeaderClass;
 use tables::rows;
 use tables::rows::PARENT_SIZE;
 ghost use mathlib.Core.Path.{_≡_};
-ghost use mathlib.Core.List.{[]};
 ghost use mathlib.Core.Bool.{true, _&&_};
 ghost use Prim.Native.Nat.{_/_, _<_};
 ghost use lib.ListN.{length};
 ghost use lib.Dec.{eqb};
-ghost use Rattle.tables.specs.Bytes.{parentSize, parse};
+ghost use Rattle.tables.specs.Bytes.{parentSize, parseParents};
 ghost use Rattle.tables.specs.Positions.{rowAt};
 ghost use Rattle.tables.specs.Check.{goodLayouts};
 ghost use Rattle.rules.specs.Rows.{holesIn};
@@ -30,7 +29,7 @@ fn own_right(h: Header, f: MdtFid) -> bool
 // The class of the header of parent row r.
 pub fn header_class(parents: &[u8], r: usize) -> HeaderClass
     requires { ⌜ (goodLayouts (now parents) ≡ true) × (r < length (now parents) / parentSize) ⌝ }
-    ensures { λ c. ⌜ c ≡ headerClass (rowAt (parse (now (parents .entry)) []) r) ⌝ }
+    ensures { λ c. ⌜ c ≡ headerClass (rowAt (parseParents (now (parents .entry))) r) ⌝ }
 {
     let row = rows::row_at(parents, PARENT_SIZE, r);
     if !rows::is_used(row) {
@@ -47,7 +46,7 @@ pub fn header_class(parents: &[u8], r: usize) -> HeaderClass
 // Whether the layout of parent row r has the hole pattern.
 pub fn holes_in(parents: &[u8], r: usize) -> bool
     requires { ⌜ (goodLayouts (now parents) ≡ true) × (r < length (now parents) / parentSize) ⌝ }
-    ensures { λ b. ⌜ b ≡ holesIn (rowAt (parse (now (parents .entry)) []) r) ⌝ }
+    ensures { λ b. ⌜ b ≡ holesIn (rowAt (parseParents (now (parents .entry))) r) ⌝ }
 {
     let row = rows::row_at(parents, PARENT_SIZE, r);
     if !rows::is_used(row) {

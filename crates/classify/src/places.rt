@@ -15,7 +15,7 @@ ghost use mathlib.Core.Path.{_≡_};
 ghost use mathlib.Core.Bool.{true};
 ghost use Prim.Native.Nat.{_/_, _<_};
 ghost use lib.ListN.{length};
-ghost use Rattle.tables.specs.Bytes.{parentSize, parse};
+ghost use Rattle.tables.specs.Bytes.{parentSize, parse, parseParents, parseObjects};
 ghost use Rattle.tables.specs.Check.{goodLayouts};
 ghost use Rattle.rules.specs.Rows.{objectOf};
 ghost use Rattle.rules.specs.Places.{placeAt, claims, takeable, slotWay, rowWay, way, isWay};
@@ -40,7 +40,7 @@ pub fn claim_is(claim: Claim, f: MdtFid, i: usize) -> bool
 // Whether object g, named by slot j of row r, is present and fresh, claims this very place and is named by no other slot.
 fn takeable(parents: &[u8], objects: &[u8], place: Place, g: OstFid, r: usize, j: usize) -> bool
     requires { ⌜ goodLayouts (now parents) ≡ true ⌝ }
-    ensures { λ b. ⌜ b ≡ takeable (parse (now (parents .entry)) (now (objects .entry))) place g r j (objectOf (parse (now (parents .entry)) (now (objects .entry))) g) ⌝ }
+    ensures { λ b. ⌜ b ≡ takeable (parseParents (now (parents .entry))) place g r j (objectOf (parseObjects (now (objects .entry))) g) ⌝ }
 {
     let found = search::objects::lookup(objects, g);
     match found {

@@ -1,6 +1,6 @@
 -- Object rows decided, case by case as the code does it. Assumes nothing.
 use mathlib.Core.Path.{_≡_, refl, sym, ap, _∙_}
-use mathlib.Core.List.{List, []}
+use mathlib.Core.List.{List}
 use mathlib.Core.Bool.{Bool, true, false}
 use Prim.Native.Nat.{ℕ, _*_, _/_, _<_}
 use native.Mathlib.Omega.{arith}
@@ -8,8 +8,8 @@ use lib.ListN.{length, take, drop}
 use Rattle.fid.specs.declared.OstFid.{OstFid}
 use Rattle.layout.specs.declared.Slot.{Slot}
 use Rattle.layout.specs.declared.Slot.the-variants.{Hole, Names}
-use Rattle.tables.specs.Records.{ObjectRow, unused, used, Tables}
-use Rattle.tables.specs.Bytes.{parentSize, objectSize, isUsed, decodeParent, decodeObject, parseParent, parse}
+use Rattle.tables.specs.Records.{ObjectRow, unused, used}
+use Rattle.tables.specs.Bytes.{parentSize, objectSize, isUsed, decodeParent, decodeObject, parseParent, parse, parseParents, parseObjects}
 use Rattle.tables.specs.Check.{Sound}
 use Rattle.tables.specs.declared.Owner.{Owner}
 use Rattle.tables.specs.declared.Claim.the-variants.{Unclaimed, Claims}
@@ -27,7 +27,6 @@ use Rattle.rules.specs.declared.ObjectClass.{ObjectClass}
 use Rattle.rules.specs.declared.ObjectClass.the-variants.{UNUSED, KEPT, SPARE, EMPTY, ORPHAN, CONFLICT}
 use Rattle.rules.specs.declared.Repair.the-variants.{OfEmpty, OfOrphan}
 use Rattle.search.proofs.ParsedRows.{parsed-object, object-used, object-unused, parent-used}
-use Rattle.search.proofs.AloneLaws.{free-parent-alone, object-row-alone, slot-alone}
 use Rattle.stores.specs.UsedRow.{rowBytes, UsedAt}
 use Rattle.writes.specs.Plan.{Decides}
 use Rattle.rules.specs.declared.Write.{Write}
@@ -49,16 +48,16 @@ pub owner-other : (k : ℕ) (x : Object) (w : Owner) → sameOwner (x .owner) w 
 unfolding ownerWrite
 owner-other k x w e = rw e
 
-pub drop-hole : (T : Tables) (s : Slot) → s ≡ Hole → Nothing ≡ destroyNamed T s
+pub drop-hole : (os : List ObjectRow) (s : Slot) → s ≡ Hole → Nothing ≡ destroyNamed os s
 unfolding destroyNamed
-drop-hole T s e = rw e
+drop-hole os s e = rw e
 
-module _ (T : Tables) (s : Slot) (g : OstFid) (n i : ℕ) (e : s ≡ Names g n i) (d : Row) (q : d ≡ objectRow T g) where
-  pub drop-none : d ≡ NoRow → Nothing ≡ destroyNamed T s
+module _ (os : List ObjectRow) (s : Slot) (g : OstFid) (n i : ℕ) (e : s ≡ Names g n i) (d : Row) (q : d ≡ objectRow os g) where
+  pub drop-none : d ≡ NoRow → Nothing ≡ destroyNamed os s
   unfolding destroyNamed destroyAt
   drop-none t = rw (e, ← q, t)
 
-  pub drop-row : (m : ℕ) → d ≡ RowIs m → Destroy m ≡ destroyNamed T s
+  pub drop-row : (m : ℕ) → d ≡ RowIs m → Destroy m ≡ destroyNamed os s
   unfolding destroyNamed destroyAt
   drop-row m t = rw (e, ← q, t)
 
@@ -68,48 +67,40 @@ pub owner-read : (p : List ℕ) (r : ℕ) → UsedAt p r → (row : List ℕ) �
 unfolding rowBytes ownerOf
 owner-read p r u row e w q = q ∙ ap (λ (l : List ℕ). decodeParent l .owner) e ∙ sym (ap ownerOf (parent-used (rowBytes p r) (u .row .used)))
 
--- ## The object that a slot names
-
-named-alone : (p o : List ℕ) (s : Slot) → destroyNamed (parse [] o) s ≡ destroyNamed (parse p o) s
-unfolding destroyNamed
-named-alone p o Hole = refl
-named-alone p o (Names g n i) = ap destroyAt (object-row-alone p o g)
-
 -- ## Adoptions
 
 module _ (p o : List ℕ) (h : Sound p o) (k : ℕ) (x : Object) (home : Place) (s : Slot) (se : s ≡ slotFor x) where
-  pub new-row : (r : ℕ) → freeParent (parse p []) ≡ RowIs r →
-      Decides p o (Repairs OfOrphan (Make r (home .file) (x .owner) (home .index) s) Nothing Nothing) (λ T. makeParent x home (freeParent T))
+  pub new-row : (r : ℕ) → freeParent (parseParents p) ≡ RowIs r →
+      Decides p o (Repairs OfOrphan (Make r (home .file) (x .owner) (home .index) s) Nothing Nothing) (λ T. makeParent x home (freeParent (T .parents)))
   unfolding Decides makeParent
-  new-row r e = rw (← free-parent-alone p o, e, se)
+  new-row r e = rw (e, se)
 
   module _ (w : Way) (e : w ≡ way (parse p o) home) (r : ℕ) (u : Write) (ue : u ≡ ownerWrite k x (ownerOf (parseParent (rowBytes p r)))) where
     pub way-fill : w ≡ Fill r → Decides p o (Repairs OfOrphan (PutSlot r (home .index) s) u Nothing) (λ T. adoptBy T k x home (way T home))
     unfolding Decides adoptBy
-    way-fill q = let a = fill-place p o h home w r e q in rw (← e, q, se, ue, row-is p o r (row-inside p r (a .used)))
+    way-fill q = let a = fill-place p o h home w r e q in rw (← e, q, se, ue, row-is p r (row-inside p r (a .used)))
 
     pub way-grow : w ≡ Grow r → Decides p o (Repairs OfOrphan (GrowSlot r (home .index) s) u Nothing) (λ T. adoptBy T k x home (way T home))
     unfolding Decides adoptBy
-    way-grow q = let a = grow-past p o h home w r e q in rw (← e, q, se, ue, row-is p o r (row-inside p r (a .used)))
+    way-grow q = let a = grow-past p o h home w r e q in rw (← e, q, se, ue, row-is p r (row-inside p r (a .used)))
 
-    pub way-take : w ≡ Take r → (t : Slot) → t ≡ slotAt (parse p []) r (home .index) → (v : Write) → v ≡ destroyNamed (parse [] o) t →
+    pub way-take : w ≡ Take r → (t : Slot) → t ≡ slotAt (parseParents p) r (home .index) → (v : Write) → v ≡ destroyNamed (parseObjects o) t →
         Decides p o (Repairs OfOrphan (PutSlot r (home .index) s) u v) (λ T. adoptBy T k x home (way T home))
     unfolding Decides adoptBy
     way-take q t g v d =
         let a = take-place p o h home w r e q in
-        let j : slotAt (parse p o) r (home .index) ≡ t = sym (g ∙ slot-alone p o r (home .index)) in
-        rw (← e, q, se, ue, d, named-alone p o t, j, row-is p o r (row-inside p r (a .used)))
+        rw (← e, q, se, ue, d, ← g, row-is p r (row-inside p r (a .used)))
 
-pub new-none : (p o : List ℕ) (k : ℕ) (x : Object) (home : Place) → freeParent (parse p []) ≡ NoRow → Decides p o (Stops 23) (λ T. makeParent x home (freeParent T))
+pub new-none : (p o : List ℕ) (k : ℕ) (x : Object) (home : Place) → freeParent (parseParents p) ≡ NoRow → Decides p o (Stops 23) (λ T. makeParent x home (freeParent (T .parents)))
 unfolding makeParent
-new-none p o k x home e = decides-stop p o _ 23 (rw (← free-parent-alone p o, e))
+new-none p o k x home e = decides-stop p o _ 23 (rw e)
 
 module _ (p o : List ℕ) (k : ℕ) (x : Object) (home : Place) (w : Way) (e : w ≡ way (parse p o) home) where
   pub way-none : w ≡ NoWay → adoptBy (parse p o) k x home (way (parse p o) home) ≡ Rests
   unfolding adoptBy
   way-none q = rw (← e, q)
 
-  pub way-new : w ≡ NewParent → makeParent x home (freeParent (parse p o)) ≡ adoptBy (parse p o) k x home (way (parse p o) home)
+  pub way-new : w ≡ NewParent → makeParent x home (freeParent (parseParents p)) ≡ adoptBy (parse p o) k x home (way (parse p o) home)
   unfolding adoptBy
   way-new q = rw (← e, q)
 
@@ -131,9 +122,9 @@ module _ (p o : List ℕ) (k : ℕ) (row : List ℕ) (at : row ≡ take objectSi
 -- ## An object row by its class
 
 module _ (p o : List ℕ) (settings : Settings) (k : ℕ) where
-  pub object-kept : adopts (settings .policy) ≡ false → objectStep settings (parse p o) k (objectAt (parse p o) k) ≡ Rests
+  pub object-kept : adopts (settings .policy) ≡ false → objectStep settings (parse p o) k (objectAt (parseObjects o) k) ≡ Rests
   unfolding objectStep repairObject
-  object-kept q = go (objectAt (parse p o) k)
+  object-kept q = go (objectAt (parseObjects o) k)
     where
       by : (x : Object) (d : ObjectClass) → repairObject settings (parse p o) k x d ≡ Rests
       by x UNUSED = refl
@@ -149,48 +140,48 @@ module _ (p o : List ℕ) (settings : Settings) (k : ℕ) where
 
   module _ (d : ObjectClass) (e : d ≡ objectClass (parse p o) k) where
     -- classes without a repair
-    object-rests : ((x : Object) → repairObject settings (parse p o) k x d ≡ Rests) → objectStep settings (parse p o) k (objectAt (parse p o) k) ≡ Rests
+    object-rests : ((x : Object) → repairObject settings (parse p o) k x d ≡ Rests) → objectStep settings (parse p o) k (objectAt (parseObjects o) k) ≡ Rests
     unfolding objectStep
-    object-rests q = go (objectAt (parse p o) k)
+    object-rests q = go (objectAt (parseObjects o) k)
       where
         go : (a : ObjectRow) → objectStep settings (parse p o) k a ≡ Rests
         go (unused l) = refl
         go (used x) = ap (repairObject settings (parse p o) k x) (sym e) ∙ q x
 
-    pub object-unused-row : d ≡ UNUSED → objectStep settings (parse p o) k (objectAt (parse p o) k) ≡ Rests
+    pub object-unused-row : d ≡ UNUSED → objectStep settings (parse p o) k (objectAt (parseObjects o) k) ≡ Rests
     unfolding repairObject
     object-unused-row q = object-rests (λ x. rw q)
 
-    pub object-named : d ≡ KEPT → objectStep settings (parse p o) k (objectAt (parse p o) k) ≡ Rests
+    pub object-named : d ≡ KEPT → objectStep settings (parse p o) k (objectAt (parseObjects o) k) ≡ Rests
     unfolding repairObject
     object-named q = object-rests (λ x. rw q)
 
-    pub object-spare : d ≡ SPARE → objectStep settings (parse p o) k (objectAt (parse p o) k) ≡ Rests
+    pub object-spare : d ≡ SPARE → objectStep settings (parse p o) k (objectAt (parseObjects o) k) ≡ Rests
     unfolding repairObject
     object-spare q = object-rests (λ x. rw q)
 
-    pub object-conflict : d ≡ CONFLICT → objectStep settings (parse p o) k (objectAt (parse p o) k) ≡ Rests
+    pub object-conflict : d ≡ CONFLICT → objectStep settings (parse p o) k (objectAt (parseObjects o) k) ≡ Rests
     unfolding repairObject
     object-conflict q = object-rests (λ x. rw q)
 
     module _ (n : k < length o / objectSize) where
       -- a row with another class than UNUSED has an object
-      class-object : (d ≡ UNUSED → ⊥) → objectAt (parse p o) k ≡ used (rowObject o k)
+      class-object : (d ≡ UNUSED → ⊥) → objectAt (parseObjects o) k ≡ used (rowObject o k)
       unfolding objectClass objectClassOf rowObject
       class-object q = go (isUsed (take objectSize (drop (objectSize * k) o))) refl
         where
-          go : (a : Bool) → isUsed (take objectSize (drop (objectSize * k) o)) ≡ a → objectAt (parse p o) k ≡ used (decodeObject (take objectSize (drop (objectSize * k) o)))
-          go true u = parsed-object p o k n ∙ object-used (take objectSize (drop (objectSize * k) o)) u
-          go false u = absurd (q (e ∙ ap (objectClassOf (parse p o)) (parsed-object p o k n ∙ object-unused (take objectSize (drop (objectSize * k) o)) u)))
+          go : (a : Bool) → isUsed (take objectSize (drop (objectSize * k) o)) ≡ a → objectAt (parseObjects o) k ≡ used (decodeObject (take objectSize (drop (objectSize * k) o)))
+          go true u = parsed-object o k n ∙ object-used (take objectSize (drop (objectSize * k) o)) u
+          go false u = absurd (q (e ∙ ap (objectClassOf (parse p o)) (parsed-object o k n ∙ object-unused (take objectSize (drop (objectSize * k) o)) u)))
 
-      pub object-empty : d ≡ EMPTY → adopts (settings .policy) ≡ true → Decides p o (Repairs OfEmpty (Destroy k) Nothing Nothing) (λ T. objectStep settings T k (objectAt T k))
+      pub object-empty : d ≡ EMPTY → adopts (settings .policy) ≡ true → Decides p o (Repairs OfEmpty (Destroy k) Nothing Nothing) (λ T. objectStep settings T k (objectAt (T .objects) k))
       unfolding Decides objectStep repairObject
       object-empty q a = rw (class-object other, ← e, q, a)
         where
           other : d ≡ UNUSED → ⊥
           other u = let z : _≡_ {A = ℕ} 0 1 = cc in absurd (omega arith)
 
-      pub object-orphan : d ≡ ORPHAN → adopts (settings .policy) ≡ true → adopt (parse p o) k (rowObject o k) (rowObject o k .claim) ≡ objectStep settings (parse p o) k (objectAt (parse p o) k)
+      pub object-orphan : d ≡ ORPHAN → adopts (settings .policy) ≡ true → adopt (parse p o) k (rowObject o k) (rowObject o k .claim) ≡ objectStep settings (parse p o) k (objectAt (parseObjects o) k)
       unfolding objectStep repairObject
       object-orphan q a = rw (class-object other, ← e, q, a)
         where

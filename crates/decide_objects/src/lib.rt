@@ -17,11 +17,10 @@ use tables::rows;
 use tables::rows::OBJECT_SIZE;
 use tables::rows::PARENT_SIZE;
 ghost use mathlib.Core.Path.{_≡_};
-ghost use mathlib.Core.List.{[]};
 ghost use Prim.Native.Nat.{_/_, _<_};
 ghost use lib.ListN.{length};
 ghost use Rattle.layout.specs.Layout.{maxSlots};
-ghost use Rattle.tables.specs.Bytes.{objectSize, parseParent, parse};
+ghost use Rattle.tables.specs.Bytes.{objectSize, parseParent, parseObjects};
 ghost use Rattle.tables.specs.Check.{Sound};
 ghost use Rattle.rules.specs.Rows.{ownerOf, freeParent, objectAt};
 ghost use Rattle.rules.specs.Places.{way};
@@ -77,7 +76,7 @@ fn owner_write(k: usize, x: Object, w: Owner) -> Write
 
 // The object that a slot names is destroyed.
 fn drop_named(objects: &[u8], s: Slot) -> Write
-    ensures { λ a. ⌜ a ≡ destroyNamed (parse [] (now (objects .entry))) s ⌝ }
+    ensures { λ a. ⌜ a ≡ destroyNamed (parseObjects (now (objects .entry))) s ⌝ }
 {
     match s {
         Slot::Hole => Write::Nothing,
@@ -94,7 +93,7 @@ fn drop_named(objects: &[u8], s: Slot) -> Write
 // A parent is made in the first unused row, for a place of a file that is absent.
 fn adopt_new(parents: &[u8], objects: &[u8], x: Object, place: Place) -> Step
     requires { ⌜ Sound (now parents) (now objects) × (place .index < maxSlots) ⌝ }
-    ensures { λ d. ⌜ Decides (now (parents .entry)) (now (objects .entry)) d (λ T. makeParent x place (freeParent T)) ⌝ }
+    ensures { λ d. ⌜ Decides (now (parents .entry)) (now (objects .entry)) d (λ T. makeParent x place (freeParent (T .parents))) ⌝ }
 {
     let free = search::parents::free_parent(parents);
     match free {
@@ -158,7 +157,7 @@ fn adopt(parents: &[u8], objects: &[u8], k: usize) -> Step
 // Object row k.
 pub fn object(parents: &[u8], objects: &[u8], reserve: &[u8], policy: u64, k: usize) -> Step
     requires { ⌜ Sound (now parents) (now objects) × (k < length (now objects) / objectSize) ⌝ }
-    ensures { λ d. ⌜ Decides (now (parents .entry)) (now (objects .entry)) d (λ T. objectStep (settingsOf policy (now (reserve .entry))) T k (objectAt T k)) ⌝ }
+    ensures { λ d. ⌜ Decides (now (parents .entry)) (now (objects .entry)) d (λ T. objectStep (settingsOf policy (now (reserve .entry))) T k (objectAt (T .objects) k)) ⌝ }
 {
     if !may_adopt(policy) {
         return Step::Rests;

@@ -1,6 +1,6 @@
 -- Headers and slots decided, case by case as the code does it. Assumes nothing.
 use mathlib.Core.Path.{_≡_, sym, ap, _∙_}
-use mathlib.Core.List.{List, []}
+use mathlib.Core.List.{List}
 use mathlib.Core.Bool.{true, false}
 use Prim.Native.Nat.{ℕ, _*_, _/_, _<_}
 use lib.ListN.{length, take, drop}
@@ -9,7 +9,7 @@ use Rattle.fid.specs.declared.OstFid.{OstFid}
 use Rattle.layout.specs.declared.Slot.{Slot}
 use Rattle.layout.specs.declared.Slot.the-variants.{Hole, Names}
 use Rattle.tables.specs.Records.{used}
-use Rattle.tables.specs.Bytes.{parentSize, objectSize, decodeParent, decodeObject, parseObject, parse, parseReserve}
+use Rattle.tables.specs.Bytes.{parentSize, objectSize, decodeParent, decodeObject, parseObject, parse, parseReserve, parseParents, parseObjects}
 use Rattle.tables.specs.Positions.{rowAt}
 use Rattle.tables.specs.Check.{Sound}
 use Rattle.tables.specs.declared.Object.{Object}
@@ -30,7 +30,6 @@ use Rattle.rules.specs.declared.Usable.{Usable}
 use Rattle.rules.specs.declared.Usable.the-variants.{Takes, UsedUp}
 use Rattle.search.proofs.ParsedRows.{object-used, parsed-object}
 use Rattle.search.proofs.FoundRows.{object-inside, found-used}
-use Rattle.search.proofs.AloneLaws.{row-alone, slot-alone, object-row-alone, free-object-alone}
 use Rattle.stores.specs.UsedRow.{rowBytes, UsedAt}
 use Rattle.writes.specs.Plan.{Decides}
 use Rattle.rules.specs.declared.Write.the-variants.{Nothing, Object as PutObject, Own, Slot as PutSlot}
@@ -41,48 +40,41 @@ use Rattle.rules.specs.Settings.{Settings, creates}
 
 -- ## Headers
 
-module _ (p o : List ℕ) (r : ℕ) (h : Sound p o) (k : r < length p / parentSize) (c : HeaderClass) (e : c ≡ headerClass (rowAt (parse p []) r)) where
-  class-is : headerClass (rowAt (parse p o) r) ≡ c
-  class-is = ap headerClass (sym (row-alone p o r)) ∙ sym e
-
-  pub header-unused : c ≡ UNUSED → Decides p o Rests (λ T. repairHeader T r (headerClass (rowAt T r)))
+module _ (p o : List ℕ) (r : ℕ) (h : Sound p o) (k : r < length p / parentSize) (c : HeaderClass) (e : c ≡ headerClass (rowAt (parseParents p) r)) where
+  pub header-unused : c ≡ UNUSED → Decides p o Rests (λ T. repairHeader T r (headerClass (rowAt (T .parents) r)))
   unfolding repairHeader
-  header-unused q = decides-rest p o _ (rw (class-is, q))
+  header-unused q = decides-rest p o _ (rw (← e, q))
 
-  pub header-clean : c ≡ CLEAN-HEADER → Decides p o Rests (λ T. repairHeader T r (headerClass (rowAt T r)))
+  pub header-clean : c ≡ CLEAN-HEADER → Decides p o Rests (λ T. repairHeader T r (headerClass (rowAt (T .parents) r)))
   unfolding repairHeader
-  header-clean q = decides-rest p o _ (rw (class-is, q))
+  header-clean q = decides-rest p o _ (rw (← e, q))
 
-  pub header-self : c ≡ SELF → Decides p o (Repairs OfSelf (Own r) Nothing Nothing) (λ T. repairHeader T r (headerClass (rowAt T r)))
+  pub header-self : c ≡ SELF → Decides p o (Repairs OfSelf (Own r) Nothing Nothing) (λ T. repairHeader T r (headerClass (rowAt (T .parents) r)))
   unfolding Decides repairHeader
-  header-self q = rw (class-is, q)
+  header-self q = rw (← e, q)
 
 -- ## MULTIPLE and DANGLING
 
 module _ (p o : List ℕ) (r j ost : ℕ) (f : OstFid) where
-  pub redirect-none : freeObject (parse [] o) ≡ NoRow → Decides p o (Stops 22) (λ T. redirectTo T r j ost f (freeObject T))
+  pub redirect-none : freeObject (parseObjects o) ≡ NoRow → Decides p o (Stops 22) (λ T. redirectTo (T .parents) r j ost f (freeObject (T .objects)))
   unfolding redirectTo
-  redirect-none e = decides-stop p o _ 22 (rw (← free-object-alone p o, e))
+  redirect-none e = decides-stop p o _ 22 (rw e)
 
-  pub make-none : freeObject (parse [] o) ≡ NoRow → Decides p o (Stops 22) (λ T. makeObject (newObject T f r j ost) (freeObject T))
+  pub make-none : freeObject (parseObjects o) ≡ NoRow → Decides p o (Stops 22) (λ T. makeObject (newObject (T .parents) f r j ost) (freeObject (T .objects)))
   unfolding makeObject
-  make-none e = decides-stop p o _ 22 (rw (← free-object-alone p o, e))
+  make-none e = decides-stop p o _ 22 (rw e)
 
-  module _ (i : ℕ) (e : freeObject (parse [] o) ≡ RowIs i) (x : Object) (q : x ≡ newObject (parse p []) f r j ost) where
-    new-is-both : x ≡ newObject (parse p o) f r j ost
-    unfolding newObject
-    new-is-both = q ∙ rw (row-alone p o r)
-
-    pub redirect-done : Decides p o (Repairs OfMultiple (PutObject i x) (PutSlot r j (Names f 0 ost)) Nothing) (λ T. redirectTo T r j ost f (freeObject T))
+  module _ (i : ℕ) (e : freeObject (parseObjects o) ≡ RowIs i) (x : Object) (q : x ≡ newObject (parseParents p) f r j ost) where
+    pub redirect-done : Decides p o (Repairs OfMultiple (PutObject i x) (PutSlot r j (Names f 0 ost)) Nothing) (λ T. redirectTo (T .parents) r j ost f (freeObject (T .objects)))
     unfolding Decides redirectTo
-    redirect-done = rw (← free-object-alone p o, e, ← new-is-both)
+    redirect-done = rw (e, ← q)
 
-    pub make-done : Decides p o (Repairs OfDangling (PutObject i x) Nothing Nothing) (λ T. makeObject (newObject T f r j ost) (freeObject T))
+    pub make-done : Decides p o (Repairs OfDangling (PutObject i x) Nothing Nothing) (λ T. makeObject (newObject (T .parents) f r j ost) (freeObject (T .objects)))
     unfolding Decides makeObject
-    make-done = rw (← free-object-alone p o, e, ← new-is-both)
+    make-done = rw (e, ← q)
 
 module _ (p o res : List ℕ) (r j ost : ℕ) (v : Usable) (e : v ≡ usable (parse p o) (parseReserve res)) where
-  pub reserve-takes : (f : OstFid) → v ≡ Takes f → redirectTo (parse p o) r j ost f (freeObject (parse p o)) ≡ redirect (parse p o) r j ost (usable (parse p o) (parseReserve res))
+  pub reserve-takes : (f : OstFid) → v ≡ Takes f → redirectTo (parseParents p) r j ost f (freeObject (parseObjects o)) ≡ redirect (parse p o) r j ost (usable (parse p o) (parseReserve res))
   unfolding redirect
   reserve-takes f q = rw (← e, q)
 
@@ -93,30 +85,30 @@ module _ (p o res : List ℕ) (r j ost : ℕ) (v : Usable) (e : v ≡ usable (pa
 -- ## BLANK, UNMATCHED and OWNER
 
 module _ (p o : List ℕ) (f : OstFid) (class : Repair) (r j : ℕ) where
-  pub mend-absent : objectRow (parse [] o) f ≡ NoRow → Decides p o Rests (λ T. mendAt T class r j (objectRow T f))
+  pub mend-absent : objectRow (parseObjects o) f ≡ NoRow → Decides p o Rests (λ T. mendAt T class r j (objectRow (T .objects) f))
   unfolding mendAt
-  mend-absent e = decides-rest p o _ (rw (← object-row-alone p o f, e))
+  mend-absent e = decides-rest p o _ (rw e)
 
-  module _ (i : ℕ) (e : objectRow (parse [] o) f ≡ RowIs i) (row : List ℕ) (at : row ≡ take objectSize (drop (objectSize * i) o)) (x : Object) (q : x ≡ decodeObject row) (y : Object) where
-    object-is : objectAt (parse p o) i ≡ used x
+  module _ (i : ℕ) (e : objectRow (parseObjects o) f ≡ RowIs i) (row : List ℕ) (at : row ≡ take objectSize (drop (objectSize * i) o)) (x : Object) (q : x ≡ decodeObject row) (y : Object) where
+    object-is : objectAt (parseObjects o) i ≡ used x
     object-is =
-        parsed-object p o i (object-inside [] o f i e) ∙ ap parseObject (sym at) ∙ object-used row (found-used [] o f i row e at) ∙ ap (λ (v : Object). used v) (sym q)
+        parsed-object o i (object-inside o f i e) ∙ ap parseObject (sym at) ∙ object-used row (found-used o f i row e at) ∙ ap (λ (v : Object). used v) (sym q)
 
-    pub mend-done : y ≡ mended (parse p []) r j x → Decides p o (Repairs class (PutObject i y) Nothing Nothing) (λ T. mendAt T class r j (objectRow T f))
+    pub mend-done : y ≡ mended (parseParents p) r j x → Decides p o (Repairs class (PutObject i y) Nothing Nothing) (λ T. mendAt T class r j (objectRow (T .objects) f))
     unfolding mendAt mendObject mended Decides
-    mend-done g = rw (← object-row-alone p o f, e, object-is, g, row-alone p o r)
+    mend-done g = rw (e, object-is, g)
 
 -- ## Objects made
 
 module _ (p : List ℕ) (r : ℕ) (u : UsedAt p r) (row : List ℕ) (e : row ≡ rowBytes p r) (w : Owner) (g : w ≡ decodeParent row .owner) (m : MdtFid)
     (k : m ≡ decodeParent row .self) where
   pub mended-is : (j : ℕ) (x : Object) →
-      _≡_ {A = Object} (record { fid = x .fid; ost = x .ost; owner = w; claim = Claims (placeAt m j); fresh = x .fresh }) (mended (parse p []) r j x)
+      _≡_ {A = Object} (record { fid = x .fid; ost = x .ost; owner = w; claim = Claims (placeAt m j); fresh = x .fresh }) (mended (parseParents p) r j x)
   unfolding mended withClaim ownerOf selfOf
   mended-is j x = rw (row-says p r u row e, ← g, ← k)
 
   pub new-is : (f : OstFid) (j ost : ℕ) →
-      _≡_ {A = Object} (record { fid = f; ost = ost; owner = w; claim = Claims (placeAt m j); fresh = true }) (newObject (parse p []) f r j ost)
+      _≡_ {A = Object} (record { fid = f; ost = ost; owner = w; claim = Claims (placeAt m j); fresh = true }) (newObject (parseParents p) f r j ost)
   unfolding newObject ownerOf selfOf
   new-is f j ost = rw (row-says p r u row e, ← g, ← k)
 
@@ -143,28 +135,28 @@ module _ (p o : List ℕ) (settings : Settings) (r j : ℕ) (f : OstFid) (ost : 
   unfolding repairSlot
   slot-multiple q t = rw (← e, q, t)
 
-  pub slot-dangling : c ≡ DANGLING → creates (settings .policy) ≡ true → makeObject (newObject (parse p o) f r j ost) (freeObject (parse p o)) ≡ repairSlot settings (parse p o) r j f ost (slotClass (parse p o) r j)
+  pub slot-dangling : c ≡ DANGLING → creates (settings .policy) ≡ true → makeObject (newObject (parseParents p) f r j ost) (freeObject (parseObjects o)) ≡ repairSlot settings (parse p o) r j f ost (slotClass (parse p o) r j)
   unfolding repairSlot
   slot-dangling q t = rw (← e, q, t)
 
-  pub slot-blank : c ≡ BLANK → mendAt (parse p o) OfBlank r j (objectRow (parse p o) f) ≡ repairSlot settings (parse p o) r j f ost (slotClass (parse p o) r j)
+  pub slot-blank : c ≡ BLANK → mendAt (parse p o) OfBlank r j (objectRow (parseObjects o) f) ≡ repairSlot settings (parse p o) r j f ost (slotClass (parse p o) r j)
   unfolding repairSlot
   slot-blank q = rw (← e, q)
 
-  pub slot-unmatched : (g : MdtFid) (i : ℕ) → c ≡ UNMATCHED g i → mendAt (parse p o) OfUnmatched r j (objectRow (parse p o) f) ≡ repairSlot settings (parse p o) r j f ost (slotClass (parse p o) r j)
+  pub slot-unmatched : (g : MdtFid) (i : ℕ) → c ≡ UNMATCHED g i → mendAt (parse p o) OfUnmatched r j (objectRow (parseObjects o) f) ≡ repairSlot settings (parse p o) r j f ost (slotClass (parse p o) r j)
   unfolding repairSlot
   slot-unmatched g i q = rw (← e, q)
 
-  pub slot-owner : c ≡ OWNER → mendAt (parse p o) OfOwner r j (objectRow (parse p o) f) ≡ repairSlot settings (parse p o) r j f ost (slotClass (parse p o) r j)
+  pub slot-owner : c ≡ OWNER → mendAt (parse p o) OfOwner r j (objectRow (parseObjects o) f) ≡ repairSlot settings (parse p o) r j f ost (slotClass (parse p o) r j)
   unfolding repairSlot
   slot-owner q = rw (← e, q)
 
-module _ (p o : List ℕ) (settings : Settings) (r j : ℕ) (s : Slot) (e : s ≡ slotAt (parse p []) r j) where
-  pub step-hole : s ≡ Hole → slotStep settings (parse p o) r j (slotAt (parse p o) r j) ≡ Rests
+module _ (p o : List ℕ) (settings : Settings) (r j : ℕ) (s : Slot) (e : s ≡ slotAt (parseParents p) r j) where
+  pub step-hole : s ≡ Hole → slotStep settings (parse p o) r j (slotAt (parseParents p) r j) ≡ Rests
   unfolding slotStep
-  step-hole q = rw (← slot-alone p o r j, ← e, q)
+  step-hole q = rw (← e, q)
 
   pub step-names : (f : OstFid) (n i : ℕ) → s ≡ Names f n i →
-      repairSlot settings (parse p o) r j f i (slotClass (parse p o) r j) ≡ slotStep settings (parse p o) r j (slotAt (parse p o) r j)
+      repairSlot settings (parse p o) r j f i (slotClass (parse p o) r j) ≡ slotStep settings (parse p o) r j (slotAt (parseParents p) r j)
   unfolding slotStep
-  step-names f n i q = rw (← slot-alone p o r j, ← e, q)
+  step-names f n i q = rw (← e, q)

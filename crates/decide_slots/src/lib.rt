@@ -16,10 +16,9 @@ use tables::rows;
 use tables::rows::OBJECT_SIZE;
 use tables::rows::PARENT_SIZE;
 ghost use mathlib.Core.Path.{_≡_};
-ghost use mathlib.Core.List.{[]};
 ghost use Prim.Native.Nat.{_/_, _<_};
 ghost use lib.ListN.{length};
-ghost use Rattle.tables.specs.Bytes.{parentSize, parse, parseReserve};
+ghost use Rattle.tables.specs.Bytes.{parentSize, parseReserve, parseParents};
 ghost use Rattle.tables.specs.Check.{Sound};
 ghost use Rattle.tables.specs.Positions.{rowAt};
 ghost use Rattle.tables.specs.declared.Claim.the-variants.{Claims};
@@ -35,7 +34,7 @@ ghost use Rattle.rules.specs.Settings.{settingsOf, creates};
 // The header of parent row r: SELF is mended.
 pub fn header(parents: &[u8], objects: &[u8], r: usize) -> Step
     requires { ⌜ Sound (now parents) (now objects) × (r < length (now parents) / parentSize) ⌝ }
-    ensures { λ d. ⌜ Decides (now (parents .entry)) (now (objects .entry)) d (λ T. repairHeader T r (headerClass (rowAt T r))) ⌝ }
+    ensures { λ d. ⌜ Decides (now (parents .entry)) (now (objects .entry)) d (λ T. repairHeader T r (headerClass (rowAt (T .parents) r))) ⌝ }
 {
     let class = headers::header_class(parents, r);
     match class {
@@ -55,7 +54,7 @@ pub fn header(parents: &[u8], objects: &[u8], r: usize) -> Step
 // A new object: it claims slot j of row r, has that parent's owner and is fresh.
 fn new_object(parents: &[u8], r: usize, j: u32, f: OstFid, ost: u32) -> Object
     requires { ⌜ UsedAt (now parents) r ⌝ }
-    ensures { λ x. ⌜ x ≡ newObject (parse (now (parents .entry)) []) f r j ost ⌝ }
+    ensures { λ x. ⌜ x ≡ newObject (parseParents (now (parents .entry))) f r j ost ⌝ }
 {
     let row = rows::row_at(parents, PARENT_SIZE, r);
     let owner = rows::owner_of(row);
@@ -76,7 +75,7 @@ fn new_object(parents: &[u8], r: usize, j: u32, f: OstFid, ost: u32) -> Object
 // MULTIPLE, with a FID of the reserve: a new object in the first unused row, then the slot, which takes its FID.
 fn redirect_to(parents: &[u8], objects: &[u8], r: usize, j: u32, ost: u32, f: OstFid) -> Step
     requires { ⌜ SlotReady (now parents) (now objects) r j ⌝ }
-    ensures { λ d. ⌜ Decides (now (parents .entry)) (now (objects .entry)) d (λ T. redirectTo T r j ost f (freeObject T)) ⌝ }
+    ensures { λ d. ⌜ Decides (now (parents .entry)) (now (objects .entry)) d (λ T. redirectTo (T .parents) r j ost f (freeObject (T .objects))) ⌝ }
 {
     let free = search::objects::free_object(objects);
     match free {
@@ -109,7 +108,7 @@ fn redirect(parents: &[u8], objects: &[u8], reserve: &[u8], r: usize, j: u32, os
 // DANGLING: a new object in the first unused row, under the slot's FID and index.
 fn make_object(parents: &[u8], objects: &[u8], r: usize, j: u32, ost: u32, f: OstFid) -> Step
     requires { ⌜ SlotReady (now parents) (now objects) r j ⌝ }
-    ensures { λ d. ⌜ Decides (now (parents .entry)) (now (objects .entry)) d (λ T. makeObject (newObject T f r j ost) (freeObject T)) ⌝ }
+    ensures { λ d. ⌜ Decides (now (parents .entry)) (now (objects .entry)) d (λ T. makeObject (newObject (T .parents) f r j ost) (freeObject (T .objects))) ⌝ }
 {
     let free = search::objects::free_object(objects);
     match free {
@@ -129,7 +128,7 @@ fn make_object(parents: &[u8], objects: &[u8], r: usize, j: u32, ost: u32, f: Os
 // The keeper's object with the claim of slot j of row r and that parent's owner.
 fn mended(parents: &[u8], r: usize, j: u32, x: Object) -> Object
     requires { ⌜ UsedAt (now parents) r ⌝ }
-    ensures { λ y. ⌜ y ≡ mended (parse (now (parents .entry)) []) r j x ⌝ }
+    ensures { λ y. ⌜ y ≡ mended (parseParents (now (parents .entry))) r j x ⌝ }
 {
     let row = rows::row_at(parents, PARENT_SIZE, r);
     let owner = rows::owner_of(row);
@@ -151,7 +150,7 @@ fn mended(parents: &[u8], r: usize, j: u32, x: Object) -> Object
 // BLANK, UNMATCHED and OWNER: claim and owner are written in the object's row.
 fn mend(parents: &[u8], objects: &[u8], class: Repair, r: usize, j: u32, f: OstFid) -> Step
     requires { ⌜ SlotReady (now parents) (now objects) r j ⌝ }
-    ensures { λ d. ⌜ Decides (now (parents .entry)) (now (objects .entry)) d (λ T. mendAt T class r j (objectRow T f)) ⌝ }
+    ensures { λ d. ⌜ Decides (now (parents .entry)) (now (objects .entry)) d (λ T. mendAt T class r j (objectRow (T .objects) f)) ⌝ }
 {
     let found = search::objects::object_row(objects, f);
     match found {
@@ -210,7 +209,7 @@ fn named_slot(
 // Slot j of parent row r: a hole rests.
 pub fn slot(parents: &[u8], objects: &[u8], reserve: &[u8], policy: u64, r: usize, j: usize) -> Step
     requires { ⌜ Sound (now parents) (now objects) × (r < length (now parents) / parentSize) ⌝ }
-    ensures { λ d. ⌜ Decides (now (parents .entry)) (now (objects .entry)) d (λ T. slotStep (settingsOf policy (now (reserve .entry))) T r j (slotAt T r j)) ⌝ }
+    ensures { λ d. ⌜ Decides (now (parents .entry)) (now (objects .entry)) d (λ T. slotStep (settingsOf policy (now (reserve .entry))) T r j (slotAt (T .parents) r j)) ⌝ }
 {
     let slot = search::slots::slot_of(parents, r, j);
     match slot {

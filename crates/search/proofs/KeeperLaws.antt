@@ -1,10 +1,11 @@
 -- The keeper, case by case as the code finds it. Assumes nothing.
 use mathlib.Core.Path.{_≡_, refl, sym, ap, _∙_}
 use mathlib.Core.Bool.{Bool, true, false}
+use mathlib.Core.List.{List}
 use Prim.Native.Nat.{ℕ}
 use native.Mathlib.Omega.{arith}
 use Rattle.fid.specs.declared.OstFid.{OstFid}
-use Rattle.tables.specs.Records.{Tables}
+use Rattle.tables.specs.Records.{ParentRow, Tables}
 use Rattle.tables.specs.Positions.{width}
 use Rattle.tables.specs.declared.Claim.{Claim}
 use Rattle.tables.specs.declared.Claim.the-variants.{Claims}
@@ -19,23 +20,23 @@ use Rattle.rules.proofs.Searches.{OneParent, FirstPlace, nowhere, first, scan-f
 use Rattle.rules.proofs.Looks.{lookAt, lookIn, keeper-looks}
 use Rattle.tables.specs.declared.Place.{Place}
 
-module _ (T : Tables) (f : OstFid) (home : Place) (one : OneParent T) where
+module _ (ps : List ParentRow) (f : OstFid) (home : Place) (one : OneParent ps) where
   -- the claimed parent is absent
-  pub keeper-absent : parentRow T (home .file) ≡ NoRow → scan T (namesAt T f) ≡ keeperBy T f (Claims home)
+  pub keeper-absent : parentRow ps (home .file) ≡ NoRow → scan ps (namesAt ps f) ≡ keeperBy ps f (Claims home)
   unfolding lookAt lookIn orElse
-  keeper-absent e = rw (keeper-looks T f home one, e)
+  keeper-absent e = rw (keeper-looks ps f home one, e)
 
-  module _ (m : ℕ) (e : parentRow T (home .file) ≡ RowIs m) where
+  module _ (m : ℕ) (e : parentRow ps (home .file) ≡ RowIs m) where
     -- "the claimed slot if that one names it"
-    pub keeper-claimed : namesAt T f m (home .index) ≡ true → At m (home .index) ≡ keeperBy T f (Claims home)
+    pub keeper-claimed : namesAt ps f m (home .index) ≡ true → At m (home .index) ≡ keeperBy ps f (Claims home)
     unfolding lookAt lookIn orElse
-    keeper-claimed t = rw (keeper-looks T f home one, e, t)
+    keeper-claimed t = rw (keeper-looks ps f home one, e, t)
 
     -- "else the first slot naming it in the claimed parent; else the first in scan order"
-    pub keeper-near : namesAt T f m (home .index) ≡ false → (a : Found) → a ≡ orElse (slotFrom m (width T m) 0 (namesAt T f)) (scan T (namesAt T f)) →
-        a ≡ keeperBy T f (Claims home)
+    pub keeper-near : namesAt ps f m (home .index) ≡ false → (a : Found) → a ≡ orElse (slotFrom m (width ps m) 0 (namesAt ps f)) (scan ps (namesAt ps f)) →
+        a ≡ keeperBy ps f (Claims home)
     unfolding lookAt lookIn orElse
-    keeper-near t a q = rw (keeper-looks T f home one, e, t) q
+    keeper-near t a q = rw (keeper-looks ps f home one, e, t) q
 
 -- the first of two searches that finds something
 pub or-found : (a b : Found) (r j : ℕ) → At r j ≡ a → At r j ≡ orElse a b
@@ -47,7 +48,7 @@ unfolding orElse
 or-other a b c e q = rw (← e) q
 
 -- the keeper is that of the object's claim
-pub keeper-is : (T : Tables) (f : OstFid) (c : Claim) → c ≡ claimIn (objectOf T f) → keeperBy T f c ≡ keeper T f
+pub keeper-is : (T : Tables) (f : OstFid) (c : Claim) → c ≡ claimIn (objectOf (T .objects) f) → keeperBy (T .parents) f c ≡ keeper T f
 unfolding keeper
 keeper-is T f c e = rw e
 
@@ -63,17 +64,17 @@ last-found (At k i) b r j = refl
 last-found Nowhere (At k i) r j = refl
 last-found Nowhere Nowhere r j = refl
 
-pub named-kept : (T : Tables) (f : OstFid) (c : Claim) → isSomewhere (keeperBy T f c) ≡ named T f
+pub named-kept : (ps : List ParentRow) (f : OstFid) (c : Claim) → isSomewhere (keeperBy ps f c) ≡ named ps f
 unfolding named keeperBy isSomewhere
-named-kept T f c = go (scan T (namesAt T f)) refl
+named-kept ps f c = go (scan ps (namesAt ps f)) refl
   where
-    none : scan T (namesAt T f) ≡ Nowhere → (k : Found) → keeperBy T f c ≡ k → isSomewhere k ≡ isSomewhere Nowhere
+    none : scan ps (namesAt ps f) ≡ Nowhere → (k : Found) → keeperBy ps f c ≡ k → isSomewhere k ≡ isSomewhere Nowhere
     none e Nowhere q = refl
-    none e (At r j) q = clash (keeper-names T f c r j q) (unnamed (scan-first T f (namesAt T f) (λ r j t. t)) e r j)
+    none e (At r j) q = clash (keeper-names ps f c r j q) (unnamed (scan-first ps f (namesAt ps f) (λ r j t. t)) e r j)
 
-    some : (a : Found) (r j : ℕ) → a ≡ At r j → isSomewhere (orElse (scan T (atClaimed T f c)) (orElse (scan T (inClaimed T f c)) a)) ≡ isSomewhere a
-    some a r j e = rw e (last-found (scan T (atClaimed T f c)) (scan T (inClaimed T f c)) r j)
+    some : (a : Found) (r j : ℕ) → a ≡ At r j → isSomewhere (orElse (scan ps (atClaimed ps f c)) (orElse (scan ps (inClaimed ps f c)) a)) ≡ isSomewhere a
+    some a r j e = rw e (last-found (scan ps (atClaimed ps f c)) (scan ps (inClaimed ps f c)) r j)
 
-    go : (a : Found) → scan T (namesAt T f) ≡ a → isSomewhere (keeperBy T f c) ≡ isSomewhere (scan T (namesAt T f))
-    go Nowhere e = none e (keeperBy T f c) refl ∙ ap isSomewhere (sym e)
-    go (At r j) e = some (scan T (namesAt T f)) r j e
+    go : (a : Found) → scan ps (namesAt ps f) ≡ a → isSomewhere (keeperBy ps f c) ≡ isSomewhere (scan ps (namesAt ps f))
+    go Nowhere e = none e (keeperBy ps f c) refl ∙ ap isSomewhere (sym e)
+    go (At r j) e = some (scan ps (namesAt ps f)) r j e

@@ -4,7 +4,6 @@ pub mod PlaceSearch
 -- The rows of parsed tables, read off the bytes
 pub mod ParsedRows
 pub mod FoundRows
-pub mod AloneLaws
 -- Slots and the keeper
 pub mod SlotArea
 pub mod NamingLaws

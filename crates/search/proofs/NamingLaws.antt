@@ -1,6 +1,6 @@
 -- The slots that name an object, as the searches read them row by row and slot by slot. Assumes nothing.
 use mathlib.Core.Path.{_≡_, refl, sym, ap, _∙_}
-use mathlib.Core.List.{List, []}
+use mathlib.Core.List.{List}
 use mathlib.Core.Bool.{Bool, true, false, not, _&&_}
 use Prim.Native.Nat.{ℕ, _/_, _<_}
 use borrow.Author.Tests.{eq-eqb, ne-eqb}
@@ -9,8 +9,8 @@ use lib.ListN.{length}
 use Rattle.fid.specs.declared.OstFid.{OstFid}
 use Rattle.layout.specs.Slot.{slotOf, decodeSlots, slotNames}
 use Rattle.layout.specs.declared.Slot.{Slot}
-use Rattle.tables.specs.Records.{Tables}
-use Rattle.tables.specs.Bytes.{parentSize, parse}
+use Rattle.tables.specs.Records.{ParentRow}
+use Rattle.tables.specs.Bytes.{parentSize, parseParents}
 use Rattle.tables.specs.Positions.{slotsOf, rowAt, width}
 use Rattle.tables.proofs.PositionLaws.{parsed-parents}
 use Rattle.rules.specs.Search.{slotFrom, isSomewhere}
@@ -21,22 +21,22 @@ use Rattle.search.proofs.SlotArea.{area-width, area-slot}
 
 -- a scan begins at row 0 of the bytes
 pub scan-start : (p : List ℕ) (passes : ℕ → ℕ → Bool) →
-    scan (parse p []) passes ≡ placesLeft (width (parse p [])) passes (length p / parentSize) 0
+    scan (parseParents p) passes ≡ placesLeft (width (parseParents p)) passes (length p / parentSize) 0
 unfolding scan
-scan-start p passes = rw (parsed-parents p []) (place-start (width (parse p [])) passes (length p / parentSize))
+scan-start p passes = rw (parsed-parents p) (place-start (width (parseParents p)) passes (length p / parentSize))
 
 -- ## A slot, as it is read from the area of its row
 
-module _ (T : Tables) (r n : ℕ) (area : List ℕ) (e : slotsOf (rowAt T r) ≡ decodeSlots n area) where
-  pub row-slots-start : (passes : ℕ → ℕ → Bool) → slotFrom r (width T r) 0 passes ≡ slotsLeft passes r n 0
-  row-slots-start passes = rw (← area-width T r n area e) (slot-start passes r n)
+module _ (ps : List ParentRow) (r n : ℕ) (area : List ℕ) (e : slotsOf (rowAt ps r) ≡ decodeSlots n area) where
+  pub row-slots-start : (passes : ℕ → ℕ → Bool) → slotFrom r (width ps r) 0 passes ≡ slotsLeft passes r n 0
+  row-slots-start passes = rw (← area-width ps r n area e) (slot-start passes r n)
 
-  pub area-names : (f : OstFid) (j : ℕ) (s : Slot) (b : Bool) → j < n → s ≡ slotOf area j → b ≡ slotNames f s → namesAt T f r j ≡ b
+  pub area-names : (f : OstFid) (j : ℕ) (s : Slot) (b : Bool) → j < n → s ≡ slotOf area j → b ≡ slotNames f s → namesAt ps f r j ≡ b
   unfolding namesAt
-  area-names f j s b h q t = sym (t ∙ ap (slotNames f) (area-slot T r n area e j s h q))
+  area-names f j s b h q t = sym (t ∙ ap (slotNames f) (area-slot ps r n area e j s h q))
 
   pub area-else : (f : OstFid) (k i j : ℕ) (s : Slot) (b : Bool) → j < n → s ≡ slotOf area j → b ≡ (slotNames f s && not (eqb r k && eqb j i)) →
-      namesElse T f k i r j ≡ b
+      namesElse ps f k i r j ≡ b
   unfolding namesElse
   area-else f k i j s b h q t = rw (area-names f j s (slotNames f s) h q refl) (sym t)
 
@@ -54,10 +54,10 @@ module _ (f : OstFid) (s : Slot) (k i r j : ℕ) where
 
 -- ## Named at all
 
-pub named-is : (T : Tables) (f : OstFid) (a : Found) (b : Bool) → a ≡ scan T (namesAt T f) → b ≡ isSomewhere a → b ≡ named T f
+pub named-is : (ps : List ParentRow) (f : OstFid) (a : Found) (b : Bool) → a ≡ scan ps (namesAt ps f) → b ≡ isSomewhere a → b ≡ named ps f
 unfolding named
-named-is T f a b e t = t ∙ ap isSomewhere e
+named-is ps f a b e t = t ∙ ap isSomewhere e
 
-pub named-else-is : (T : Tables) (f : OstFid) (r j : ℕ) (a : Found) (b : Bool) → a ≡ scan T (namesElse T f r j) → b ≡ isSomewhere a → b ≡ namedElse T f r j
+pub named-else-is : (ps : List ParentRow) (f : OstFid) (r j : ℕ) (a : Found) (b : Bool) → a ≡ scan ps (namesElse ps f r j) → b ≡ isSomewhere a → b ≡ namedElse ps f r j
 unfolding namedElse
-named-else-is T f r j a b e t = t ∙ ap isSomewhere e
+named-else-is ps f r j a b e t = t ∙ ap isSomewhere e

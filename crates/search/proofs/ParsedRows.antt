@@ -10,7 +10,7 @@ use Rattle.wire.proofs.RowLaws.{rows-at, rows-length}
 use Rattle.fid.specs.declared.MdtFid.{MdtFid}
 use Rattle.fid.specs.declared.OstFid.{OstFid}
 use Rattle.tables.specs.Records.{TableRow, unused, used}
-use Rattle.tables.specs.Bytes.{parentSize, objectSize, isUsed, parseRow, parentRows, objectRows, decodeParent, decodeObject, parseParent, parseObject, parse}
+use Rattle.tables.specs.Bytes.{parentSize, objectSize, isUsed, parseRow, parentRows, objectRows, decodeParent, decodeObject, parseParent, parseObject, parseParents, parseObjects}
 use Rattle.tables.specs.Check.{isRowOf}
 use Rattle.tables.proofs.EitherRow.{parse-used, parse-unused}
 use Rattle.rules.specs.Search.{rowFrom}
@@ -21,10 +21,10 @@ use Rattle.search.proofs.RowSearch.{row-same}
 
 -- ## Rows
 
--- object row i of the tables is row i of the bytes
-pub parsed-object : (p o : List ℕ) (i : ℕ) → i < length o / objectSize → objectAt (parse p o) i ≡ parseObject (take objectSize (drop (objectSize * i) o))
-unfolding parse objectAt objectRows parseObject parseRow isUsed
-parsed-object p o i h = List·getD-map parseObject (objectRows o) i [] ∙ ap parseObject (rows-at objectSize (length o / objectSize) i o h)
+-- row i of the object table is row i of the bytes
+pub parsed-object : (o : List ℕ) (i : ℕ) → i < length o / objectSize → objectAt (parseObjects o) i ≡ parseObject (take objectSize (drop (objectSize * i) o))
+unfolding parseObjects objectAt objectRows parseObject parseRow isUsed
+parsed-object o i h = List·getD-map parseObject (objectRows o) i [] ∙ ap parseObject (rows-at objectSize (length o / objectSize) i o h)
 
 -- what a row says, used or not
 module _ (row : List ℕ) where
@@ -65,19 +65,19 @@ free-test {A} decode row = go (isUsed row)
     go false = refl
 
 module _ (p : List ℕ) where
-  pub parent-row-is : (f : MdtFid) → rowOf p parentSize (f .0) ≡ parentRow (parse p []) f
-  unfolding rowOf parentRow parse parentRows parseParent
+  pub parent-row-is : (f : MdtFid) → rowOf p parentSize (f .0) ≡ parentRow (parseParents p) f
+  unfolding rowOf parentRow parseParents parentRows parseParent
   parent-row-is f = sym (first-parsed decodeParent parentSize (length p / parentSize) p (isParent f) (isRowOf (f .0)) (parent-has f))
 
-  pub free-parent-is : freeRow p parentSize ≡ freeParent (parse p [])
-  unfolding freeRow freeParent parse parentRows parseParent
+  pub free-parent-is : freeRow p parentSize ≡ freeParent (parseParents p)
+  unfolding freeRow freeParent parseParents parentRows parseParent
   free-parent-is = sym (first-parsed decodeParent parentSize (length p / parentSize) p isUnused (λ row. not (isUsed row)) (free-test decodeParent))
 
 module _ (o : List ℕ) where
-  pub object-row-is : (f : OstFid) → rowOf o objectSize (f .0) ≡ objectRow (parse [] o) f
-  unfolding rowOf objectRow parse objectRows parseObject
+  pub object-row-is : (f : OstFid) → rowOf o objectSize (f .0) ≡ objectRow (parseObjects o) f
+  unfolding rowOf objectRow parseObjects objectRows parseObject
   object-row-is f = sym (first-parsed decodeObject objectSize (length o / objectSize) o (isObject f) (isRowOf (f .0)) (object-has f))
 
-  pub free-object-is : freeRow o objectSize ≡ freeObject (parse [] o)
-  unfolding freeRow freeObject parse objectRows parseObject
+  pub free-object-is : freeRow o objectSize ≡ freeObject (parseObjects o)
+  unfolding freeRow freeObject parseObjects objectRows parseObject
   free-object-is = sym (first-parsed decodeObject objectSize (length o / objectSize) o isUnused (λ row. not (isUsed row)) (free-test decodeObject))

@@ -12,8 +12,8 @@ use Rattle.layout.specs.declared.Slot.{Slot}
 use Rattle.layout.specs.declared.Slot.the-variants.{Hole}
 use Rattle.layout.proofs.SlotLaws.{length-slots, slots-at}
 use Rattle.layout.proofs.LayoutLaws.{slots-are, accepted-size}
-use Rattle.tables.specs.Records.{Tables}
-use Rattle.tables.specs.Bytes.{parentSize, isUsed, layoutBytes, decodeParent, parseParent, parse, parseRow}
+use Rattle.tables.specs.Records.{ParentRow}
+use Rattle.tables.specs.Bytes.{parentSize, isUsed, layoutBytes, decodeParent, parseParent, parseRow, parseParents}
 use Rattle.tables.specs.Positions.{slotsOf, rowAt, width}
 use Rattle.tables.proofs.PositionLaws.{parsed-row}
 use Rattle.rules.specs.Rows.{slotAt}
@@ -38,20 +38,20 @@ area-used row l start u e a s =
 
 -- ## The row's slots, as they are read from the area
 
-module _ (T : Tables) (r n : ℕ) (area : List ℕ) (e : slotsOf (rowAt T r) ≡ decodeSlots n area) where
-  pub area-width : n ≡ width T r
+module _ (ps : List ParentRow) (r n : ℕ) (area : List ℕ) (e : slotsOf (rowAt ps r) ≡ decodeSlots n area) where
+  pub area-width : n ≡ width ps r
   unfolding width
   area-width = rw e (sym (length-slots n area))
 
-  pub area-slot : (j : ℕ) (s : Slot) → j < n → s ≡ slotOf area j → s ≡ slotAt T r j
+  pub area-slot : (j : ℕ) (s : Slot) → j < n → s ≡ slotOf area j → s ≡ slotAt ps r j
   unfolding slotAt
   area-slot j s h q = rw (e, slots-at n j area Hole h) q
 
-  pub area-past : (j : ℕ) → n ≤ j → Hole ≡ slotAt T r j
+  pub area-past : (j : ℕ) → n ≤ j → Hole ≡ slotAt ps r j
   unfolding slotAt
   area-past j h = rw e (sym (List·getD-eq-default (decodeSlots n area) Hole (rw (length-slots n area) h)))
 
 -- the area of row r of the bytes
 pub area-of : (p : List ℕ) (r : ℕ) (row area : List ℕ) → r < length p / parentSize → row ≡ take parentSize (drop (parentSize * r) p) → Area row area →
-    slotsOf (rowAt (parse p []) r) ≡ decodeSlots (length area / 24) area
-area-of p r row area h at a = rw (parsed-row p [] r h, ← at) (a .0)
+    slotsOf (rowAt (parseParents p) r) ≡ decodeSlots (length area / 24) area
+area-of p r row area h at a = rw (parsed-row p r h, ← at) (a .0)

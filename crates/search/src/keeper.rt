@@ -10,11 +10,10 @@ use rules::Row;
 use tables::Claim;
 use tables::Place;
 ghost use mathlib.Core.Path.{_≡_};
-ghost use mathlib.Core.List.{[]};
 ghost use mathlib.Core.Bool.{true};
 ghost use Prim.Native.Nat.{_/_, _<_};
 ghost use lib.ListN.{length};
-ghost use Rattle.tables.specs.Bytes.{parentSize, parentRows, parse};
+ghost use Rattle.tables.specs.Bytes.{parentSize, parentRows, parseParents};
 ghost use Rattle.tables.specs.Positions.{width};
 ghost use Rattle.tables.specs.declared.Claim.the-variants.{Claims};
 ghost use Rattle.tables.specs.Check.{goodLayouts, noneTwice};
@@ -35,7 +34,7 @@ pub fn claim_in(found: Lookup) -> Claim
 // The first slot of row r that names an object, else the first in scan order.
 fn keeper_in(parents: &[u8], f: OstFid, r: usize) -> Found
     requires { ⌜ (goodLayouts (now parents) ≡ true) × (r < length (now parents) / parentSize) ⌝ }
-    ensures { λ a. ⌜ a ≡ orElse (slotFrom r (width (parse (now (parents .entry)) []) r) 0 (namesAt (parse (now (parents .entry)) []) f)) (scan (parse (now (parents .entry)) []) (namesAt (parse (now (parents .entry)) []) f)) ⌝ }
+    ensures { λ a. ⌜ a ≡ orElse (slotFrom r (width (parseParents (now (parents .entry))) r) 0 (namesAt (parseParents (now (parents .entry))) f)) (scan (parseParents (now (parents .entry))) (namesAt (parseParents (now (parents .entry))) f)) ⌝ }
 {
     let found = slots::first_in(parents, f, r);
     match found {
@@ -48,7 +47,7 @@ fn keeper_in(parents: &[u8], f: OstFid, r: usize) -> Found
 // claimed parent; else the first in scan order.
 fn keeper_at(parents: &[u8], f: OstFid, place: Place) -> Found
     requires { ⌜ (goodLayouts (now parents) ≡ true) × (noneTwice (parentRows (now parents)) ≡ true) ⌝ }
-    ensures { λ a. ⌜ a ≡ keeperBy (parse (now (parents .entry)) []) f (Claims place) ⌝ }
+    ensures { λ a. ⌜ a ≡ keeperBy (parseParents (now (parents .entry))) f (Claims place) ⌝ }
 {
     let file = place.file;
     let row = parents::parent_row(parents, file);
@@ -67,7 +66,7 @@ fn keeper_at(parents: &[u8], f: OstFid, place: Place) -> Found
 // The keeper of an object with this claim.
 pub fn keeper_by(parents: &[u8], f: OstFid, claim: Claim) -> Found
     requires { ⌜ (goodLayouts (now parents) ≡ true) × (noneTwice (parentRows (now parents)) ≡ true) ⌝ }
-    ensures { λ a. ⌜ a ≡ keeperBy (parse (now (parents .entry)) []) f claim ⌝ }
+    ensures { λ a. ⌜ a ≡ keeperBy (parseParents (now (parents .entry))) f claim ⌝ }
 {
     match claim {
         Claim::Unclaimed => naming::first_naming(parents, f),

@@ -7,11 +7,10 @@ use rules::Found;
 use tables::rows;
 use tables::rows::PARENT_SIZE;
 ghost use mathlib.Core.Path.{_≡_};
-ghost use mathlib.Core.List.{[]};
 ghost use mathlib.Core.Bool.{true, not, _&&_};
 ghost use lib.Dec.{eqb};
 ghost use Rattle.layout.specs.Slot.{slotNames};
-ghost use Rattle.tables.specs.Bytes.{parse};
+ghost use Rattle.tables.specs.Bytes.{parseParents};
 ghost use Rattle.tables.specs.Check.{goodLayouts};
 ghost use Rattle.rules.specs.Search.{isSomewhere};
 ghost use Rattle.rules.specs.Rows.{namesAt, scan, named, namesElse, namedElse};
@@ -42,7 +41,7 @@ fn names_else(s: Slot, f: OstFid, k: usize, i: usize, r: usize, j: usize) -> boo
 // The first slot in scan order that names an object. The search stops at the first parent and slot that name it.
 pub fn first_naming(parents: &[u8], f: OstFid) -> Found
     requires { ⌜ goodLayouts (now parents) ≡ true ⌝ }
-    ensures { λ a. ⌜ a ≡ scan (parse (now (parents .entry)) []) (namesAt (parse (now (parents .entry)) []) f) ⌝ }
+    ensures { λ a. ⌜ a ≡ scan (parseParents (now (parents .entry))) (namesAt (parseParents (now (parents .entry))) f) ⌝ }
 {
     let n = parents.len() / PARENT_SIZE;
     let mut found = Found::Nowhere;
@@ -62,7 +61,7 @@ pub fn first_naming(parents: &[u8], f: OstFid) -> Found
 // The first slot in scan order that names an object, other than slot j of row r.
 fn first_else(parents: &[u8], f: OstFid, r: usize, j: usize) -> Found
     requires { ⌜ goodLayouts (now parents) ≡ true ⌝ }
-    ensures { λ a. ⌜ a ≡ scan (parse (now (parents .entry)) []) (namesElse (parse (now (parents .entry)) []) f r j) ⌝ }
+    ensures { λ a. ⌜ a ≡ scan (parseParents (now (parents .entry))) (namesElse (parseParents (now (parents .entry))) f r j) ⌝ }
 {
     let n = parents.len() / PARENT_SIZE;
     let mut found = Found::Nowhere;
@@ -82,7 +81,7 @@ fn first_else(parents: &[u8], f: OstFid, r: usize, j: usize) -> Found
 // Whether a slot names an object.
 pub fn named(parents: &[u8], f: OstFid) -> bool
     requires { ⌜ goodLayouts (now parents) ≡ true ⌝ }
-    ensures { λ b. ⌜ b ≡ named (parse (now (parents .entry)) []) f ⌝ }
+    ensures { λ b. ⌜ b ≡ named (parseParents (now (parents .entry))) f ⌝ }
 {
     is_somewhere(first_naming(parents, f))
 }
@@ -90,7 +89,7 @@ pub fn named(parents: &[u8], f: OstFid) -> bool
 // Whether a slot other than slot j of row r names an object.
 pub fn named_else(parents: &[u8], f: OstFid, r: usize, j: usize) -> bool
     requires { ⌜ goodLayouts (now parents) ≡ true ⌝ }
-    ensures { λ b. ⌜ b ≡ namedElse (parse (now (parents .entry)) []) f r j ⌝ }
+    ensures { λ b. ⌜ b ≡ namedElse (parseParents (now (parents .entry))) f r j ⌝ }
 {
     is_somewhere(first_else(parents, f, r, j))
 }

@@ -6,12 +6,11 @@ use rules::Found;
 use tables::rows;
 use tables::rows::PARENT_SIZE;
 ghost use mathlib.Core.Path.{_≡_};
-ghost use mathlib.Core.List.{[]};
 ghost use mathlib.Core.Bool.{true};
 ghost use Prim.Native.Nat.{_*_, _/_, _<_};
 ghost use lib.ListN.{length};
 ghost use Rattle.layout.specs.Slot.{decodeSlots};
-ghost use Rattle.tables.specs.Bytes.{parentSize, parseParent, parse};
+ghost use Rattle.tables.specs.Bytes.{parentSize, parseParent, parseParents};
 ghost use Rattle.tables.specs.Positions.{slotsOf, width};
 ghost use Rattle.tables.specs.Check.{whenUsed, goodLayout, goodLayouts};
 ghost use Rattle.rules.specs.Search.{slotFrom};
@@ -33,7 +32,7 @@ pub fn slot_area(row: &[u8]) -> &[u8]
 // Slot j of parent row r: a hole where there is none.
 pub fn slot_of(parents: &[u8], r: usize, j: usize) -> Slot
     requires { ⌜ (goodLayouts (now parents) ≡ true) × (r < length (now parents) / parentSize) ⌝ }
-    ensures { λ s. ⌜ s ≡ slotAt (parse (now (parents .entry)) []) r j ⌝ }
+    ensures { λ s. ⌜ s ≡ slotAt (parseParents (now (parents .entry))) r j ⌝ }
 {
     let area = slot_area(rows::row_at(parents, PARENT_SIZE, r));
     if area.len() / SLOT_SIZE <= j {
@@ -45,7 +44,7 @@ pub fn slot_of(parents: &[u8], r: usize, j: usize) -> Slot
 // Whether slot j of parent row r names an object.
 pub fn names_at(parents: &[u8], f: OstFid, r: usize, j: usize) -> bool
     requires { ⌜ (goodLayouts (now parents) ≡ true) × (r < length (now parents) / parentSize) ⌝ }
-    ensures { λ b. ⌜ b ≡ namesAt (parse (now (parents .entry)) []) f r j ⌝ }
+    ensures { λ b. ⌜ b ≡ namesAt (parseParents (now (parents .entry))) f r j ⌝ }
 {
     layout::names(slot_of(parents, r, j), f)
 }
@@ -53,7 +52,7 @@ pub fn names_at(parents: &[u8], f: OstFid, r: usize, j: usize) -> bool
 // The first slot of parent row r that names an object.
 pub fn first_in(parents: &[u8], f: OstFid, r: usize) -> Found
     requires { ⌜ (goodLayouts (now parents) ≡ true) × (r < length (now parents) / parentSize) ⌝ }
-    ensures { λ a. ⌜ a ≡ slotFrom r (width (parse (now (parents .entry)) []) r) 0 (namesAt (parse (now (parents .entry)) []) f) ⌝ }
+    ensures { λ a. ⌜ a ≡ slotFrom r (width (parseParents (now (parents .entry))) r) 0 (namesAt (parseParents (now (parents .entry))) f) ⌝ }
 {
     let area = slot_area(rows::row_at(parents, PARENT_SIZE, r));
     let count = area.len() / SLOT_SIZE;

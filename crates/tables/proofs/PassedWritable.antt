@@ -13,7 +13,6 @@ use Rattle.fid.specs.declared.Fid.{Fid}
 use Rattle.fid.proofs.FidLaws.{Fits, fid-fits}
 use Rattle.layout.specs.Layout.{decodeLayout, encodeLayout}
 use Rattle.layout.proofs.LayoutLaws.{written-back, accepted-writable}
-use Rattle.tables.specs.Records.{Tables}
 use Rattle.tables.specs.Bytes.{parentSize, objectSize, isUsed, decodeOwner, layoutLength, layoutBytes, decodeParent, parseParent, claimFrom, decodeObject, parseObject, parse, selfFid, claimedFid}
 use Rattle.tables.specs.Positions.{rowAt}
 use Rattle.tables.specs.Check.{goodClaim, Sound}
@@ -90,15 +89,15 @@ unfolding rowAt
 sound-fits p o h b c =
     record {
       parents = λ r k.
-          let m : r < length p / parentSize = rw (parsed-parents p o) at k in
+          let m : r < length p / parentSize = rw (parsed-parents p) at k in
           let row : List ℕ = take parentSize (drop (parentSize * r) p) in
           let x = parent-fits row (bytes-take parentSize (drop (parentSize * r) p) (bytes-drop (parentSize * r) p b)) (parent-size p o h r row m refl)
           (parent-facts p o h r row m refl) in
-          rw (parsed-row p o r m) x;
+          rw (parsed-row p r m) x;
       objects = λ r k.
-          let m : r < length o / objectSize = rw (parsed-objects p o) at k in
+          let m : r < length o / objectSize = rw (parsed-objects o) at k in
           let row : List ℕ = take objectSize (drop (objectSize * r) o) in
           let x = object-fits row (bytes-take objectSize (drop (objectSize * r) o) (bytes-drop (objectSize * r) o c)) (object-size p o h r row m refl)
           (object-facts p o h r row m refl) in
-          rw (parsed-object p o r m) x;
+          rw (parsed-object o r m) x;
     }

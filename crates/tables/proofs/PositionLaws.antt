@@ -14,7 +14,7 @@ use Rattle.wire.proofs.Both.{and-first}
 use Rattle.layout.specs.Layout.{decodeLayout, stripeCount, slotStart}
 use Rattle.layout.proofs.SlotLaws.{length-slots}
 use Rattle.tables.specs.Records.{unused, Tables}
-use Rattle.tables.specs.Bytes.{parentSize, objectSize, isUsed, layoutBytes, decodeParent, parseParent, parseObject, parentRows, objectRows, parse, parseRow}
+use Rattle.tables.specs.Bytes.{parentSize, objectSize, isUsed, layoutBytes, decodeParent, parseParent, parseObject, parentRows, objectRows, parse, parseRow, parseParents, parseObjects}
 use Rattle.tables.specs.Positions.{slotsOf, rowAt, width, inStageOne, inStageTwo, isEnd, isPosition, place, fromObject, fromParent, afterPart, next, rowSteps, countSteps}
 use Rattle.tables.specs.declared.Position.{Position}
 
@@ -28,33 +28,34 @@ pub objects-many : (o : List ℕ) → length (objectRows o) ≡ length o / objec
 unfolding objectRows
 objects-many o = rows-length objectSize (length o / objectSize) o
 
-module _ (p o : List ℕ) where
-  pub parsed-parents : length (parse p o .parents) ≡ length p / parentSize
-  unfolding parse
+module _ (p : List ℕ) where
+  pub parsed-parents : length (parseParents p) ≡ length p / parentSize
+  unfolding parseParents
   parsed-parents = length-map (parentRows p) parseParent ∙ parents-many p
 
-  pub parsed-objects : length (parse p o .objects) ≡ length o / objectSize
-  unfolding parse
-  parsed-objects = length-map (objectRows o) parseObject ∙ objects-many o
-
-  -- row r of the tables is row r of the bytes
-  pub parsed-row : (r : ℕ) → r < length p / parentSize → rowAt (parse p o) r ≡ parseParent (take parentSize (drop (parentSize * r) p))
-  unfolding parse rowAt parentRows parseParent isUsed parseRow
+  -- row r of the table is row r of the bytes
+  pub parsed-row : (r : ℕ) → r < length p / parentSize → rowAt (parseParents p) r ≡ parseParent (take parentSize (drop (parentSize * r) p))
+  unfolding parseParents rowAt parentRows parseParent isUsed parseRow
   parsed-row r h =
       List·getD-map parseParent (parentRows p) r []
       ∙ ap parseParent (rows-at parentSize (length p / parentSize) r p h)
 
+  pub parsed-width : (r : ℕ) → r < length p / parentSize → (n : ℕ) (row : List ℕ) → row ≡ take parentSize (drop (parentSize * r) p) →
+      n ≡ length (slotsOf (parseParent row)) → n ≡ width (parseParents p) r
+  unfolding width
+  parsed-width r h n row e k = rw (parsed-row r h, ← e) k
+
+module _ (o : List ℕ) where
+  pub parsed-objects : length (parseObjects o) ≡ length o / objectSize
+  unfolding parseObjects
+  parsed-objects = length-map (objectRows o) parseObject ∙ objects-many o
+
   pub parsed-object : (r : ℕ) → r < length o / objectSize →
-      getD (parse p o .objects) r (unused []) ≡ parseObject (take objectSize (drop (objectSize * r) o))
-  unfolding parse objectRows parseObject isUsed parseRow
+      getD (parseObjects o) r (unused []) ≡ parseObject (take objectSize (drop (objectSize * r) o))
+  unfolding parseObjects objectRows parseObject isUsed parseRow
   parsed-object r h =
       List·getD-map parseObject (objectRows o) r []
       ∙ ap parseObject (rows-at objectSize (length o / objectSize) r o h)
-
-  pub parsed-width : (r : ℕ) → r < length p / parentSize → (n : ℕ) (row : List ℕ) → row ≡ take parentSize (drop (parentSize * r) p) →
-      n ≡ length (slotsOf (parseParent row)) → n ≡ width (parse p o) r
-  unfolding width
-  parsed-width r h n row e k = rw (parsed-row r h, ← e) k
 
 -- the slots of a row
 module _ (row : List ℕ) where
@@ -66,42 +67,25 @@ module _ (row : List ℕ) where
   unfolding parseParent slotsOf decodeParent decodeLayout stripeCount parseRow
   slots-used h = rw (h, length-slots (stripeCount (layoutBytes row)) (drop (slotStart (layoutBytes row)) (layoutBytes row)))
 
--- what is asked of one table is the same beside any other
-module _ (p o : List ℕ) where
-  pub width-alone : (r : ℕ) → width (parse p []) r ≡ width (parse p o) r
-  unfolding parse width rowAt
-  width-alone r = refl
-
-  pub one-alone : (r part : ℕ) → inStageOne (parse p []) r part ≡ inStageOne (parse p o) r part
-  unfolding parse inStageOne width rowAt
-  one-alone r part = refl
-
-  pub two-alone : (r part : ℕ) → inStageTwo (parse [] o) r part ≡ inStageTwo (parse p o) r part
-  unfolding parse inStageTwo
-  two-alone r part = refl
-
-  pub object-alone : (r : ℕ) → fromObject (parse [] o) r ≡ fromObject (parse p o) r
-  unfolding parse fromObject
-  object-alone r = refl
-
 -- ## Which exist
 
-module _ (p o : List ℕ) (row part : ℕ) where
-  pub one-past : length p / parentSize ≤ row → false ≡ inStageOne (parse p o) row part
+module _ (p : List ℕ) (row part : ℕ) where
+  pub one-past : length p / parentSize ≤ row → false ≡ inStageOne (parseParents p) row part
   unfolding inStageOne
-  one-past h = rw (parsed-parents p o, le-ltb _ _ h)
+  one-past h = rw (parsed-parents p, le-ltb _ _ h)
 
-  pub one-part : row < length p / parentSize → (n : ℕ) → n ≡ width (parse p o) row → leb part n ≡ inStageOne (parse p o) row part
+  pub one-part : row < length p / parentSize → (n : ℕ) → n ≡ width (parseParents p) row → leb part n ≡ inStageOne (parseParents p) row part
   unfolding inStageOne
-  one-part h n e = rw (parsed-parents p o, lt-ltb _ _ h, e)
+  one-part h n e = rw (parsed-parents p, lt-ltb _ _ h, e)
 
-  pub two-past : length o / objectSize ≤ row → false ≡ inStageTwo (parse p o) row part
+module _ (o : List ℕ) (row part : ℕ) where
+  pub two-past : length o / objectSize ≤ row → false ≡ inStageTwo (parseObjects o) row part
   unfolding inStageTwo
-  two-past h = rw (parsed-objects p o, le-ltb _ _ h)
+  two-past h = rw (parsed-objects o, le-ltb _ _ h)
 
-  pub two-part : row < length o / objectSize → eqb part 0 ≡ inStageTwo (parse p o) row part
+  pub two-part : row < length o / objectSize → eqb part 0 ≡ inStageTwo (parseObjects o) row part
   unfolding inStageTwo
-  two-part h = rw (parsed-objects p o, lt-ltb _ _ h)
+  two-part h = rw (parsed-objects o, lt-ltb _ _ h)
 
 module _ (p : Position) where
   pub end-stage : (p .stage ≡ 3 → ⊥) → false ≡ isEnd p
@@ -126,49 +110,49 @@ or-mid false = refl
 
 -- an existing position of a stage, and of the end
 module _ (T : Tables) (p : Position) where
-  pub position-one : p .stage ≡ 1 → inStageOne T (p .row) (p .part) ≡ isPosition T p
+  pub position-one : p .stage ≡ 1 → inStageOne (T .parents) (p .row) (p .part) ≡ isPosition T p
   unfolding isPosition isEnd
-  position-one h = rw h (or-off (inStageOne T (p .row) (p .part)))
+  position-one h = rw h (or-off (inStageOne (T .parents) (p .row) (p .part)))
 
-  pub position-two : p .stage ≡ 2 → inStageTwo T (p .row) (p .part) ≡ isPosition T p
+  pub position-two : p .stage ≡ 2 → inStageTwo (T .objects) (p .row) (p .part) ≡ isPosition T p
   unfolding isPosition isEnd
-  position-two h = rw h (or-mid (inStageTwo T (p .row) (p .part)))
+  position-two h = rw h (or-mid (inStageTwo (T .objects) (p .row) (p .part)))
 
   pub position-end : (p .stage ≡ 1 → ⊥) → (p .stage ≡ 2 → ⊥) → isEnd p ≡ isPosition T p
   unfolding isPosition
   position-end h k = rw (ne-eqb _ _ h, ne-eqb _ _ k)
 
 -- a row of an existing position
-module _ (p o : List ℕ) (row part : ℕ) where
-  pub one-row : inStageOne (parse p o) row part ≡ true → row < length p / parentSize
-  unfolding inStageOne
-  one-row h =
-      rw (parsed-parents p o) at (ltb-true row (length (parse p o .parents)) (and-first (ltb row (length (parse p o .parents))) (leb part (width (parse p o) row)) h))
+pub one-row : (p : List ℕ) (row part : ℕ) → inStageOne (parseParents p) row part ≡ true → row < length p / parentSize
+unfolding inStageOne
+one-row p row part h =
+    rw (parsed-parents p) at (ltb-true row (length (parseParents p)) (and-first (ltb row (length (parseParents p))) (leb part (width (parseParents p) row)) h))
 
-  pub two-row : inStageTwo (parse p o) row part ≡ true → row < length o / objectSize
-  unfolding inStageTwo
-  two-row h = rw (parsed-objects p o) at (ltb-true row (length (parse p o .objects)) (and-first (ltb row (length (parse p o .objects))) (eqb part 0) h))
+pub two-row : (o : List ℕ) (row part : ℕ) → inStageTwo (parseObjects o) row part ≡ true → row < length o / objectSize
+unfolding inStageTwo
+two-row o row part h = rw (parsed-objects o) at (ltb-true row (length (parseObjects o)) (and-first (ltb row (length (parseObjects o))) (eqb part 0) h))
 
 -- ## The next
 
+module _ (o : List ℕ) where
+  pub object-past : (r : ℕ) → length o / objectSize ≤ r → place 3 0 0 ≡ fromObject (parseObjects o) r
+  unfolding fromObject
+  object-past r h = rw (parsed-objects o, le-ltb _ _ h)
+
+  pub object-is : (r : ℕ) → r < length o / objectSize → place 2 r 0 ≡ fromObject (parseObjects o) r
+  unfolding fromObject
+  object-is r h = rw (parsed-objects o, lt-ltb _ _ h)
+
 module _ (p o : List ℕ) where
-  pub object-past : (r : ℕ) → length o / objectSize ≤ r → place 3 0 0 ≡ fromObject (parse p o) r
-  unfolding fromObject
-  object-past r h = rw (parsed-objects p o, le-ltb _ _ h)
-
-  pub object-is : (r : ℕ) → r < length o / objectSize → place 2 r 0 ≡ fromObject (parse p o) r
-  unfolding fromObject
-  object-is r h = rw (parsed-objects p o, lt-ltb _ _ h)
-
-  pub parent-past : (r : ℕ) → length p / parentSize ≤ r → fromObject (parse p o) 0 ≡ fromParent (parse p o) r
+  pub parent-past : (r : ℕ) → length p / parentSize ≤ r → fromObject (parseObjects o) 0 ≡ fromParent (parse p o) r
   unfolding fromParent
-  parent-past r h = rw (parsed-parents p o, le-ltb _ _ h)
+  parent-past r h = rw (parsed-parents p, le-ltb _ _ h)
 
   pub parent-is : (r : ℕ) → r < length p / parentSize → place 1 r 0 ≡ fromParent (parse p o) r
   unfolding fromParent
-  parent-is r h = rw (parsed-parents p o, lt-ltb _ _ h)
+  parent-is r h = rw (parsed-parents p, lt-ltb _ _ h)
 
-module _ (T : Tables) (r part n : ℕ) (e : n ≡ width T r) where
+module _ (T : Tables) (r part n : ℕ) (e : n ≡ width (T .parents) r) where
   pub part-past : n ≤ part → fromParent T (r + 1) ≡ afterPart T r part
   unfolding afterPart
   part-past h = rw (← e, le-ltb _ _ h, add-one)
@@ -182,7 +166,7 @@ module _ (T : Tables) (p : Position) where
   unfolding next
   next-one h = rw (eq-eqb _ _ h)
 
-  pub next-two : p .stage ≡ 2 → fromObject T (p .row + 1) ≡ next T p
+  pub next-two : p .stage ≡ 2 → fromObject (T .objects) (p .row + 1) ≡ next T p
   unfolding next
   next-two h = rw (add-one, h)
 
@@ -197,8 +181,8 @@ pub stepsFrom : List ℕ → ℕ → ℕ → ℕ
 stepsFrom p n r = rowSteps (map parseParent (rows parentSize (n - r) (drop (parentSize * r) p)))
 
 module _ (p : List ℕ) where
-  pub steps-start : rowSteps (map parseParent (parentRows p)) ≡ 0 + stepsFrom p (length p / parentSize) 0
-  unfolding parentRows stepsFrom
+  pub steps-start : rowSteps (parseParents p) ≡ 0 + stepsFrom p (length p / parentSize) 0
+  unfolding parseParents parentRows stepsFrom
   steps-start = ap (λ (l : List (List ℕ)). rowSteps (map parseParent l)) (rows-start parentSize (length p / parentSize) p) ∙ omega arith
 
   pub steps-end : (n r s x : ℕ) → x ≡ s + stepsFrom p n r → n ≤ r → s ≡ x
@@ -211,6 +195,6 @@ module _ (p : List ℕ) where
   steps-step n r s x w row e h at k =
       let z : stepsFrom p n r ≡ suc w + stepsFrom p n (r + 1) = rw (rows-step parentSize n r p h, ← at, k) in omega arith
 
-pub count-is : (p o : List ℕ) (m n : ℕ) → m ≡ rowSteps (map parseParent (parentRows p)) → n ≡ length o / objectSize → m + n ≡ countSteps (parse p o)
-unfolding countSteps parse
-count-is p o m n e f = rw (e, f, length-map (objectRows o) parseObject, objects-many o)
+pub count-is : (p o : List ℕ) (m n : ℕ) → m ≡ rowSteps (parseParents p) → n ≡ length o / objectSize → m + n ≡ countSteps (parse p o)
+unfolding countSteps
+count-is p o m n e f = rw (e, f, parsed-objects o)

@@ -17,8 +17,7 @@ use Rattle.fid.specs.declared.Fid.{Fid}
 use Rattle.fid.proofs.FidLaws.{encode-decode}
 use Rattle.layout.specs.Layout.{decodeLayout, encodeLayout}
 use Rattle.layout.proofs.LayoutLaws.{written-back}
-use Rattle.tables.specs.Records.{Tables}
-use Rattle.tables.specs.Bytes.{parentSize, objectSize, isUsed, decodeOwner, encodeOwner, layoutLength, layoutBytes, decodeParent, encodeParent, parseParent, renderParent, claimFrom, claimFid, decodeObject, mark, encodeObject, parseObject, renderObject, parentRows, objectRows, parse, join, renderParents, renderObjects, selfFid, claimedFid}
+use Rattle.tables.specs.Bytes.{parentSize, objectSize, isUsed, decodeOwner, encodeOwner, layoutLength, layoutBytes, decodeParent, encodeParent, parseParent, renderParent, claimFrom, claimFid, decodeObject, mark, encodeObject, parseObject, renderObject, parentRows, objectRows, parse, join, renderParents, renderObjects, selfFid, claimedFid, parseParents, parseObjects}
 use Rattle.tables.specs.Check.{Sound}
 use Rattle.tables.specs.declared.Claim.the-variants.{Unclaimed, Claims}
 use Rattle.tables.proofs.SameLaws.{same-is}
@@ -137,7 +136,7 @@ module _ {R : Type 0} (read : List ℕ → R) (write : R → List ℕ) (size : �
 module _ (p o : List ℕ) (h : Sound p o) where
   -- the parent table, written back
   pub parents-back : Bytes p → renderParents (parse p o) ≡ p
-  unfolding renderParents parse parentRows
+  unfolding renderParents parseParents parentRows
   parents-back b =
       join-back parseParent renderParent parentSize (length p / parentSize) p (sym (sound-facts p o h .parents-length))
       (λ r k. let row : List ℕ = take parentSize (drop (parentSize * r) p) in
@@ -146,7 +145,7 @@ module _ (p o : List ℕ) (h : Sound p o) where
 
   -- the object table, written back
   pub objects-back : Bytes o → renderObjects (parse p o) ≡ o
-  unfolding renderObjects parse objectRows
+  unfolding renderObjects parseObjects objectRows
   objects-back b =
       join-back parseObject renderObject objectSize (length o / objectSize) o (sym (sound-facts p o h .objects-length))
       (λ r k. let row : List ℕ = take objectSize (drop (objectSize * r) o) in

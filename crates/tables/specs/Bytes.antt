@@ -166,8 +166,15 @@ parentRows l = rows parentSize (length l / parentSize) l
 unfoldable pub objectRows : List ℕ → List (List ℕ)
 objectRows l = rows objectSize (length l / objectSize) l
 
-unfoldable pub parse : List ℕ → List ℕ → Tables
-parse parents objects = record { parents = map parseParent (parentRows parents); objects = map parseObject (objectRows objects) }
+unfoldable pub parseParents : List ℕ → List ParentRow
+parseParents l = map parseParent (parentRows l)
+
+unfoldable pub parseObjects : List ℕ → List ObjectRow
+parseObjects l = map parseObject (objectRows l)
+
+-- what both tables say
+abbrev pub parse : List ℕ → List ℕ → Tables
+parse parents objects = record { parents = parseParents parents; objects = parseObjects objects }
 
 unfoldable pub join : List (List ℕ) → List ℕ
 join [] = []

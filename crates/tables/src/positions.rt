@@ -4,11 +4,10 @@ use super::rows;
 use super::rows::OBJECT_SIZE;
 use super::rows::PARENT_SIZE;
 ghost use mathlib.Core.Path.{_≡_};
-ghost use mathlib.Core.List.{[], map};
 ghost use mathlib.Core.Bool.{true};
 ghost use Prim.Native.Nat.{_+_, _/_, _≤_, _<_};
 ghost use lib.ListN.{length};
-ghost use Rattle.tables.specs.Bytes.{parentSize, objectSize, parentRows, parseParent, parse};
+ghost use Rattle.tables.specs.Bytes.{parentSize, objectSize, parseParent, parse, parseParents, parseObjects};
 ghost use Rattle.tables.specs.Positions.{slotsOf, width, inStageOne, inStageTwo, isEnd, isPosition, place, fromObject, fromParent, start, afterPart, next, rowSteps, countSteps};
 ghost use Rattle.tables.specs.Check.{whenUsed, maxParents, goodLayout, goodLayouts, Sound};
 
@@ -40,7 +39,7 @@ pub fn row_width(row: &[u8]) -> u16
 // The number of slots of parent row r.
 pub fn width(parents: &[u8], r: usize) -> u16
     requires { ⌜ (goodLayouts (now parents) ≡ true) × (r < length (now parents) / parentSize) ⌝ }
-    ensures { λ n. ⌜ n ≡ width (parse (now (parents .entry)) []) r ⌝ }
+    ensures { λ n. ⌜ n ≡ width (parseParents (now (parents .entry))) r ⌝ }
 {
     row_width(rows::row_at(parents, PARENT_SIZE, r))
 }
@@ -48,7 +47,7 @@ pub fn width(parents: &[u8], r: usize) -> u16
 // Whether this row and part are a position of stage one.
 pub fn in_stage_one(parents: &[u8], row: u64, part: u64) -> bool
     requires { ⌜ goodLayouts (now parents) ≡ true ⌝ }
-    ensures { λ r. ⌜ r ≡ inStageOne (parse (now (parents .entry)) []) row part ⌝ }
+    ensures { λ r. ⌜ r ≡ inStageOne (parseParents (now (parents .entry))) row part ⌝ }
 {
     let r = row as usize;
     if parent_count(parents) <= r {
@@ -59,7 +58,7 @@ pub fn in_stage_one(parents: &[u8], row: u64, part: u64) -> bool
 
 // Whether they are a position of stage two.
 pub fn in_stage_two(objects: &[u8], row: u64, part: u64) -> bool
-    ensures { λ r. ⌜ r ≡ inStageTwo (parse [] (now (objects .entry))) row part ⌝ }
+    ensures { λ r. ⌜ r ≡ inStageTwo (parseObjects (now (objects .entry))) row part ⌝ }
 {
     if object_count(objects) <= row as usize {
         return false;
@@ -105,7 +104,7 @@ pub fn end() -> Position
 
 // Object row o if there is one, else the end.
 pub fn from_object(objects: &[u8], o: usize) -> Position
-    ensures { λ p. ⌜ p ≡ fromObject (parse [] (now (objects .entry))) o ⌝ }
+    ensures { λ p. ⌜ p ≡ fromObject (parseObjects (now (objects .entry))) o ⌝ }
 {
     if object_count(objects) <= o {
         return end();
@@ -172,7 +171,7 @@ pub fn next_position(parents: &[u8], objects: &[u8], at: Position) -> Position
 // The steps of stage one: one for each row and one for each slot.
 pub fn row_steps(parents: &[u8]) -> u32
     requires { ⌜ (goodLayouts (now parents) ≡ true) × (length (now parents) / parentSize ≤ maxParents) ⌝ }
-    ensures { λ n. ⌜ n ≡ rowSteps (map parseParent (parentRows (now (parents .entry)))) ⌝ }
+    ensures { λ n. ⌜ n ≡ rowSteps (parseParents (now (parents .entry))) ⌝ }
 {
     let n = parents.len() / PARENT_SIZE;
     let mut steps: u32 = 0;

@@ -11,7 +11,7 @@ use Rattle.layout.specs.declared.Slot.{Slot}
 use Rattle.layout.specs.declared.Slot.the-variants.{Hole, Names}
 use Rattle.layout.specs.Layout.{maxSlots}
 use Rattle.tables.specs.Records.{ParentRow, unused, used, Tables}
-use Rattle.tables.specs.Bytes.{parentSize, isUsed, decodeParent, parseParent, parse, parseRow}
+use Rattle.tables.specs.Bytes.{parentSize, isUsed, decodeParent, parseParent, parse, parseRow, parseParents}
 use Rattle.tables.specs.Positions.{rowAt, slotsOf}
 use Rattle.tables.specs.Check.{goodLayout, goodParent, Sound}
 use Rattle.tables.proofs.SoundLaws.{sound-facts, used-passes, layout-at, parent-size, parent-facts}
@@ -43,9 +43,9 @@ module _ (p o : List ℕ) (s : Tables → Step) where
 
 -- ## Rows
 
-pub row-is : (p o : List ℕ) (r : ℕ) → r < length p / parentSize → rowAt (parse p o) r ≡ parseParent (rowBytes p r)
+pub row-is : (p : List ℕ) (r : ℕ) → r < length p / parentSize → rowAt (parseParents p) r ≡ parseParent (rowBytes p r)
 unfolding rowBytes
-row-is p o r k = parsed-row p o r k
+row-is p r k = parsed-row p r k
 
 -- a used row of tables that passed
 pub used-at : (p o : List ℕ) (r : ℕ) → Sound p o → r < length p / parentSize → isUsed (rowBytes p r) ≡ true → UsedAt p r
@@ -65,8 +65,8 @@ used-at p o r h k u =
 pub row-inside : (p : List ℕ) (r : ℕ) → UsedAt p r → r < length p / parentSize
 row-inside p r u = omega (arith, u .inside)
 
-pub row-says : (p : List ℕ) (r : ℕ) → UsedAt p r → (row : List ℕ) → row ≡ rowBytes p r → rowAt (parse p []) r ≡ used (decodeParent row)
-row-says p r u row e = row-is p [] r (row-inside p r u) ∙ ap parseParent (sym e) ∙ parent-used row (ap isUsed e ∙ u .row .used)
+pub row-says : (p : List ℕ) (r : ℕ) → UsedAt p r → (row : List ℕ) → row ≡ rowBytes p r → rowAt (parseParents p) r ≡ used (decodeParent row)
+row-says p r u row e = row-is p r (row-inside p r u) ∙ ap parseParent (sym e) ∙ parent-used row (ap isUsed e ∙ u .row .used)
 
 -- ## A slot that names an object lies in a used row, inside its layout
 
@@ -85,10 +85,10 @@ in-row row j f n i e = go (isUsed row) refl e
     go true u q = (u, past (decodeParent row .layout .slots) j f n i q)
     go false u q = let z : _≡_ {A = ℕ} 0 1 = cc in absurd (omega arith)
 
-module _ (p o : List ℕ) (r j : ℕ) (h : Sound p o) (k : r < length p / parentSize) (s : Slot) (e : s ≡ slotAt (parse p []) r j) (f : OstFid) (n i : ℕ) (q : s ≡ Names f n i) where
+module _ (p o : List ℕ) (r j : ℕ) (h : Sound p o) (k : r < length p / parentSize) (s : Slot) (e : s ≡ slotAt (parseParents p) r j) (f : OstFid) (n i : ℕ) (q : s ≡ Names f n i) where
   found : (isUsed (rowBytes p r) ≡ true) × (j < length (decodeParent (rowBytes p r) .layout .slots))
   unfolding slotAt
-  found = in-row (rowBytes p r) j f n i (ap (λ (w : ParentRow). getD (slotsOf w) j Hole) (sym (row-is p [] r k)) ∙ sym e ∙ q)
+  found = in-row (rowBytes p r) j f n i (ap (λ (w : ParentRow). getD (slotsOf w) j Hole) (sym (row-is p r k)) ∙ sym e ∙ q)
 
   pub slot-ready : SlotReady p o r j
   slot-ready = let c = count-of (rowBytes p r) in record { tables = h; row = used-at p o r h k (found .0); slot = omega (arith, found .1) }

@@ -1,5 +1,4 @@
 use denote.Ref.{now}
-use mathlib.Core.List.{[]}
 use mathlib.Core.Path.{sym, _∙_}
 use native.Mathlib.Omega.{arith}
 use Rattle.search.proofs.FoundRows.{object-inside}
@@ -9,7 +8,7 @@ use Rattle.decide_slots.proofs.mend.Statement.{statement}
 use Rattle.decide_slots.proofs.mend.Tie as tie
 
 row-at-requires : tie.Need-row-at-requires
-row-at-requires c κs = let a = c .before .before .before .before .before .before .args in let v = c .before .found .given in let h = object-inside [] (now (a .objects)) (a .f) (v .0 .0) (sym (c .before .before .before .object-row .ensures) ∙ v .1) in omega arith
+row-at-requires c κs = let a = c .before .before .before .before .before .before .args in let v = c .before .found .given in let h = object-inside (now (a .objects)) (a .f) (v .0 .0) (sym (c .before .before .before .object-row .ensures) ∙ v .1) in omega arith
 
 returns : tie.Need-returns
 returns c = let a = c .before .before .before .before .before .args in mend-absent (now (a .parents)) (now (a .objects)) (a .f) (a .class) (a .r) (a .j) (sym (c .before .before .object-row .ensures) ∙ c .enum-told .given .1)

@@ -1,5 +1,4 @@
 use mathlib.Core.Path.{sym, _∙_}
-use mathlib.Core.List.{[]}
 use denote.Ref.{now}
 use Rattle.search.proofs.FoundRows.{parent-inside}
 use Rattle.classify.proofs.PlaceLaws.{way-far, way-absent, way-row}
@@ -11,7 +10,7 @@ returns : tie.Need-returns
 returns c = let a = c .before .before .before .before .args in way-far (now (a .parents)) (now (a .objects)) (a .place) (c .if1 .taken)
 
 row-way-requires : tie.Need-row-way-requires
-row-way-requires c κs = let a = c .before .before .before .before .before .before .before .before .before .args in (c .before .before .before .before .before .before .before .before .before .pre, parent-inside (now (a .parents)) [] (a .place .file) (c .before .row .given .0 .0) (sym (c .before .before .before .parent-row .ensures) ∙ c .before .row .given .1))
+row-way-requires c κs = let a = c .before .before .before .before .before .before .before .before .before .args in (c .before .before .before .before .before .before .before .before .before .pre, parent-inside (now (a .parents)) (a .place .file) (c .before .row .given .0 .0) (sym (c .before .before .before .parent-row .ensures) ∙ c .before .row .given .1))
 
 returns-2 : tie.Need-returns-2
 returns-2 c = let a = c .before .before .before .before .before .before .before .before .args in way-absent (now (a .parents)) (now (a .objects)) (a .place) (c .before .before .before .before .if1 .left) (sym (c .before .before .parent-row .ensures) ∙ c .enum-told .given .1)

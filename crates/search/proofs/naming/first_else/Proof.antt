@@ -1,4 +1,3 @@
-use mathlib.Core.List.{[]}
 use mathlib.Core.Path.{_≡_, refl, _∙_}
 use native.Mathlib.Omega.{arith}
 use denote.Ref.{now}
@@ -6,7 +5,7 @@ use Prim.Native.Nat.{_+_, _-_, _/_}
 use lib.ListN.{length}
 use borrow.Author.Needs.{needs}
 use Rattle.layout.specs.Slot.{decodeSlots}
-use Rattle.tables.specs.Bytes.{parse}
+use Rattle.tables.specs.Bytes.{parseParents}
 use Rattle.tables.specs.Positions.{slotsOf, rowAt, width}
 use Rattle.tables.proofs.SoundLaws.{layout-at}
 use Rattle.rules.specs.Search.{orElse}
@@ -20,13 +19,13 @@ use Rattle.search.proofs.naming.first_else.Tie as tie
 
 abbrev Inv-loop : tie.InvT-loop
 Inv-loop parents f r j n found₀ k area count i₀ found i =
-    (found ≡ Nowhere) × (scan (parse parents []) (namesElse (parse parents []) f r j) ≡ orElse (slotsLeft (namesElse (parse parents []) f r j) k count i) (placesLeft (width (parse parents [])) (namesElse (parse parents []) f r j) n (k + 1)))
+    (found ≡ Nowhere) × (scan (parseParents parents) (namesElse (parseParents parents) f r j) ≡ orElse (slotsLeft (namesElse (parseParents parents) f r j) k count i) (placesLeft (width (parseParents parents)) (namesElse (parseParents parents) f r j) n (k + 1)))
 
 abbrev μ-loop : tie.MeasureT-loop
 μ-loop parents f r j n found₀ k area count i₀ found i = count - i
 
 abbrev Inv-rows : tie.InvT-rows
-Inv-rows parents f r j n found₀ k₀ found k = (found ≡ Nowhere) × (scan (parse parents []) (namesElse (parse parents []) f r j) ≡ placesLeft (width (parse parents [])) (namesElse (parse parents []) f r j) n k)
+Inv-rows parents f r j n found₀ k₀ found k = (found ≡ Nowhere) × (scan (parseParents parents) (namesElse (parseParents parents) f r j) ≡ placesLeft (width (parseParents parents)) (namesElse (parseParents parents) f r j) n k)
 
 abbrev μ-rows : tie.MeasureT-rows
 μ-rows parents f r j n found₀ k₀ found k = n - k
@@ -40,7 +39,7 @@ slot-area-requires c κs = (c .row-at .ensures .1, layout-at (now (c .before .be
 -- the slots of row k lie in the area
 area : (c : tie.After-slot-area Inv-loop μ-loop Inv-rows μ-rows) →
     let l = now (c .slot-area .result) in
-    slotsOf (rowAt (parse (now (c .before .before .before .before .before .args .parents)) []) (c .before .before .before .rows .k)) ≡ decodeSlots (length l / 24) l
+    slotsOf (rowAt (parseParents (now (c .before .before .before .before .before .args .parents))) (c .before .before .before .rows .k)) ≡ decodeSlots (length l / 24) l
 area c = area-of _ _ _ (now (c .slot-area .result)) (omega arith) (c .before .row-at .ensures .0) (c .slot-area .ensures)
 
 loop-holds : tie.Need-loop-holds Inv-loop μ-loop Inv-rows μ-rows

@@ -1,4 +1,3 @@
-use mathlib.Core.List.{[]}
 use mathlib.Core.Path.{_≡_, refl, _∙_}
 use native.Mathlib.Omega.{arith}
 use denote.Ref.{now}
@@ -6,7 +5,7 @@ use Prim.Native.Nat.{_+_, _-_, _/_}
 use lib.ListN.{length}
 use borrow.Author.Needs.{needs}
 use Rattle.layout.specs.Slot.{decodeSlots}
-use Rattle.tables.specs.Bytes.{parse}
+use Rattle.tables.specs.Bytes.{parseParents}
 use Rattle.tables.specs.Positions.{slotsOf, rowAt, width}
 use Rattle.tables.proofs.SoundLaws.{layout-at}
 use Rattle.rules.specs.Search.{orElse}
@@ -20,13 +19,13 @@ use Rattle.search.proofs.naming.first_naming.Tie as tie
 
 abbrev Inv-loop : tie.InvT-loop
 Inv-loop parents f n found₀ r area count j₀ found j =
-    (found ≡ Nowhere) × (scan (parse parents []) (namesAt (parse parents []) f) ≡ orElse (slotsLeft (namesAt (parse parents []) f) r count j) (placesLeft (width (parse parents [])) (namesAt (parse parents []) f) n (r + 1)))
+    (found ≡ Nowhere) × (scan (parseParents parents) (namesAt (parseParents parents) f) ≡ orElse (slotsLeft (namesAt (parseParents parents) f) r count j) (placesLeft (width (parseParents parents)) (namesAt (parseParents parents) f) n (r + 1)))
 
 abbrev μ-loop : tie.MeasureT-loop
 μ-loop parents f n found₀ r area count j₀ found j = count - j
 
 abbrev Inv-rows : tie.InvT-rows
-Inv-rows parents f n found₀ r₀ found r = (found ≡ Nowhere) × (scan (parse parents []) (namesAt (parse parents []) f) ≡ placesLeft (width (parse parents [])) (namesAt (parse parents []) f) n r)
+Inv-rows parents f n found₀ r₀ found r = (found ≡ Nowhere) × (scan (parseParents parents) (namesAt (parseParents parents) f) ≡ placesLeft (width (parseParents parents)) (namesAt (parseParents parents) f) n r)
 
 abbrev μ-rows : tie.MeasureT-rows
 μ-rows parents f n found₀ r₀ found r = n - r
@@ -40,7 +39,7 @@ slot-area-requires c κs = (c .row-at .ensures .1, layout-at (now (c .before .be
 -- the slots of row r lie in the area
 area : (c : tie.After-slot-area Inv-loop μ-loop Inv-rows μ-rows) →
     let l = now (c .slot-area .result) in
-    slotsOf (rowAt (parse (now (c .before .before .before .before .before .args .parents)) []) (c .before .before .before .rows .r)) ≡ decodeSlots (length l / 24) l
+    slotsOf (rowAt (parseParents (now (c .before .before .before .before .before .args .parents))) (c .before .before .before .rows .r)) ≡ decodeSlots (length l / 24) l
 area c = area-of _ _ _ (now (c .slot-area .result)) (omega arith) (c .before .row-at .ensures .0) (c .slot-area .ensures)
 
 loop-holds : tie.Need-loop-holds Inv-loop μ-loop Inv-rows μ-rows

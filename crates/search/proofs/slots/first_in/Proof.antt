@@ -1,4 +1,3 @@
-use mathlib.Core.List.{[]}
 use mathlib.Core.Path.{_≡_, _∙_}
 use native.Mathlib.Omega.{arith}
 use denote.Ref.{now}
@@ -6,7 +5,7 @@ use Prim.Native.Nat.{_-_, _/_}
 use lib.ListN.{length}
 use borrow.Author.Needs.{needs}
 use Rattle.layout.specs.Slot.{decodeSlots}
-use Rattle.tables.specs.Bytes.{parse}
+use Rattle.tables.specs.Bytes.{parseParents}
 use Rattle.tables.specs.Positions.{slotsOf, rowAt, width}
 use Rattle.tables.proofs.SoundLaws.{layout-at}
 use Rattle.rules.specs.Search.{slotFrom}
@@ -18,7 +17,7 @@ use Rattle.search.proofs.slots.first_in.Statement.{statement}
 use Rattle.search.proofs.slots.first_in.Tie as tie
 
 abbrev Inv-loop : tie.InvT-loop
-Inv-loop parents f r area count j₀ j = slotFrom r (width (parse parents []) r) 0 (namesAt (parse parents []) f) ≡ slotsLeft (namesAt (parse parents []) f) r count j
+Inv-loop parents f r area count j₀ j = slotFrom r (width (parseParents parents) r) 0 (namesAt (parseParents parents) f) ≡ slotsLeft (namesAt (parseParents parents) f) r count j
 
 abbrev μ-loop : tie.MeasureT-loop
 μ-loop parents f r area count j₀ j = count - j
@@ -29,7 +28,7 @@ slot-area-requires c κs = (c .row-at .ensures .1, layout-at (now (c .before .be
 -- the slots of row r lie in the area
 area : (c : tie.After-slot-area Inv-loop μ-loop) →
     let l = now (c .slot-area .result) in
-    slotsOf (rowAt (parse (now (c .before .before .before .args .parents)) []) (c .before .before .before .args .r)) ≡ decodeSlots (length l / 24) l
+    slotsOf (rowAt (parseParents (now (c .before .before .before .args .parents))) (c .before .before .before .args .r)) ≡ decodeSlots (length l / 24) l
 area c = area-of _ _ _ (now (c .slot-area .result)) (c .before .before .before .pre .1) (c .before .row-at .ensures .0) (c .slot-area .ensures)
 
 loop-holds : tie.Need-loop-holds Inv-loop μ-loop

@@ -1,11 +1,10 @@
-use mathlib.Core.List.{[]}
 use mathlib.Core.Path.{_≡_}
 use native.Mathlib.Omega.{arith}
 use denote.Ref.{now}
 use Prim.Native.Nat.{_/_}
 use lib.ListN.{length}
 use Rattle.layout.specs.Slot.{decodeSlots}
-use Rattle.tables.specs.Bytes.{parse}
+use Rattle.tables.specs.Bytes.{parseParents}
 use Rattle.tables.specs.Positions.{slotsOf, rowAt}
 use Rattle.tables.proofs.SoundLaws.{layout-at}
 use Rattle.search.proofs.SlotArea.{area-of, area-slot, area-past}
@@ -19,7 +18,7 @@ slot-area-requires c κs = (c .row-at .ensures .1, layout-at (now (c .before .be
 -- the slots of row r lie in the area
 area : (c : tie.After-slot-area) →
     let l = now (c .slot-area .result) in
-    slotsOf (rowAt (parse (now (c .before .before .before .args .parents)) []) (c .before .before .before .args .r)) ≡ decodeSlots (length l / 24) l
+    slotsOf (rowAt (parseParents (now (c .before .before .before .args .parents))) (c .before .before .before .args .r)) ≡ decodeSlots (length l / 24) l
 area c = area-of _ _ _ (now (c .slot-area .result)) (c .before .before .before .pre .1) (c .before .row-at .ensures .0) (c .slot-area .ensures)
 
 returns : tie.Need-returns

@@ -3,7 +3,7 @@ use native.Mathlib.Omega.{arith}
 use denote.Ref.{now}
 use Rattle.tables.specs.Bytes.{parse}
 use Rattle.tables.specs.Positions.{place}
-use Rattle.tables.proofs.PositionLaws.{width-alone, part-past, part-next}
+use Rattle.tables.proofs.PositionLaws.{part-past, part-next}
 use borrow.Author.Needs.{needs}
 use Rattle.tables.proofs.positions.after_part.Statement.{statement}
 use Rattle.tables.proofs.positions.after_part.Tie as tie
@@ -13,14 +13,14 @@ returns c =
     let a = c .before .before .before .before .before .args in
     c .from-parent .ensures
     ∙ part-past (parse (now (a .parents)) (now (a .objects))) (a .row) (a .part) _
-    (c .before .before .width .ensures ∙ width-alone (now (a .parents)) (now (a .objects)) (a .row)) (omega arith)
+    (c .before .before .width .ensures) (omega arith)
 
 returns-2 : tie.Need-returns-2
 unfolding place
 returns-2 c =
     let a = c .before .before .before .before .args in
     part-next (parse (now (a .parents)) (now (a .objects))) (a .row) (a .part) _
-    (c .before .width .ensures ∙ width-alone (now (a .parents)) (now (a .objects)) (a .row)) (omega arith)
+    (c .before .width .ensures) (omega arith)
 
 pub after-part-spec : {M : Type 1} → statement M
 after-part-spec =

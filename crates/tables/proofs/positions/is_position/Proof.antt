@@ -2,7 +2,7 @@ use mathlib.Core.Path.{_∙_}
 use native.Mathlib.Omega.{arith}
 use denote.Ref.{now}
 use Rattle.tables.specs.Bytes.{parse}
-use Rattle.tables.proofs.PositionLaws.{one-alone, two-alone, position-one, position-two, position-end}
+use Rattle.tables.proofs.PositionLaws.{position-one, position-two, position-end}
 use Rattle.tables.proofs.SoundLaws.{sound-facts}
 use borrow.Author.Needs.{needs}
 use Rattle.tables.proofs.positions.is_position.Statement.{statement}
@@ -14,13 +14,13 @@ in-stage-one-requires c κs = sound-facts _ _ (c .before .before .before .before
 returns : tie.Need-returns
 returns c =
     let a = c .before .before .before .before .before .args in
-    c .in-stage-one .ensures ∙ one-alone (now (a .parents)) (now (a .objects)) (a .at .row) (a .at .part)
+    c .in-stage-one .ensures
     ∙ position-one (parse (now (a .parents)) (now (a .objects))) (a .at) (omega arith)
 
 returns-2 : tie.Need-returns-2
 returns-2 c =
     let a = c .before .before .before .before .before .before .before .args in
-    c .in-stage-two .ensures ∙ two-alone (now (a .parents)) (now (a .objects)) (a .at .row) (a .at .part)
+    c .in-stage-two .ensures
     ∙ position-two (parse (now (a .parents)) (now (a .objects))) (a .at) (omega arith)
 
 returns-3 : tie.Need-returns-3

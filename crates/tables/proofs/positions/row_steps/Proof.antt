@@ -2,8 +2,7 @@ use Prim.Native.Nat.{_+_, _-_, _*_, _≤_}
 use mathlib.Core.Path.{_≡_}
 use native.Mathlib.Omega.{arith}
 use denote.Ref.{now}
-use mathlib.Core.List.{map}
-use Rattle.tables.specs.Bytes.{parentRows, parseParent}
+use Rattle.tables.specs.Bytes.{parseParents}
 use Rattle.tables.specs.Positions.{rowSteps}
 use Rattle.tables.proofs.PositionLaws.{stepsFrom, steps-start, steps-end, steps-step}
 use Rattle.tables.proofs.SoundLaws.{layout-at}
@@ -11,7 +10,7 @@ use Rattle.tables.proofs.positions.row_steps.Statement.{statement}
 use Rattle.tables.proofs.positions.row_steps.Tie as tie
 
 abbrev Inv-loop : tie.InvT-loop
-Inv-loop parents n steps₀ r₀ steps r = (r ≤ n) × (steps ≤ 65536 * r) × (rowSteps (map parseParent (parentRows parents)) ≡ steps + stepsFrom parents n r)
+Inv-loop parents n steps₀ r₀ steps r = (r ≤ n) × (steps ≤ 65536 * r) × (rowSteps (parseParents parents) ≡ steps + stepsFrom parents n r)
 
 abbrev μ-loop : tie.MeasureT-loop
 μ-loop parents n steps₀ r₀ steps r = n - r
