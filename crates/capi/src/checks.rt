@@ -25,7 +25,7 @@ pub extern "C" fn lfsck_check(
         row: row,
         part: part,
     };
-    tables::check(parents, objects, reserve, policy, at)
+    checks::check(parents, objects, reserve, policy, at)
 }
 
 // Where a run starts: 3 numbers into position.

@@ -48,7 +48,7 @@ pub fn run(
     ensures report { λ _. ⌜ now (report .exit) ≡ called (now (parents .entry)) (now (objects .entry)) (now (reserve .entry)) policy most (now (position .entry)) (now (report .entry)) .report ⌝ }
 {
     let at = capi_tables::position_given(position);
-    let number = tables::check(parents, objects, reserve, policy, at);
+    let number = checks::check(parents, objects, reserve, policy, at);
     if number != 0 {
         return number;
     }

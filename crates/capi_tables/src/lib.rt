@@ -43,7 +43,7 @@ pub fn start(parents: &[u8], objects: &[u8], position: &mut [u64]) -> u32
     ensures answer { λ r. ⌜ r ≡ outAnswer (startNumber (startAnswer (now (parents .entry)) (now (objects .entry)))) (startNumbers (startAnswer (now (parents .entry)) (now (objects .entry)))) (now (position .entry)) ⌝ }
     ensures position { λ _. ⌜ now (position .exit) ≡ outNumbers (startNumber (startAnswer (now (parents .entry)) (now (objects .entry)))) (startNumbers (startAnswer (now (parents .entry)) (now (objects .entry)))) (now (position .entry)) ⌝ }
 {
-    let start = tables::start(parents, objects);
+    let start = checks::start(parents, objects);
     match start {
         StartAnswer::NoStart(n) => n,
         StartAnswer::StartIs(at) => {
@@ -61,7 +61,7 @@ pub fn steps(parents: &[u8], objects: &[u8], out: &mut [u64]) -> u32
     ensures answer { λ r. ⌜ r ≡ outAnswer (stepsNumber (stepsAnswer (now (parents .entry)) (now (objects .entry)))) (stepsNumbers (stepsAnswer (now (parents .entry)) (now (objects .entry)))) (now (out .entry)) ⌝ }
     ensures out { λ _. ⌜ now (out .exit) ≡ outNumbers (stepsNumber (stepsAnswer (now (parents .entry)) (now (objects .entry)))) (stepsNumbers (stepsAnswer (now (parents .entry)) (now (objects .entry)))) (now (out .entry)) ⌝ }
 {
-    let steps = tables::steps(parents, objects);
+    let steps = checks::steps(parents, objects);
     match steps {
         StepsAnswer::NoSteps(n) => n,
         StepsAnswer::StepsAre(count) => {

@@ -1,6 +1,1 @@
-pub mod HeaderLaws
-pub mod ClaimLaws
-pub mod PlaceLaws
-pub mod SlotLaws
-pub mod ObjectLaws
 pub mod AnswerLaws

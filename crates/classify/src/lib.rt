@@ -1,12 +1,6 @@
 // The classes of document 01 over the lent tables: of a header, a slot, an object, and at a position.
-pub mod headers;
-pub mod objects;
-pub mod places;
-pub mod slots;
-
 use rules::Class;
 use tables::Position;
-use tables::positions;
 ghost use mathlib.Core.Path.{_≡_};
 ghost use mathlib.Core.Bool.{true, false};
 ghost use Rattle.tables.specs.Bytes.{parse};
@@ -28,20 +22,20 @@ pub fn class_of(parents: &[u8], objects: &[u8], at: Position) -> Class
 {
     let row = at.row as usize;
     if at.stage != 1 {
-        return Class::Object(objects::object_class(parents, objects, row));
+        return Class::Object(classify_objects::object_class(parents, objects, row));
     }
     if at.part == 0 {
-        return Class::Header(headers::header_class(parents, row));
+        return Class::Header(classify_places::headers::header_class(parents, row));
     }
     let j = (at.part - 1) as usize;
-    Class::Slot(slots::slot_class(parents, objects, row, j))
+    Class::Slot(classify_slots::slot_class(parents, objects, row, j))
 }
 
 // The class at a position, for any bytes and any position: the tables are refused first, then the position.
 pub fn class_at(parents: &[u8], objects: &[u8], at: Position) -> ClassAnswer
     ensures { λ a. ⌜ a ≡ classAnswer (now (parents .entry)) (now (objects .entry)) at ⌝ }
 {
-    let number = tables::check_tables(parents, objects);
+    let number = checks::check_tables(parents, objects);
     if number != 0 {
         return ClassAnswer::NoClass(number);
     }

@@ -1,5 +1,5 @@
 // The step of an object row, decided: EMPTY is destroyed, ORPHAN is put in its claimed place.
-use classify::places;
+use classify_places::places;
 use fid::MdtFid;
 use layout::Slot;
 use rules::ObjectClass;
@@ -59,7 +59,7 @@ fn owner_write(k: usize, x: Object, w: Owner) -> Write
     ensures { λ a. ⌜ a ≡ ownerWrite k x w ⌝ }
 {
     let owner = x.owner;
-    if classify::slots::same_owner(owner, w) {
+    if classify_slots::same_owner(owner, w) {
         return Write::Nothing;
     }
     let name = x.fid;
@@ -162,7 +162,7 @@ pub fn object(parents: &[u8], objects: &[u8], reserve: &[u8], policy: u64, k: us
     if !may_adopt(policy) {
         return Step::Rests;
     }
-    let class = classify::objects::object_class(parents, objects, k);
+    let class = classify_objects::object_class(parents, objects, k);
     match class {
         ObjectClass::UNUSED => Step::Rests,
         ObjectClass::KEPT => Step::Rests,

@@ -1,5 +1,5 @@
 // The step of a header or a slot, decided.
-use classify::headers;
+use classify_places::headers;
 use fid::OstFid;
 use layout::Slot;
 use rules::HeaderClass;
@@ -184,7 +184,7 @@ fn named_slot(
     requires { ⌜ SlotReady (now parents) (now objects) r j ⌝ }
     ensures { λ d. ⌜ Decides (now (parents .entry)) (now (objects .entry)) d (λ T. repairSlot (settingsOf policy (now (reserve .entry))) T r j f ost (slotClass T r j)) ⌝ }
 {
-    let class = classify::slots::slot_class(parents, objects, r, j as usize);
+    let class = classify_slots::slot_class(parents, objects, r, j as usize);
     match class {
         SlotClass::HOLE => Step::Rests,
         SlotClass::CLEAN => Step::Rests,

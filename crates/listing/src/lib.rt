@@ -1,6 +1,5 @@
 // Every class in one call: one check, then the classes from a position on.
 use tables::Position;
-use tables::positions;
 ghost use mathlib.Core.Path.{_≡_};
 ghost use mathlib.Core.Bool.{true};
 ghost use lib.ListN.{length};
@@ -48,7 +47,7 @@ fn tell(parents: &[u8], objects: &[u8], at: Position, out: &mut [u64]) -> Told
 fn number(parents: &[u8], objects: &[u8], at: Position) -> u32
     ensures { λ r. ⌜ r ≡ listingNumber (now (parents .entry)) (now (objects .entry)) at ⌝ }
 {
-    let number = tables::check_tables(parents, objects);
+    let number = checks::check_tables(parents, objects);
     if number != 0 {
         return number;
     }

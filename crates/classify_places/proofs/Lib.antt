@@ -1,0 +1,3 @@
+pub mod ClaimLaws
+pub mod HeaderLaws
+pub mod PlaceLaws

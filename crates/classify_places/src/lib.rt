@@ -1,0 +1,3 @@
+// Headers by class, and the places that an object can have.
+pub mod headers;
+pub mod places;
