@@ -6,6 +6,7 @@ use layout::MAX_SLOTS;
 use layout::PLAIN_HEADER;
 use layout::SLOT_SIZE;
 use layout::Slot;
+use wire::MAX_WORD;
 ghost use mathlib.Core.Path.{_≡_};
 ghost use mathlib.Core.Bool.{_&&_};
 ghost use Prim.Native.Nat.{_+_, _*_, _≤_};
@@ -17,9 +18,6 @@ ghost use Rattle.layout_write.specs.Writer.{slotNumbers, zeroGiven, give
 
 // The numbers of a slot that is handed in.
 pub const SLOT_NUMBERS: usize = 5;
-
-// The greatest number of 32 bits.
-pub const MAX_WORD: u64 = 0xffff_ffff;
 
 // A slot that is handed in as five numbers.
 pub enum Given {
