@@ -11,10 +11,11 @@ use lib.Dec.{ltb, eqb}
 use lib.ListN.{length, take, drop, getD, length-append, length-drop}
 use lib.Seq.{length-take-le}
 use Rattle.wire.specs.Numbers.{maxWord}
+use Rattle.fid.specs.declared.MdtFid.{MdtFid}
 use Rattle.linkea.specs.Link.{Link, nameAt, linkHeader, encodeLinks}
 use Rattle.linkea.specs.Conditions.{some, badByte}
 use Rattle.linkea.proofs.PlaceLaws.{or-first, or-second}
-use Rattle.linkea_write.specs.Writer.{linkNumbers, numberOf, startGiven, sizeGiven, linkGiven, upward, bytesGiven, wideParent, emptyName, longestRecord, longRecord, nameOutside, badNameGiven, badGiven}
+use Rattle.linkea_write.specs.Writer.{linkNumbers, numberOf, parentGiven, startGiven, sizeGiven, linkGiven, upward, bytesGiven, wideParent, emptyName, longestRecord, longRecord, nameOutside, badNameGiven, badGiven}
 use Rattle.linkea_write.proofs.LinkLaws.{length-link}
 
 -- ## One record
@@ -47,6 +48,10 @@ module _ (numbers : List ℕ) (j : ℕ) where
       let a : Bool = ltb maxWord (idOf numbers j) in
       let b : Bool = ltb maxWord (versionOf numbers j) in
       (ltb-false maxWord (idOf numbers j) (or-first a b h), ltb-false maxWord (versionOf numbers j) (or-second a b h))
+
+  pub parent-is : _≡_ {A = MdtFid} (record { 0 = record { seq = getD numbers (linkNumbers * j) 0; oid = idOf numbers j; ver = versionOf numbers j } }) (parentGiven numbers j)
+  unfolding parentGiven numberOf
+  parent-is = let e : linkNumbers * j + 0 ≡ linkNumbers * j = omega arith in rw e
 
   pub narrow-parent : idOf numbers j ≤ maxWord → versionOf numbers j ≤ maxWord → wideParent numbers j ≡ false
   unfolding wideParent numberOf
@@ -162,6 +167,14 @@ none-at test (suc n) j (suc i) h k =
 pub none-of : (test : ℕ → Bool) (n j : ℕ) → some test (upward n 0) ≡ false → j < n → test j ≡ false
 none-of test n j h k = let e : 0 + j ≡ j = omega arith in rw e at (none-at test n 0 j h k)
 
+-- and of the first of them
+pub none-first : (test : ℕ → Bool) (k n j : ℕ) → some test (upward n j) ≡ false → k ≤ n → some test (upward k j) ≡ false
+unfolding some upward
+none-first test zero n j h e = refl
+none-first test (suc k) zero j h e = absurd (omega arith)
+none-first test (suc k) (suc n) j h e =
+    rw (or-first (test j) (some test (upward n (suc j))) h) (none-first test k n (suc j) (or-second (test j) (some test (upward n (suc j))) h) (omega arith))
+
 -- a condition that implies another
 pub none-less : (test other : ℕ → Bool) → ((i : ℕ) → test i ≡ false → other i ≡ false) → (ns : List ℕ) → some test ns ≡ false → some other ns ≡ false
 unfolding some
@@ -211,6 +224,13 @@ module _ (numbers : List ℕ) where
   bytes-more (suc n) j =
       let e : suc j + n ≡ j + suc n = omega arith in
       omega (arith, rw e at (bytes-more n (suc j)))
+
+  pub bytes-start : linkHeader ≡ linkHeader + bytesGiven numbers 0 0
+  unfolding bytesGiven
+  bytes-start = refl
+
+  pub bytes-end : (t n j : ℕ) → t ≡ linkHeader + bytesGiven numbers j 0 → j ≤ n → n ≤ j → t ≡ linkHeader + bytesGiven numbers n 0
+  bytes-end t n j e h k = let q : n ≡ j = omega arith in rw q e
 
   pub bytes-step : (t j : ℕ) → t ≡ linkHeader + bytesGiven numbers j 0 → t + (nameAt + sizeOf numbers j) ≡ linkHeader + bytesGiven numbers (j + 1) 0
   bytes-step t j e =

@@ -7,7 +7,7 @@ use borrow.Author.Tests.{lt-ltb, le-ltb, ltb-false, eq-eqb, ne-eqb, eqb-true, no
 use native.Mathlib.Omega.{arith}
 use native.Mathlib.Numerals.{add-one}
 use lib.Dec.{ltb, eqb}
-use lib.ListN.{length, take, drop, set, getD, length-append, length-map}
+use lib.ListN.{length, take, drop, set, getD, length-append, length-drop, length-map}
 use lib.Seq.{sets, sets-eq, length-sets, take-suc, take-all, take-at, drop-at, length-take-le}
 use borrow.Rule.Slice.PartMut.{putMid}
 use Rattle.wire.specs.Numbers.{big, numberBytes}
@@ -113,6 +113,10 @@ record-stores numbers names l a b x j f g k p ea eb ex =
       sets-at (m ++ u) n l 0 nameAt (simp (length-append, length-number, length-fid)),
     ) in
     y ∙ rw e (sets-whole ((m ++ u) ++ n) l (simp (length-append, length-number, length-fid) (omega arith)))
+
+-- the bytes that a record is lent
+pub part-long : (l : List ℕ) (a k : ℕ) → a + k ≤ length l → length (take (a + k - a) (drop a l)) ≡ k
+part-long l a k h = let e : a + k - a ≡ k = omega arith in rw e (length-take-le k (drop a l) (rw length-drop (omega arith)))
 
 -- the destination with the first j records
 pub recordsDone : List ℕ → List ℕ → List ℕ → ℕ → List ℕ

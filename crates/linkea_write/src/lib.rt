@@ -133,7 +133,7 @@ fn refused_given(h: LinkHeader, numbers: &[u64], names: &[u8]) -> bool
     if !good_given(numbers, names, count) {
         return true;
     }
-    total_given(numbers, count) != h.total
+    h.total != total_given(numbers, count)
 }
 
 // Writes a header over the first bytes.
