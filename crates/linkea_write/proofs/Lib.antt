@@ -3,3 +3,4 @@ pub mod GivenLaws
 pub mod WriteLaws
 pub mod StandLaws
 pub mod ReadLaws
+pub mod RoundTrips

@@ -68,6 +68,12 @@ write-facts h numbers names w =
       header = λ i. record { count = n i; total = sym t i; time = h .time; padding = h .padding };
     }
 
+pub facts-write : (h : LinkHeader) (numbers names : List ℕ) → length numbers ≡ linkNumbers * h .count →
+    some (badGiven numbers names) (upward (h .count) 0) ≡ false → h .total ≡ headerOf (linkEAGiven h numbers names) .total → refusedGiven h numbers names ≡ false
+unfolding refusedGiven otherCount otherTotal
+facts-write h numbers names e g t =
+    rw (eq-eqb (length numbers) (linkNumbers * h .count) e, g, eq-eqb (h .total) (headerOf (linkEAGiven h numbers names) .total) t)
+
 -- ## The stores
 
 -- a record with the first i bytes of its name
