@@ -3,7 +3,7 @@ use mathlib.Core.Path.{_≡_, refl, sym, ap, _∙_}
 use mathlib.Core.List.{List, [], _∷_}
 use mathlib.Core.Bool.{Bool, true, false, cond, not, _&&_, _||_}
 use Prim.Native.Nat.{ℕ, zero, suc, _+_, _-_, _≤_, _<_}
-use borrow.Author.Tests.{ltb-true, ltb-false, lt-ltb, le-ltb, eqb-true, eq-eqb, ne-eqb}
+use borrow.Author.Tests.{ltb-true, ltb-false, lt-ltb, le-ltb, eqb-true, eqb-false, eq-eqb, ne-eqb}
 use native.Mathlib.Omega.{arith}
 use lib.Dec.{ltb, eqb}
 use lib.ListN.{length}
@@ -20,15 +20,18 @@ pub or-second : (a b : Bool) → (a || b) ≡ false → b ≡ false
 or-second true b h = cc
 or-second false b h = h
 
+pub clash : {X : Type 0} → false ≡ true → X
+clash e = let z : _≡_ {A = ℕ} 0 1 = cc in absurd (omega (arith, z))
+
 -- a condition is met by none of a list, so by none that is in it
 pub none-meets : (test : ℕ → Bool) (p : ℕ) (ps : List ℕ) → some test ps ≡ false → some (eqb p) ps ≡ true → test p ≡ false
 unfolding some
 none-meets test p [] h k = cc
-none-meets test p (q ∷ ps) h k = go (eqb p q) refl
+none-meets test p (q ∷ ps) h k = go (eqb p q) refl k (none-meets test p ps (or-second (test q) (some test ps) h))
   where
-    go : (b : Bool) → eqb p q ≡ b → test p ≡ false
-    go true e = rw (eqb-true p q e) (or-first (test q) (some test ps) h)
-    go false e = none-meets test p ps (or-second (test q) (some test ps) h) (rw (← e) k)
+    go : (b : Bool) → eqb p q ≡ b → (b || some (eqb p) ps) ≡ true → (some (eqb p) ps ≡ true → test p ≡ false) → test p ≡ false
+    go true e j later = rw (eqb-true p q e) (or-first (test q) (some test ps) h)
+    go false e j later = later j
 
 -- ## The places from p on
 
@@ -49,15 +52,14 @@ unfolding placesFrom
 enough zero zero l p h i = refl
 enough zero (suc m) l p h i = rw (le-ltb p (length l) (omega arith))
 enough (suc k) zero l p h i = rw (le-ltb p (length l) (omega arith))
-enough (suc k) (suc m) l p h i = go (shortRecord l p) refl
+enough (suc k) (suc m) l p h i = go (shortRecord l p) refl (λ a b. enough k m l (p + lengthAt l p) a b)
   where
     go : (s : Bool) → shortRecord l p ≡ s →
+        (length l ≤ p + lengthAt l p + k → length l ≤ p + lengthAt l p + m → placesFrom k l (p + lengthAt l p) ≡ placesFrom m l (p + lengthAt l p)) →
         cond (ltb p (length l)) (p ∷ cond s [] (placesFrom k l (p + lengthAt l p))) []
         ≡ cond (ltb p (length l)) (p ∷ cond s [] (placesFrom m l (p + lengthAt l p))) []
-    go true e = refl
-    go false e =
-        let n : shortestRecord ≤ lengthAt l p = not-short l p e in
-        rw (enough k m l (p + lengthAt l p) (omega arith) (omega arith))
+    go true e on = refl
+    go false e on = let n : shortestRecord ≤ lengthAt l p = not-short l p e in rw (on (omega arith) (omega arith))
 
 one-more : (l : List ℕ) (p : ℕ) → from l p ≡ placesFrom (suc (length l)) l p
 unfolding from
@@ -79,12 +81,13 @@ from-step l p h s = one-more l p ∙ rw (lt-ltb p (length l) h, s)
 above : (k : ℕ) (l : List ℕ) (p q : ℕ) → p < q → some (eqb p) (placesFrom k l q) ≡ false
 unfolding placesFrom some
 above zero l p q h = refl
-above (suc k) l p q h = go (ltb q (length l)) (shortRecord l q)
+above (suc k) l p q h = go (ltb q (length l)) (shortRecord l q) (above k l p (q + lengthAt l q) (omega arith))
   where
-    go : (b s : Bool) → some (eqb p) (cond b (q ∷ cond s [] (placesFrom k l (q + lengthAt l q))) []) ≡ false
-    go false s = refl
-    go true true = rw (ne-eqb p q (λ e. omega arith))
-    go true false = rw (ne-eqb p q (λ e. omega arith)) (above k l p (q + lengthAt l q) (omega arith))
+    go : (b s : Bool) → some (eqb p) (placesFrom k l (q + lengthAt l q)) ≡ false →
+        some (eqb p) (cond b (q ∷ cond s [] (placesFrom k l (q + lengthAt l q))) []) ≡ false
+    go false s on = refl
+    go true true on = rw (ne-eqb p q (λ e. omega arith))
+    go true false on = rw (ne-eqb p q (λ e. omega arith)) on
 
 pub from-above : (l : List ℕ) (p q : ℕ) → p < q → some (eqb p) (from l q) ≡ false
 unfolding from
@@ -93,24 +96,27 @@ from-above l p q h = above (length l) l p q h
 -- and stand before the end
 before-end : (k : ℕ) (l : List ℕ) (p q : ℕ) → some (eqb p) (placesFrom k l q) ≡ true → p < length l
 unfolding placesFrom some
-before-end zero l p q h = cc
-before-end (suc k) l p q h = go (ltb q (length l)) (shortRecord l q) refl h
+before-end zero l p q h = clash h
+before-end (suc k) l p q h = go (ltb q (length l)) (shortRecord l q) (eqb p q) refl refl h (before-end k l p (q + lengthAt l q))
   where
-    go : (b s : Bool) → ltb q (length l) ≡ b → some (eqb p) (cond b (q ∷ cond s [] (placesFrom k l (q + lengthAt l q))) []) ≡ true → p < length l
-    go false s e i = cc
-    go true s e i = at-first (eqb p q) refl
-      where
-        at-first : (c : Bool) → eqb p q ≡ c → p < length l
-        at-first true d = rw (eqb-true p q d) (ltb-true q (length l) e)
-        at-first false d = later s (rw (← d) i)
-          where
-            later : (t : Bool) → some (eqb p) (cond t [] (placesFrom k l (q + lengthAt l q))) ≡ true → p < length l
-            later true j = cc
-            later false j = before-end k l p (q + lengthAt l q) j
+    go : (b s c : Bool) → ltb q (length l) ≡ b → eqb p q ≡ c →
+        some (eqb p) (cond b (q ∷ cond s [] (placesFrom k l (q + lengthAt l q))) []) ≡ true →
+        (some (eqb p) (placesFrom k l (q + lengthAt l q)) ≡ true → p < length l) → p < length l
+    go false s c e d i on = clash i
+    go true s true e d i on = rw (eqb-true p q d) (ltb-true q (length l) e)
+    go true true false e d i on = clash (rw d at i)
+    go true false false e d i on = on (rw d at i)
 
 pub place-before-end : (l : List ℕ) (p : ℕ) → some (eqb p) (places l) ≡ true → p < length l
 unfolding places
 place-before-end l p h = before-end (length l) l p linkHeader h
+
+pub no-place : (l : List ℕ) (p : ℕ) → length l ≤ p → some (eqb p) (places l) ≡ false
+no-place l p h = go (some (eqb p) (places l)) refl
+  where
+    go : (b : Bool) → some (eqb p) (places l) ≡ b → some (eqb p) (places l) ≡ false
+    go false e = e
+    go true e = absurd (omega (arith, place-before-end l p e))
 
 -- ## A record that is not bad
 
@@ -152,16 +158,16 @@ module _ (l : List ℕ) (p : ℕ) (h : p < length l) where
     where
       go : (b : Bool) → badRecord l p ≡ b → badRecord l p ≡ false
       go false e = e
-      go true e = absurd (true-false (sym (some-here (badRecord l) e) ∙ g))
-        where
-          true-false : true ≡ false → ⊥
-          true-false ()
+      go true e =
+          let t : true ≡ false = sym (some-here (badRecord l) e) ∙ g in
+          cc
 
   pub good-on : AllGood l p → AllGood l (p + lengthAt l p)
   unfolding AllGood some
   good-on g =
       let r = good-record l p (good-here g) in
-      let e : some (badRecord l) (p ∷ from l (p + lengthAt l p)) ≡ false = rw (← from-step l p h (r .short)) g in
+      let e : some (badRecord l) (p ∷ from l (p + lengthAt l p)) ≡ false =
+      sym (ap (λ (ps : List ℕ). some (badRecord l) ps) (from-step l p h (r .short))) ∙ g in
       or-second (badRecord l p) (some (badRecord l) (from l (p + lengthAt l p))) e
 
 -- ## The walk that counts
@@ -169,6 +175,10 @@ module _ (l : List ℕ) (p : ℕ) (h : p < length l) where
 -- whether the records from p on are good and, with k before them, as many as counted
 unfoldable pub goodFrom : List ℕ → ℕ → ℕ → ℕ → Bool
 goodFrom l count k p = not (some (badRecord l) (from l p)) && eqb count (k + length (from l p))
+
+pub good-start : (l : List ℕ) (count : ℕ) → (not (some (badRecord l) (places l)) && eqb count (length (places l))) ≡ goodFrom l count 0 linkHeader
+unfolding goodFrom
+good-start l count = let z : 0 + length (places l) ≡ length (places l) = omega arith in rw (← places-from l, z)
 
 module _ (l : List ℕ) (count k p : ℕ) where
   pub good-stop : p < length l → badRecord l p ≡ true → false ≡ goodFrom l count k p
@@ -186,3 +196,24 @@ module _ (l : List ℕ) (count k p : ℕ) where
   pub good-end : length l ≤ p → eqb count k ≡ goodFrom l count k p
   unfolding goodFrom some
   good-end h = let e : k + 0 ≡ k = omega arith in rw (from-end l p h, e)
+
+-- ## The walk to a place
+
+module _ (l : List ℕ) (p at : ℕ) where
+  pub pass-by : at < length l → AllGood l at → at < p → some (eqb p) (from l at) ≡ some (eqb p) (from l (at + lengthAt l at))
+  unfolding some
+  pass-by h g k =
+      let r = good-record l at (good-here l at h g) in
+      ap (λ (ps : List ℕ). some (eqb p) ps) (from-step l at h (r .short)) ∙ rw (ne-eqb p at (λ e. omega arith))
+
+  pub arrive : p < length l → p ≤ at → eqb at p ≡ some (eqb p) (from l at)
+  arrive h k = go (eqb at p) refl
+    where
+      go : (b : Bool) → eqb at p ≡ b → b ≡ some (eqb p) (from l at)
+      go true e =
+          let q : at ≡ p = eqb-true at p e in
+          sym (some-here l at (omega arith) (eqb p) (eq-eqb p at (sym q)))
+      go false e = sym (from-above l p at (lt-of k (eqb-false at p e)))
+        where
+          lt-of : p ≤ at → (at ≡ p → ⊥) → p < at
+          lt-of i n = omega (arith, n)

@@ -4,10 +4,11 @@ use mathlib.Core.List.{List, [], _∷_}
 use mathlib.Core.Bool.{Bool, true, false, cond, not, _&&_, _||_}
 use Prim.Native.Nat.{ℕ, zero, suc, _+_, _-_, _≤_, _<_}
 use borrow.Author.Tests.{ltb-true, ltb-false, lt-ltb, le-ltb, le-leb, lt-leb, eqb-true, eq-eqb, ne-eqb, not-false}
+use native.Mathlib.Numerals.{add-one}
 use native.Mathlib.Omega.{arith}
 use lib.Dec.{ltb, leb, eqb}
-use lib.ListN.{length, take, drop, getD}
-use lib.Seq.{drop-drop, drop-cons, drop-length}
+use lib.ListN.{length, take, drop, getD, drop-of-length-le}
+use lib.Seq.{drop-drop, drop-cons}
 use Rattle.wire.specs.Numbers.{le, big, number}
 use Rattle.fid.specs.Fid.{decodeFidIn}
 use Rattle.fid.specs.declared.Fid.{Fid}
@@ -19,7 +20,7 @@ use Rattle.linkea.specs.declared.Found.{Found}
 use Rattle.linkea.specs.declared.Reading.the-variants.{Refused, Accepted}
 use Rattle.linkea.specs.declared.Step.the-variants.{Bad, End, Record}
 use Rattle.linkea.specs.declared.RecordRead.the-variants.{BadLink, NoRecord, RecordIs}
-use Rattle.linkea.proofs.PlaceLaws.{or-first, or-second, from, places-from, AllGood, goodFrom}
+use Rattle.linkea.proofs.PlaceLaws.{or-first, or-second, none-meets, from, places-from, AllGood, goodFrom}
 
 -- ## Bytes of a name
 
@@ -39,16 +40,19 @@ module _ (name : List ℕ) (i : ℕ) where
 
   pub bad-next : i < length name → badByte (getD name i 0) ≡ false → some badByte (drop i name) ≡ some badByte (drop (i + 1) name)
   unfolding some
-  bad-next h b = let e : suc i ≡ i + 1 = omega arith in rw (drop-cons name i 0 h, b, e)
+  bad-next h b =
+      let e : drop i name ≡ getD name i 0 ∷ drop (i + 1) name = drop-cons name i 0 h ∙ rw add-one in
+      rw (e, b)
 
-pub bad-none : (name : List ℕ) → some badByte (drop (length name) name) ≡ false
-unfolding some
-bad-none name = rw (drop-length name)
+  pub bad-none : length name ≤ i → some badByte (drop i name) ≡ false
+  unfolding some
+  bad-none h = rw (drop-of-length-le name h)
 
 -- ## The record at a place
 
 module _ (l : List ℕ) (p : ℕ) where
-  length-read : number big 2 (drop p l) ≡ lengthAt l p
+  -- as it is read
+  pub length-read : number big 2 (drop p l) ≡ lengthAt l p
   unfolding lengthAt linkLength
   length-read = refl
 
@@ -70,9 +74,12 @@ module _ (l : List ℕ) (p : ℕ) where
       go false e = let n : shortestRecord ≤ lengthAt l p = ltb-false (lengthAt l p) shortestRecord e in is-past n (omega arith)
 
   -- all else is its name
-  pub is-name : shortestRecord ≤ lengthAt l p → p + lengthAt l p ≤ length l → some badByte (take (lengthAt l p - nameAt) (drop (p + nameAt) l)) ≡ badRecord l p
-  unfolding badRecord shortRecord pastEnd badName linkAt decodeLink
-  is-name h k = rw (le-ltb (lengthAt l p) shortestRecord h, le-ltb (length l) (p + lengthAt l p) k, drop-drop nameAt p l)
+  pub is-name : (n : ℕ) → n ≡ lengthAt l p → shortestRecord ≤ n → p + n ≤ length l →
+      some badByte (take (p + n - (p + nameAt)) (drop (p + nameAt) l)) ≡ badRecord l p
+  unfolding badRecord shortRecord pastEnd badName linkAt decodeLink lengthAt
+  is-name n e h k =
+      let d : p + n - (p + nameAt) ≡ n - nameAt = omega arith in
+      rw (d, e, le-ltb (lengthAt l p) shortestRecord (rw (← e) h), le-ltb (length l) (p + lengthAt l p) (rw (← e) k), drop-drop nameAt p l)
 
   -- ## The cursor
 
@@ -219,3 +226,8 @@ link-good l g =
     let z : 0 + length (places l) ≡ length (places l) = omega arith in
     sym (refused-records l (g .header) (g .magic) (g .total))
     ∙ rw (g .records, ← places-from l, z, eq-eqb (decodeLinkHeader l .count) (length (places l)) (g .counted))
+
+-- a place at which a record begins is not bad
+pub place-good : (l : List ℕ) (p : ℕ) → refusedLink l ≡ false → some (eqb p) (places l) ≡ true → badRecord l p ≡ false
+unfolding AllGood
+place-good l p h k = none-meets (badRecord l) p (places l) (rw (places-from l) (good-link l h .records)) k

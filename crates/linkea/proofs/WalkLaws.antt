@@ -36,42 +36,49 @@ module _ (l : List ℕ) (p : ℕ) where
 -- as many steps as there are records from p on give these records, and end at the end
 pub walks : (n : ℕ) (l : List ℕ) (p : ℕ) → linkHeader ≤ p → p ≤ length l → AllGood l p → length (from l p) ≡ n →
     (walked n l p ≡ map (linkAt l) (from l p)) × (placeAfter n l p ≡ length l)
-unfolding walked placeAfter linksGiven nameGiven onward
-walks n l p k i g e = go n (ltb p (length l)) refl e
+unfolding walked placeAfter linksGiven nameGiven onward lengthAt foundAt
+walks zero l p k i g e = go (ltb p (length l)) refl
   where
-    go : (m : ℕ) (b : Bool) → ltb p (length l) ≡ b → length (from l p) ≡ m → (walked m l p ≡ map (linkAt l) (from l p)) × (placeAfter m l p ≡ length l)
-    go zero true t f = let h : p < length l = ltb-true p (length l) t in absurd (omega (arith, f, from-more l p h g))
-    go zero false t f = let h : length l ≤ p = ltb-false p (length l) t in (rw (from-end l p h), omega arith)
-    go (suc m) false t f = let h : length l ≤ p = ltb-false p (length l) t in absurd (omega (arith, f, from-none l p h))
-    go (suc m) true t f =
+    go : (b : Bool) → ltb p (length l) ≡ b → (walked zero l p ≡ map (linkAt l) (from l p)) × (placeAfter zero l p ≡ length l)
+    go true t = let h : p < length l = ltb-true p (length l) t in absurd (omega (arith, e, from-more l p h g))
+    go false t = let h : length l ≤ p = ltb-false p (length l) t in (rw (from-end l p h), omega arith)
+walks (suc m) l p k i g e = go (ltb p (length l)) refl (walks m l (p + lengthAt l p))
+  where
+    go : (b : Bool) → ltb p (length l) ≡ b →
+        (linkHeader ≤ p + lengthAt l p → p + lengthAt l p ≤ length l → AllGood l (p + lengthAt l p) → length (from l (p + lengthAt l p)) ≡ m →
+        (walked m l (p + lengthAt l p) ≡ map (linkAt l) (from l (p + lengthAt l p))) × (placeAfter m l (p + lengthAt l p) ≡ length l)) →
+        (walked (suc m) l p ≡ map (linkAt l) (from l p)) × (placeAfter (suc m) l p ≡ length l)
+    go false t on = let h : length l ≤ p = ltb-false p (length l) t in absurd (omega (arith, e, from-none l p h))
+    go true t on =
         let h : p < length l = ltb-true p (length l) t in
         let r = good-record l p (good-here l p h g) in
         let q : ℕ = p + lengthAt l p in
-        let w = walks m l q (omega arith) (next-inside l p h g) (good-on l p h g) (omega (arith, f, from-more l p h g)) in
-        (
+        let w = on (omega arith) (next-inside l p h g) (good-on l p h g) (omega (arith, e, from-more l p h g)) in (
           rw (step-good l p k h g, from-step l p h (r .short)) (ap (λ (x : Link). x ∷ walked m l q) (link-found l p) ∙ ap (λ (xs : List Link). linkAt l p ∷ xs) (w .0)),
           rw (step-good l p k h g) (w .1),
         )
 
 -- however far a walk goes, it meets no bad record
 pub walks-well : (n : ℕ) (l : List ℕ) (p : ℕ) → linkHeader ≤ p → AllGood l p → stepAt l (placeAfter n l p) ≡ Bad → ⊥
-unfolding placeAfter onward
-walks-well n l p k g e = go n (ltb p (length l)) refl e
+unfolding placeAfter onward lengthAt foundAt
+walks-well zero l p k g e = go (ltb p (length l)) refl
   where
-    go : (m : ℕ) (b : Bool) → ltb p (length l) ≡ b → stepAt l (placeAfter m l p) ≡ Bad → ⊥
-    go zero true t f =
-        let h : p < length l = ltb-true p (length l) t in
-        let c : Record (foundAt l p) ≡ Bad = sym (step-good l p k h g) ∙ f in
+    go : (b : Bool) → ltb p (length l) ≡ b → ⊥
+    go true t =
+        let c : Record (foundAt l p) ≡ Bad = sym (step-good l p k (ltb-true p (length l) t) g) ∙ e in
         let z : _≡_ {A = ℕ} 0 1 = cc in
         omega (arith, z)
-    go zero false t f =
-        let c : End ≡ Bad = step-end l p k (ltb-false p (length l) t) ∙ f in
+    go false t =
+        let c : End ≡ Bad = step-end l p k (ltb-false p (length l) t) ∙ e in
         let z : _≡_ {A = ℕ} 0 1 = cc in
         omega (arith, z)
-    go (suc m) true t f =
+walks-well (suc m) l p k g e = go (ltb p (length l)) refl (λ q. walks-well m l q)
+  where
+    go : (b : Bool) → ltb p (length l) ≡ b → ((q : ℕ) → linkHeader ≤ q → AllGood l q → stepAt l (placeAfter m l q) ≡ Bad → ⊥) → ⊥
+    go true t on =
         let h : p < length l = ltb-true p (length l) t in
-        walks-well m l (p + lengthAt l p) (omega arith) (good-on l p h g) (rw (← step-good l p k h g) f)
-    go (suc m) false t f = walks-well m l p k g (rw (step-end l p k (ltb-false p (length l) t)) f)
+        on (p + lengthAt l p) (omega arith) (good-on l p h g) (rw (step-good l p k h g) at e)
+    go false t on = on p k g (rw (← step-end l p k (ltb-false p (length l) t)) at e)
 
 pub every-walk : EveryWalk
 unfolding EveryWalk decodeLinkEA
