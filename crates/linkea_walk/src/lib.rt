@@ -26,7 +26,7 @@ pub fn opening(l: &[u8]) -> usize
 pub fn next_place(l: &[u8], p: usize) -> usize
     ensures { λ q. ⌜ q ≡ onward p (stepAt (now (l .entry)) p) ⌝ }
 {
-    match linkea::step(l, p) {
+    match linkea::step_at(l, p) {
         Step::Bad => p,
         Step::End => p,
         Step::Record(x) => x.next,
@@ -37,7 +37,7 @@ pub fn next_place(l: &[u8], p: usize) -> usize
 pub fn name_at<'a>(l: &'a [u8], p: usize) -> &'a [u8]
     ensures { λ s. ⌜ now s ≡ nameGiven (now (l .entry)) (stepAt (now (l .entry)) p) ⌝ }
 {
-    match linkea::step(l, p) {
+    match linkea::step_at(l, p) {
         Step::Bad => &l[0..0],
         Step::End => &l[0..0],
         Step::Record(x) => {
@@ -60,7 +60,7 @@ pub fn open<'a>(bytes: &'a [u8]) -> LinkReader<'a>
 pub fn next<'a>(r: LinkReader<'a>) -> Step
     ensures { λ s. ⌜ s ≡ stepAt (now (r .entry .bytes)) (r .entry .at) ⌝ }
 {
-    linkea::step(r.bytes, r.at)
+    linkea::step_at(r.bytes, r.at)
 }
 
 // The name there, a part of the lent bytes.
