@@ -25,7 +25,7 @@ use denote.Slice.{sliceVal, ShrSlice}
 use denote.Steps.{owned, nothing}
 use denote.Struct.Declared.{Declared}
 use denote.Struct.Laws as LL
-use denote.Struct.Rest.{all-own, ownAt, rest, own-open, own-out}
+use denote.Struct.Rest.{all-own, ownAt, rest, own-open, own-out, own-put}
 use denote.Exit.{yes}
 use denote.Triple.Clauses.{Ended, Clauses, atExit, closing}
 use denote.Triple.Spec.{Meets}
@@ -64,6 +64,9 @@ module _ (d : LinkReader) where
   abbrev pub passed : List Val × (List Val × Unit {0})
   passed = (slice (d .bytes) ∷ [], (vint w64 (d .at) ∷ [], tt))
 
+  abbrev pub at-place : ℕ → LinkReader
+  at-place n = record { bytes = d .bytes; at = n }
+
   -- that the machine value has the struct's type
   abbrev pub Typed : Type 0
   Typed = Holds (hasTy (T′.mir (named 0)) mach) × WT mach
@@ -87,14 +90,23 @@ module _ {M : Type 1} (𝓤 : URA M) (H : Heap 𝓤) (A : Atoms 𝓤) (κ : Lft)
   asked : Given 𝓤 H A → (d : LinkReader) → ent 𝓤 (sep 𝓤 Token (sem 𝓤 H A (owns (Bytes κ ∷ usize ∷ []) (fields d) (passed d)))) (Asked d)
   asked W d = qed W ((‵ (flft κ q) ⊛ ‵ ftrue) ∷ ‵ (owns (Bytes κ ∷ usize ∷ []) (fields d) (passed d)) ∷ []) ∵ join ! $ frame ! $ done !
 
+  twice : (W : Given 𝓤 H A) (d : LinkReader) → ent 𝓤 (sem 𝓤 H A (Own κ d)) (sep 𝓤 (sem 𝓤 H A (Own κ d)) (sem 𝓤 H A (Own κ d)))
+  twice W d = LL.copy (D κ) (T′.the-copy (namedLft 1 0 tt (κ, tt))) 𝓤 H A W .twice d (mach d ∷ [])
+
   pub apart : Given 𝓤 H A → (d : LinkReader) → d .at < 2 ^ 64 → ent 𝓤 (Taken d) (sep 𝓤 (Asked d) (sem 𝓤 H A (Own κ d)))
   apart W d fits =
       qed W ((‵ (flft κ q) ⊛ ‵ ftrue) ∷ ‵ (owns (Reader (κ, tt) ∷ []) (d, tt) (mach d ∷ [], tt)) ∷ []) ∵
-      move ! (1 ∷ []) $ fsplit ! $ move ! (1 ∷ []) $ drop ! $ use1 W (‵ (Own κ d) ⊛ ‵ (Own κ d)) (LL.copy (D κ) (T′.the-copy (namedLft 1 0 tt (κ, tt))) 𝓤 H A W .twice d (mach d ∷ [])) $ split ! $
+      move ! (1 ∷ []) $ fsplit ! $ move ! (1 ∷ []) $ drop ! $ use1 W (‵ (Own κ d) ⊛ ‵ (Own κ d)) (twice W d) $ split ! $
       use1 W (given (mach d ∷ [] ≡ mach d ∷ []) (‵ (all-own (D κ .parts) (L κ) (fields d)))) (own-open 𝓤 H A W (D κ) (L κ) (fields d) (mach d)) $ learn ! (λ _. use1 W (‵ (ownAt (D κ .parts) (L κ) 0 (d .bytes)) ⊛ ‵ (rest (D κ .parts) (L κ) 0 (fields d))) (own-out 𝓤 H A W (D κ .parts) (L κ) 0 (fields d)) $ split ! $
       -- [what the bytes own; what the place owns; what the struct owns; the token]
       move ! (1 ∷ []) $ drop ! $ nothing ! $ owned ! usize (Is usize) (uint-makes 𝓤 H A W w64) (d .at) _ (refl, fits) $ fjoin ! $ move ! (1 ∷ 0 ∷ []) $ fjoin ! $
       move ! (2 ∷ 0 ∷ []) $ use2 W (raw (Asked d)) (asked W d) $ frame ! $ done !)
+
+  -- a reader at another place owns what this one does
+  pub moved : Given 𝓤 H A → (d : LinkReader) (n : ℕ) → n < 2 ^ 64 → ent 𝓤 (sem 𝓤 H A (Own κ d)) (sep 𝓤 (sem 𝓤 H A (Own κ (at-place d n))) (sem 𝓤 H A (Own κ d)))
+  moved W d n fits =
+      qed W (‵ (Own κ d) ∷ []) ∵ use1 W (‵ (Own κ d) ⊛ ‵ (Own κ d)) (twice W d) $ split ! $
+      owned ! usize (Is usize) (uint-makes 𝓤 H A W w64) n _ (refl, fits) $ move ! (1 ∷ 0 ∷ []) $ use2 W (‵ (Own κ (at-place d n))) (own-put 𝓤 H A W (D κ) (L κ) 1 (fields d) n (mach d)) $ frame ! $ done !
 
 -- ## A function that takes a reader alone, and its result's place R
 
