@@ -37,7 +37,9 @@ use Rattle.linkea_walk.proofs.next_place as next-place
 use Rattle.linkea_walk.proofs.next_place.Symbol as next-place-def
 use Rattle.linkea_walk.proofs.next_place.Symbol.{name as #linkea_walk·next-place}
 use Rattle.linkea_walk.proofs.next_place.Met as next-place-thm
-use Rattle.linkea_walk.proofs.Held.{Reader, fields, mach, passed, Typed, at-place, Own, Taken, apart, moved, End, exits, meets}
+use Rattle.linkea_walk.proofs.Alone.{Own, Entry, End, exits, meets}
+use Rattle.linkea_walk.proofs.Held.{fields, passed, reader, Typed, typed, apart, reads, moved}
+use Rattle.linkea_walk.proofs.LinkReader.Laws as T′
 use Rattle.linkea_walk.proofs.rest.Key.{name as #linkea_walk·rest}
 use Rattle.linkea_walk.proofs.rest as rest
 use Rattle.linkea_walk.proofs.rest.Statement as stated
@@ -45,7 +47,7 @@ use Rattle.linkea_walk.proofs.rest.Code as code
 
 -- the result's place
 abbrev R : Slot 1
-R = plain Reader
+R = plain (reader .row)
 
 module _ {M : Type 1} (𝓤 : URA M) (H : Heap 𝓤) (A : Atoms 𝓤) (mem : Memory → SProp 𝓤) (run : Routine → Fun 𝓤) where
   -- the contract that the proof cites
@@ -64,14 +66,14 @@ module _ {M : Type 1} (𝓤 : URA M) (H : Heap 𝓤) (A : Atoms 𝓤) (W : Given
   said n = exE 𝓤 _ (λ ws. snd∗ 𝓤 (sem 𝓤 H A (lasts next-place.ended (κ, tt) (fields d) ws)) (fact 𝓤 (n ≡ place)))
 
   walk : (C : Calls 𝓤 H) (Λ : Loops 𝓤 H) → FmC 𝓤 H (W .laws) C → Triple 𝓤 (C #linkea_walk·next-place) (NextPlace 𝓤 H A mem run) → Typed d
-      → ent 𝓤 (Taken 𝓤 H A κ q d) (WpFn 𝓤 H C Λ code.function (mach d ∷ []) (End 𝓤 H A W R (rest.clauses 𝓤 H A mem run) κ q d tt))
+      → ent 𝓤 (Entry 𝓤 H A reader κ q d) (WpFn 𝓤 H C Λ code.function (T′.lowered d ∷ []) (End 𝓤 H A W reader R (rest.clauses 𝓤 H A mem run) κ q d tt))
   walk C Λ fm known wt =
-      qed W (raw (Taken 𝓤 H A κ q d) ∷ []) ∵ enter ! C Λ code.function (mach d ∷ []) _ $
+      qed W (raw (Entry 𝓤 H A reader κ q d) ∷ []) ∵ enter ! C Λ code.function (T′.lowered d ∷ []) _ $
       alloc1 ! (λ l₀. alloc1 ! (λ l₁. alloc1 ! (λ l₂. alloc1 ! (λ l₃. alloc1 ! (λ l₄. alloc1 ! (λ l₅. alloc0 ! $ params1 ! $ pass1 ! (init ! 8 refl wt) $ pass0 ! $
       -- [_5 (0); …; _4 (2); …; _3 (4); …; _2 (6); …; _1 (8); …; room for _0 (10); …; what is had at entry (12)]
       assigns ! (of-opd ! (load ! (from ! (fld ! refl (stop !))) (look-in ! 8 (sub ! 0 refl (whole !))))) (from ! (stop !)) (init ! 4 refl (tt, wt .1 .0)) $
       assigns ! (of-opd ! (load ! (from ! (fld ! refl (stop !))) (look-in ! 8 (sub ! 1 refl (whole !))))) (from ! (stop !)) (init ! 2 refl (tt, wt .1 .1 .0)) $
-      move ! (12 ∷ []) $ use1 W (raw (NextPlace 𝓤 H A mem run .pre to) ⊛ ‵ (Own κ d)) (apart 𝓤 H A κ q W d (wt .1 .1 .0 .fits)) $ split ! $
+      move ! (12 ∷ []) $ use1 W (raw (NextPlace 𝓤 H A mem run .pre to) ⊛ ‵ (Own reader κ d)) (apart 𝓤 H A W κ q d (wt .1 .1 .0 .fits)) $ split ! $
       calls-at ! fm (NextPlace 𝓤 H A mem run) known to (and-then ! (load ! (from ! (stop !)) (look ! 6 refl)) (and-then ! (load ! (from ! (stop !)) (look ! 4 refl)) (no-more !))) (λ u.
       use1 W (later (some (λ (n : ℕ). ((‵ (flft κ q) ⊛ ‵ ftrue) ⊛ ‵ (usize .own n (u ∷ []))) ⊛ raw (ensured 𝓤 H A next-place.ended (next-place.clauses 𝓤 H A mem run) (κ, tt) (fields d) tt n)))) (id⊢ 𝓤 _) $ await ! tt $ pick ! (λ n.
       split ! $ move ! (1 ∷ []) $ use1 W (raw (fact 𝓤 (n ≡ place))) (said n) $ heard ! (n ≡ place) (λ e. split ! $ move ! (1 ∷ []) $
@@ -82,9 +84,9 @@ module _ {M : Type 1} (𝓤 : URA M) (H : Heap 𝓤) (A : Atoms 𝓤) (W : Given
       assigns ! (agg ! (and-then ! (load ! (from ! (stop !)) (look ! 3 refl)) (and-then ! (load ! (from ! (stop !)) (look ! 9 refl)) (no-more !)))) (from ! (stop !)) (init ! 13 refl (tt, (wt .1 .0, (record { fits = is .1 }, tt)))) $
       returns ! (look ! 13 refl) $ forget ! 3 refl $ forget ! 5 refl $ forget ! 7 refl $ forget ! 9 refl $ forget ! 11 refl $ forget ! 13 refl $
       move ! (13 ∷ 14 ∷ []) $ free1 ! $ move ! (11 ∷ 12 ∷ []) $ free1 ! $ move ! (9 ∷ 10 ∷ []) $ free1 ! $ move ! (7 ∷ 8 ∷ []) $ free1 ! $ move ! (5 ∷ 6 ∷ []) $ free1 ! $ move ! (3 ∷ 4 ∷ []) $ free1 ! $ free0 ! $
-      move ! (2 ∷ []) $ use1 W (‵ (Own κ (at-place d n)) ⊛ ‵ (Own κ d)) (moved 𝓤 H A κ q W d n (is .1)) $ split ! $
+      move ! (2 ∷ []) $ use1 W (‵ (Own reader κ (reads (d .bytes) n)) ⊛ ‵ (Own reader κ d)) (moved 𝓤 H A W κ d n (is .1)) $ split ! $
       -- [what the result owns; what the reader owns; what n owns; the token]
-      keep ! (0 ∷ 3 ∷ 1 ∷ []) $ by ! (exits 𝓤 H A W R (rest.clauses 𝓤 H A mem run) κ q d tt (at-place d n) (mach (at-place d n)) (factI 𝓤 _ (emp 𝓤) (refl, e)))))))))))))
+      keep ! (0 ∷ 3 ∷ 1 ∷ []) $ by ! (exits 𝓤 H A W reader R (rest.clauses 𝓤 H A mem run) κ q d tt (reads (d .bytes) n) (T′.lowered (reads (d .bytes) n)) (factI 𝓤 _ (emp 𝓤) (refl, e)))))))))))))
 
 pub rest-spec : {M : Type 1} → stated.statement M
 unfolding code.routine tablesOf
@@ -94,5 +96,5 @@ rest-spec 𝓤 H 𝓜 𝓖 𝓡 =
     let known = cited 𝓤 H (NextPlace 𝓤 H (𝓖 .A) (𝓜 .mem) (𝓡 .run)) 𝓜 𝓡 code.env #linkea_walk·next-place next-place-def.routine code.calls-linkea-walk·next-place (next-place-thm.met 𝓤 H 𝓜 𝓖 𝓡) in
     entered 𝓤 H (tripleOf 𝓤 H (𝓖 .A) rest.signature (rest.spec 𝓤 H (𝓖 .A) (𝓜 .mem) (𝓡 .run)))
     (tables 𝓤 H 𝓜 𝓡 code.env .C) (tables 𝓤 H 𝓜 𝓡 code.env .Λ) #linkea_walk·rest code.function (code.unfolded 𝓤 H 𝓜 𝓡)
-    (meets 𝓤 H (𝓖 .A) W R (rest.clauses 𝓤 H (𝓖 .A) (𝓜 .mem) (𝓡 .run)) code.function T
-    (λ κ q d g wt. walk 𝓤 H (𝓖 .A) W (𝓜 .mem) (𝓡 .run) κ q d (T .C) (T .Λ) (fmOf 𝓤 H (W .laws) T) known wt))
+    (meets 𝓤 H (𝓖 .A) W reader R (rest.clauses 𝓤 H (𝓖 .A) (𝓜 .mem) (𝓡 .run)) code.function T
+    (λ κ q d g is. walk 𝓤 H (𝓖 .A) W (𝓜 .mem) (𝓡 .run) κ q d (T .C) (T .Λ) (fmOf 𝓤 H (W .laws) T) known (typed 𝓤 H (𝓖 .A) W κ d is)))
