@@ -1,3 +1,4 @@
 pub mod Alone
 pub mod Held
+pub mod Opened
 pub mod FoundLaws
