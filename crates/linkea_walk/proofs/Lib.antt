@@ -1,4 +1,5 @@
 pub mod Alone
+pub mod Calls
 pub mod Held
 pub mod Opened
 pub mod FoundLaws
