@@ -41,7 +41,7 @@ module _ {M : Type 1} {𝓤 : URA M} {H : Heap 𝓤} {A : Atoms 𝓤} {K : Type 
       → Seq K W (raw (Met 𝓤 H A (callee ps ks R) c .pre (((κ, tt), (q, tt), tt, a, vs), g)) ∷ Γ) (runs C Λ E (seq (call f xs p) b) o)
   calls t fm c known κ q a vs g φ says opds k =
       let said : (r : R .row (κ, tt) .Denot) → ent 𝓤 (ensured 𝓤 H A (callee ps ks R) c (κ, tt) a g r) (fact 𝓤 (φ r)) =
-          λ r. exE 𝓤 _ (λ ws. via 𝓤 _ (snd∗ 𝓤 (sem 𝓤 H A (lasts (callee ps ks R) (κ, tt) a ws)) _) (says r ws)) in
+      λ r. exE 𝓤 _ (λ ws. via 𝓤 _ (snd∗ 𝓤 (sem 𝓤 H A (lasts (callee ps ks R) (κ, tt) a ws)) _) (says r ws)) in
       calls-at t fm (Met 𝓤 H A (callee ps ks R) c) known (((κ, tt), (q, tt), tt, a, vs), g) opds (λ u.
       use1 W (later (some (λ (r : R .row (κ, tt) .Denot). ((‵ (flft κ q) ⊛ ‵ ftrue) ⊛ ‵ (R .row (κ, tt) .own r (u ∷ []))) ⊛ raw (ensured 𝓤 H A (callee ps ks R) c (κ, tt) a g r)))) (id⊢ 𝓤 _) $
       await t tt $ pick t (λ r. split t $ move t (1 ∷ []) $ use1 W (raw (fact 𝓤 (φ r))) (said r) $ heard t (φ r) (λ e. split t $ move t (1 ∷ []) $

@@ -17,7 +17,7 @@ use denote.RattleType.{RattleType, owns}
 use denote.Laws.{Is, Copy}
 use denote.Plain.{uint-makes}
 use denote.Builtin.{u8, usize}
-use denote.Ref.{RefT, NamedLft}
+use denote.Ref.{RefT}
 use denote.Signature.{namedLft}
 use denote.Slice.{sliceVal, ShrSlice, shr-slice-tells, shr-slice-lawful, shr-slice-copy}
 use denote.Steps.{owned, nothing}
@@ -52,6 +52,9 @@ module _ (κ : Lft) where
 abbrev pub reader : Param
 reader = record { row = λ κs. T.the-row (namedLft 1 0 tt κs); value = λ κs. T′.lowered; tells = λ κs. LL.tells (D (κs .0)) (L (κs .0)); last = λ κs x. tt; silent = λ κs x w. refl }
 
+abbrev pub mach : LinkReader → Val
+mach = T′.lowered
+
 -- a reader of these bytes, and its fields with their machine values
 abbrev pub reads : RefT (List ℕ) → ℕ → LinkReader
 reads s n = record { bytes = s; at = n }
@@ -65,12 +68,12 @@ module _ (d : LinkReader) where
 
   -- that its machine value has the struct's type
   abbrev pub Typed : Type 0
-  Typed = Holds (hasTy (T′.mir (named 0)) (T′.lowered d)) × WT (T′.lowered d)
+  Typed = Holds (hasTy (T′.mir (named 0)) (mach d)) × WT (mach d)
 
 -- ## What they own
 
 module _ {M : Type 1} (𝓤 : URA M) (H : Heap 𝓤) (A : Atoms 𝓤) (W : Given 𝓤 H A) (κ : Lft) where
-  pub typed : (d : LinkReader) → Is (reader .row (κ, tt)) d (T′.lowered d ∷ []) → Typed d
+  pub typed : (d : LinkReader) → Is (reader .row (κ, tt)) d (mach d ∷ []) → Typed d
   typed d is = LL.lawful (D κ) (L κ) 𝓤 H A W .typed d _ is .0
 
   -- a local has the type with no name for the lifetime
@@ -93,8 +96,8 @@ module _ {M : Type 1} (𝓤 : URA M) (H : Heap 𝓤) (A : Atoms 𝓤) (W : Given
   -- a reader at another place owns what this one does
   pub moved : (d : LinkReader) (n : ℕ) → n < 2 ^ 64 → ent 𝓤 (sem 𝓤 H A (Own reader κ d)) (sep 𝓤 (sem 𝓤 H A (Own reader κ (reads (d .bytes) n))) (sem 𝓤 H A (Own reader κ d)))
   moved d n fits =
-      qed W (‵ (Own reader κ d) ∷ []) ∵ use1 W (‵ (Own reader κ d) ⊛ ‵ (Own reader κ d)) (reader-copy .twice d (T′.lowered d ∷ [])) $ split ! $
-      owned ! usize (Is usize) (uint-makes 𝓤 H A W w64) n _ (refl, fits) $ move ! (1 ∷ 0 ∷ []) $ use2 W (‵ (Own reader κ (reads (d .bytes) n))) (own-put 𝓤 H A W (D κ) (L κ) 1 (fields d) n (T′.lowered d)) $ frame ! $ done !
+      qed W (‵ (Own reader κ d) ∷ []) ∵ use1 W (‵ (Own reader κ d) ⊛ ‵ (Own reader κ d)) (reader-copy .twice d (mach d ∷ [])) $ split ! $
+      owned ! usize (Is usize) (uint-makes 𝓤 H A W w64) n _ (refl, fits) $ move ! (1 ∷ 0 ∷ []) $ use2 W (‵ (Own reader κ (reads (d .bytes) n))) (own-put 𝓤 H A W (D κ) (L κ) 1 (fields d) n (mach d)) $ frame ! $ done !
 
 -- ## A reader taken apart
 
@@ -108,9 +111,9 @@ module _ {M : Type 1} (𝓤 : URA M) (H : Heap 𝓤) (A : Atoms 𝓤) (W : Given
 
   pub apart : d .at < 2 ^ 64 → ent 𝓤 (Entry 𝓤 H A reader κ q d) (sep 𝓤 PartsAsked (sem 𝓤 H A (Own reader κ d)))
   apart fits =
-      qed W ((‵ (flft κ q) ⊛ ‵ ftrue) ∷ ‵ (owns (reader .row (κ, tt) ∷ []) (d, tt) (T′.lowered d ∷ [], tt)) ∷ []) ∵
-      move ! (1 ∷ []) $ fsplit ! $ move ! (1 ∷ []) $ drop ! $ use1 W (‵ (Own reader κ d) ⊛ ‵ (Own reader κ d)) (reader-copy 𝓤 H A W κ .twice d (T′.lowered d ∷ [])) $ split ! $
-      use1 W (given (T′.lowered d ∷ [] ≡ T′.lowered d ∷ []) (‵ (all-own (D κ .parts) (L κ) (fields d)))) (own-open 𝓤 H A W (D κ) (L κ) (fields d) (T′.lowered d)) $ learn ! (λ _.
+      qed W ((‵ (flft κ q) ⊛ ‵ ftrue) ∷ ‵ (owns (reader .row (κ, tt) ∷ []) (d, tt) (mach d ∷ [], tt)) ∷ []) ∵
+      move ! (1 ∷ []) $ fsplit ! $ move ! (1 ∷ []) $ drop ! $ use1 W (‵ (Own reader κ d) ⊛ ‵ (Own reader κ d)) (reader-copy 𝓤 H A W κ .twice d (mach d ∷ [])) $ split ! $
+      use1 W (given (mach d ∷ [] ≡ mach d ∷ []) (‵ (all-own (D κ .parts) (L κ) (fields d)))) (own-open 𝓤 H A W (D κ) (L κ) (fields d) (mach d)) $ learn ! (λ _.
       use1 W (‵ (ownAt (D κ .parts) (L κ) 0 (d .bytes)) ⊛ ‵ (rest (D κ .parts) (L κ) 0 (fields d))) (own-out 𝓤 H A W (D κ .parts) (L κ) 0 (fields d)) $ split ! $
       -- [what the bytes own; what the place owns; what the struct owns; the token]
       move ! (1 ∷ []) $ drop ! $ nothing ! $ owned ! usize (Is usize) (uint-makes 𝓤 H A W w64) (d .at) _ (refl, fits) $ fjoin ! $ move ! (1 ∷ 0 ∷ []) $ fjoin ! $
