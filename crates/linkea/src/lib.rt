@@ -141,7 +141,7 @@ fn found_at(l: &[u8], p: usize) -> Found
 }
 
 // The cursor: what stands at a place.
-pub fn step(l: &[u8], p: usize) -> Step
+pub fn step_at(l: &[u8], p: usize) -> Step
     ensures { λ r. ⌜ r ≡ stepAt (now (l .entry)) p ⌝ }
 {
     if p < LINK_HEADER {

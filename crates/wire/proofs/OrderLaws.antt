@@ -97,6 +97,17 @@ number-stores big n l at v =
     let q : List ℕ = bytes n (v / 256 ^ n) in
     rw (bytes-add n n v, reverse-append p q) (sets-at (reverse q) (reverse p) l at n (length-reverse q ∙ length-bytes n (v / 256 ^ n)))
 
+-- big-endian, as be32, be64, put_be32 and put_be64 have it
+pub number-two-halves : (n : ℕ) (l : List ℕ) (at : ℕ) → at + (n + n) ≤ length l →
+    256 ^ n * number big n (drop at l) + number big n (drop (at + n) l) ≡ number big (n + n) (drop at l)
+unfolding joined
+number-two-halves n l at h = number-twice big n l at h
+
+pub number-two-stores : (n : ℕ) (l : List ℕ) (at v : ℕ) →
+    sets (sets l at (numberBytes big n (v / 256 ^ n))) (at + n) (numberBytes big n (v % 256 ^ n)) ≡ sets l at (numberBytes big (n + n) v)
+unfolding firstHalf secondHalf
+number-two-stores n l at v = number-stores big n l at v
+
 -- a byte is a number in either order
 pub number-one : (o : Order) (l : List ℕ) → number o 1 l ≡ getD l 0 0
 unfolding number le
