@@ -13,13 +13,13 @@ ghost use Rattle.linkea.specs.Answers.{readLink, foundAt, stepAt, readRe
 pub const LINK_MAGIC: u32 = 0x11ea_f1df;
 
 // Where the fields of the header stand, after the 4 bytes of the magic number.
-const COUNT_AT: usize = 4;
+pub const COUNT_AT: usize = 4;
 
-const TOTAL_AT: usize = COUNT_AT + 4;
+pub const TOTAL_AT: usize = COUNT_AT + 4;
 
-const TIME_AT: usize = TOTAL_AT + 8;
+pub const TIME_AT: usize = TOTAL_AT + 8;
 
-const PADDING_AT: usize = TIME_AT + 4;
+pub const PADDING_AT: usize = TIME_AT + 4;
 
 // The bytes of the header.
 pub const LINK_HEADER: usize = PADDING_AT + 4;

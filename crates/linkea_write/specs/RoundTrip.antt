@@ -56,8 +56,8 @@ pub record DeclaredWidths (h : LinkHeader) (numbers names : List ℕ) : Type 0 w
   pub total : h .total < 2 ^ 64
   pub time : h .time < 2 ^ 32
   pub padding : h .padding < 2 ^ 32
-  pub numbers : (i : ℕ) → getD numbers i 0 < 2 ^ 64
-  pub names : Bytes names
+  pub given : (i : ℕ) → getD numbers i 0 < 2 ^ 64
+  pub lent : Bytes names
 
 -- the bytes that were written read back as given: the header, and each record's parent and name, in order
 pub record ReadsBack (h : LinkHeader) (numbers names written : List ℕ) : Type 0 where

@@ -42,6 +42,11 @@ unfoldable pub upward : ℕ → ℕ → List ℕ
 upward zero j = []
 upward (suc n) j = j ∷ upward n (suc j)
 
+-- the bytes of the n records from the j-th on
+unfoldable pub bytesGiven : List ℕ → ℕ → ℕ → ℕ
+bytesGiven numbers zero j = 0
+bytesGiven numbers (suc n) j = nameAt + sizeGiven numbers j + bytesGiven numbers n (suc j)
+
 -- the linkEA that is handed to the writer
 unfoldable pub linkEAGiven : LinkHeader → List ℕ → List ℕ → LinkEA
 linkEAGiven h numbers names =

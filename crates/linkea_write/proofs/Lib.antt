@@ -1,0 +1,6 @@
+pub mod LinkLaws
+pub mod GivenLaws
+pub mod WriteLaws
+pub mod StandLaws
+pub mod ReadLaws
+pub mod RoundTrips
