@@ -117,8 +117,7 @@ unfolding EveryWalk
 encoded-read e f w =
     let l : List ℕ = encodeLinkEA e in
     let a = encoded-accepted e f w in
-    let h : decodeLinkHeader l ≡ headerOf e = header-of-back e f w in
-    (
+    let h : decodeLinkHeader l ≡ headerOf e = header-of-back e f w in (
       sym (read-accepted l a) ∙ ap (λ (g : LinkHeader). Accepted g) h,
       ap (λ (g : LinkHeader). walked (g .count) l linkHeader) (sym h) ∙ every-walk l a .records ∙ links-back e f w,
     )

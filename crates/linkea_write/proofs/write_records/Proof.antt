@@ -22,19 +22,19 @@ loop-holds : tie.Need-loop-holds Inv-loop μ-loop
 loop-holds c = (omega arith, refl, bytes-start _, records-start _ _ _)
 
 add-e : tie.Need-add-e Inv-loop μ-loop
-add-e c = 
+add-e c =
     let d = c .before .before in
     let s = d .before .before .before .before in
     omega (arith, bytes-inside (now (s .args .numbers)) (s .args .count) (d .loop .j) (omega arith))
 
 add-e-2 : tie.Need-add-e-2 Inv-loop μ-loop
-add-e-2 c = 
+add-e-2 c =
     let d = c .before .before in
     let s = d .before .before .before .before in
     omega (arith, bytes-inside (now (s .args .numbers)) (s .args .count) (d .loop .j) (omega arith))
 
 part-put-given-end : tie.Need-part-put-given-end Inv-loop μ-loop
-part-put-given-end c = 
+part-put-given-end c =
     let d = c .before .before in
     let s = d .before .before .before .before in
     omega (arith, bytes-inside (now (s .args .numbers)) (s .args .count) (d .loop .j) (omega arith))
@@ -44,8 +44,7 @@ unfolding sizeGiven numberOf
 put-given-requires c κs =
     let d = c .before .before .before in
     let s = d .before .before .before .before in
-    let n = now (s .args .numbers) in
-    (
+    let n = now (s .args .numbers) in (
       omega arith,
       none-of _ _ _ (s .pre .1) (omega arith),
       part-long (d .loop .dest) (d .loop .a) (nameAt + sizeOf n (d .loop .j)) (omega (arith, bytes-inside n (s .args .count) (d .loop .j) (omega arith))),
