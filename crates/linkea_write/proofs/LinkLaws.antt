@@ -1,18 +1,17 @@
 -- Laws of a record and of a header as their bytes and back. Assumes nothing.
-use mathlib.Core.Path.{_≡_, refl, sym, ap, _∙_}
+use mathlib.Core.Path.{_≡_, refl, _∙_}
 use mathlib.Core.List.{List, [], _∷_, _++_, append-assoc}
 use mathlib.Core.Bool.{false}
 use Prim.Native.Nat.{ℕ, _+_, _-_, _≤_, _<_, _^_}
 use native.Mathlib.Omega.{arith}
 use native.Mathlib.Nat.{mod-eq-of-lt}
 use lib.ListN.{length, take, drop, length-append, length-drop}
-use lib.Seq.{sets, take-add, take-at, drop-at, drop-drop, length-take-le}
+use lib.Seq.{sets, take-add, take-at, drop-at, length-take-le}
 use Rattle.wire.specs.Numbers.{le, bytes, big, number, numberBytes}
 use Rattle.wire.proofs.Splice.{sets-at}
-use Rattle.wire.proofs.NumberLaws.{Bytes, bytes-drop, bytes-le, length-bytes, le-bytes, le-small-at}
+use Rattle.wire.proofs.NumberLaws.{Bytes, bytes-drop, bytes-le, length-bytes, le-bytes}
 use Rattle.wire.proofs.OrderLaws.{length-number, number-back, number-again, number-small}
 use Rattle.fid.specs.Fid.{fidSize, decodeFidIn, encodeFidIn}
-use Rattle.fid.specs.declared.Fid.{Fid}
 use Rattle.fid.proofs.FidLaws.{Fits, length-fid, fid-back, fid-again, fid-fits-in}
 use Rattle.linkea.specs.Link.{Link, linkMagic, countAt, totalAt, timeAt, paddingAt, linkHeader, parentAt, nameAt, linkLength, decodeLink, encodeLink, encodeLinks, decodeLinkHeader, encodeLinkHeader}
 use Rattle.linkea.specs.Conditions.{some, badByte}

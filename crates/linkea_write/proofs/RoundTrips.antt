@@ -1,16 +1,14 @@
 -- The round trips that `specs/RoundTrip.antt` states. Assumes nothing.
 use mathlib.Core.Path.{_≡_, refl, sym, ap, _∙_}
-use mathlib.Core.List.{List, [], _∷_, _++_, map}
+use mathlib.Core.List.{List, _++_, map}
 use mathlib.Core.Bool.{Bool, true, false, cond}
 use Prim.Native.Nat.{ℕ, zero, suc, _+_, _*_, _≤_, _<_, _^_}
-use borrow.Author.Tests.{eq-eqb}
 use native.Mathlib.Omega.{arith}
-use lib.Dec.{eqb}
 use lib.ListN.{length, take, drop, getD}
 use lib.Seq.{sets, sets-eq, take-at, drop-at}
 use Rattle.wire.specs.Numbers.{Bytes}
 use Rattle.fid.proofs.FidLaws.{Fits}
-use Rattle.linkea.specs.Link.{Link, LinkEA, linkHeader, nameAt, linkAt, places, decodeLinkHeader, decodeLinkEA, headerOf, encodeLinks, encodeLinkEA}
+use Rattle.linkea.specs.Link.{LinkEA, linkHeader, linkAt, places, decodeLinkHeader, decodeLinkEA, headerOf, encodeLinkEA}
 use Rattle.linkea.specs.Conditions.{some, badRecord, refusedLink}
 use Rattle.linkea.specs.Answers.{readLink}
 use Rattle.linkea.specs.Walk.{walked, EveryWalk}
@@ -20,11 +18,11 @@ use Rattle.linkea.proofs.PlaceLaws.{or-first, or-second, places-from, AllGood}
 use Rattle.linkea.proofs.RecordLaws.{good-link, read-accepted}
 use Rattle.linkea.proofs.WalkLaws.{every-walk}
 use Rattle.linkea_write.specs.declared.Written.the-variants.{Bytes as Wrote}
-use Rattle.linkea_write.specs.Writer.{linkNumbers, numberOf, parentGiven, linkGiven, linkEAGiven, upward, badGiven, otherCount, otherTotal, refusedGiven, writeLink, writeLinkBytes}
-use Rattle.linkea_write.specs.RoundTrip.{recordsRead, DeclaredWidths, EveryLinkBack, ReadsBack, EveryWriteBack}
+use Rattle.linkea_write.specs.Writer.{linkNumbers, numberOf, parentGiven, linkGiven, linkEAGiven, upward, badGiven, refusedGiven, writeLink, writeLinkBytes}
+use Rattle.linkea_write.specs.RoundTrip.{recordsRead, EveryLinkBack, EveryWriteBack}
 use Rattle.linkea_write.proofs.LinkLaws.{FitLink, FitHeader}
 use Rattle.linkea_write.proofs.GivenLaws.{TakenFacts, taken-facts, length-name}
-use Rattle.linkea_write.proofs.WriteLaws.{WriteFacts, write-facts, facts-write, write-is, write-took}
+use Rattle.linkea_write.proofs.WriteLaws.{write-facts, facts-write, write-is, write-took}
 use Rattle.linkea_write.proofs.StandLaws.{FitLinks, header-read, written-again, links-back, header-of-back, length-encoded, encoded-accepted}
 use Rattle.linkea_write.proofs.ReadLaws.{numbersAt, length-numbers, links-at, good-at, records-read}
 

@@ -2,19 +2,18 @@
 use mathlib.Core.Path.{_≡_, refl, sym, ap, _∙_}
 use mathlib.Core.List.{List, [], _∷_, _++_, append-nil, map, map-append}
 use mathlib.Core.Bool.{Bool, true, false, cond, not, _||_}
-use Prim.Native.Nat.{ℕ, suc, _+_, _-_, _*_, _≤_, _<_}
+use Prim.Native.Nat.{ℕ, _+_, _-_, _*_, _≤_, _<_}
 use borrow.Author.Tests.{lt-ltb, le-ltb, ltb-false, eq-eqb, ne-eqb, eqb-true, not-false}
 use native.Mathlib.Omega.{arith}
 use native.Mathlib.Numerals.{add-one}
 use lib.Dec.{ltb, eqb}
 use lib.ListN.{length, take, drop, set, getD, length-append, length-drop, length-map}
-use lib.Seq.{sets, sets-eq, length-sets, take-suc, take-all, take-at, drop-at, length-take-le}
+use lib.Seq.{sets, length-sets, take-suc, take-all, length-take-le}
 use borrow.Rule.Slice.PartMut.{putMid}
 use Rattle.wire.specs.Numbers.{big, numberBytes}
 use Rattle.wire.proofs.Splice.{sets-at, sets-whole, put-sets}
 use Rattle.wire.proofs.OrderLaws.{length-number}
 use Rattle.fid.specs.Fid.{encodeFidIn}
-use Rattle.fid.specs.declared.Fid.{Fid}
 use Rattle.fid.specs.declared.MdtFid.{MdtFid}
 use Rattle.fid.proofs.FidLaws.{length-fid}
 use Rattle.linkea.specs.Link.{Link, linkHeader, parentAt, nameAt, headerOf, encodeLink, encodeLinks, encodeLinkHeader, encodeLinkEA}
@@ -24,7 +23,7 @@ use Rattle.linkea.proofs.PlaceLaws.{or-first, or-second}
 use Rattle.linkea_write.specs.declared.Written.the-variants.{BadRecords, TooShort, Bytes}
 use Rattle.linkea_write.specs.Writer.{linkNumbers, numberOf, startGiven, sizeGiven, parentGiven, linkGiven, linkEAGiven, upward, bytesGiven, badGiven, otherCount, otherTotal, refusedGiven, writeLink, leftBy, writeLinkBytes}
 use Rattle.linkea_write.proofs.LinkLaws.{length-link, length-link-header, links-append}
-use Rattle.linkea_write.proofs.GivenLaws.{startOf, sizeOf, taken-facts, length-name, length-links, length-upward, upward-more, bytes-step}
+use Rattle.linkea_write.proofs.GivenLaws.{startOf, sizeOf, length-name, length-links, length-upward, upward-more}
 
 -- ## What the writer takes
 
