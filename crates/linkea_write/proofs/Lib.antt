@@ -4,3 +4,4 @@ pub mod WriteLaws
 pub mod StandLaws
 pub mod ReadLaws
 pub mod RoundTrips
+pub mod Example
