@@ -139,22 +139,22 @@ pub header-is : (l : List ℕ) → fieldsFit l ≡ true → HeaderIs (record { c
 unfolding headerGiven fieldsHeader
 header-is l f = rw f
 
-module _ (l : List ℕ) where
-  -- whether a header was given is whether the fields fit
-  given-cases : (b : Bool) → fieldsFit l ≡ b → ((fieldsFit l ≡ true) × (headerGiven l ≡ HeaderIs (fieldsHeader l))) ⊎ ((fieldsFit l ≡ false) × (headerGiven l ≡ NotHeader))
-  unfolding headerGiven
-  given-cases true f = inl (f, rw f)
-  given-cases false f = inr (f, rw f)
+given-fits : (l : List ℕ) (b : Bool) (h : LinkHeader) → fieldsFit l ≡ b → cond b (HeaderIs (fieldsHeader l)) NotHeader ≡ HeaderIs h → (fieldsFit l ≡ true) × (fieldsHeader l ≡ h)
+given-fits l true h f e = (f, cc)
+given-fits l false h f e = let z : _≡_ {A = ℕ} 0 1 = cc in absurd (omega (arith, z))
 
-  pub given-is : (h : LinkHeader) → headerGiven l ≡ HeaderIs h → (fieldsFit l ≡ true) × (fieldsHeader l ≡ h)
-  given-is h e =
-      ⊎-elim (λ w. (w .0, cc)) (λ w. let c : HeaderIs h ≡ NotHeader = sym e ∙ w .1 in let z : _≡_ {A = ℕ} 0 1 = cc in absurd (omega (arith, z)))
-      (given-cases (fieldsFit l) refl)
+-- a header that was given is that of the fields, which fit
+pub given-is : (l : List ℕ) (h : LinkHeader) → headerGiven l ≡ HeaderIs h → (fieldsFit l ≡ true) × (fieldsHeader l ≡ h)
+unfolding headerGiven
+given-is l h e = given-fits l (fieldsFit l) h refl e
 
-  pub given-none : headerGiven l ≡ NotHeader → fieldsFit l ≡ false
-  given-none e =
-      ⊎-elim (λ w. let c : HeaderIs (fieldsHeader l) ≡ NotHeader = sym (w .1) ∙ e in let z : _≡_ {A = ℕ} 0 1 = cc in absurd (omega (arith, z))) (λ w. w .0)
-      (given-cases (fieldsFit l) refl)
+given-not : (l : List ℕ) (b : Bool) → fieldsFit l ≡ b → cond b (HeaderIs (fieldsHeader l)) NotHeader ≡ NotHeader → fieldsFit l ≡ false
+given-not l true f e = let z : _≡_ {A = ℕ} 0 1 = cc in absurd (omega (arith, z))
+given-not l false f e = f
+
+pub given-none : (l : List ℕ) → headerGiven l ≡ NotHeader → fieldsFit l ≡ false
+unfolding headerGiven
+given-none l e = given-not l (fieldsFit l) refl e
 
 -- ## What the writer leaves
 

@@ -130,7 +130,7 @@ fn write_given(
     ensures dest { λ _. ⌜ now (dest .exit) ≡ givenDest h (now (records .entry)) (now (names .entry)) (now (dest .entry)) (now (out .entry)) ⌝ }
     ensures out { λ _. ⌜ now (out .exit) ≡ givenOut h (now (records .entry)) (now (names .entry)) (now (dest .entry)) (now (out .entry)) ⌝ }
 {
-    if !linkea_write::may_write(h, records, names) {
+    if linkea_write::refused_given(h, records, names) {
         return 31;
     }
     if out.len() < 1 {

@@ -4,7 +4,7 @@ use linkea::LINK_HEADER;
 use linkea::Step;
 ghost use mathlib.Core.Path.{_≡_};
 ghost use Rattle.linkea.specs.Answers.{stepAt};
-ghost use Rattle.linkea.specs.Walk.{openingOf, onward, nameGiven};
+ghost use Rattle.linkea.specs.Walk.{openingOf, onward, placeAfter, nameGiven};
 
 // The lent bytes, and the place of the next record.
 pub struct LinkReader<'a> {
@@ -76,4 +76,18 @@ pub fn rest<'a>(r: LinkReader<'a>) -> LinkReader<'a>
 {
     let at = next_place(r.bytes, r.at);
     LinkReader { bytes: r.bytes, at }
+}
+
+// The name of the first record.
+pub fn first_name<'a>(bytes: &'a [u8]) -> &'a [u8]
+    ensures { λ s. ⌜ now s ≡ nameGiven (now (bytes .entry)) (stepAt (now (bytes .entry)) (openingOf (now (bytes .entry)))) ⌝ }
+{
+    name(open(bytes))
+}
+
+// What stands behind the first record: another, where the file has another name.
+pub fn second(bytes: &[u8]) -> Step
+    ensures { λ s. ⌜ s ≡ stepAt (now (bytes .entry)) (placeAfter 1 (now (bytes .entry)) (openingOf (now (bytes .entry)))) ⌝ }
+{
+    next(rest(open(bytes)))
 }

@@ -123,7 +123,7 @@ fn total_given(numbers: &[u64], count: usize) -> u64
 }
 
 // Whether the writer refuses what it is handed.
-fn refused_given(h: LinkHeader, numbers: &[u64], names: &[u8]) -> bool
+pub fn refused_given(h: LinkHeader, numbers: &[u64], names: &[u8]) -> bool
     ensures { λ r. ⌜ r ≡ refusedGiven h (now (numbers .entry)) (now (names .entry)) ⌝ }
 {
     let count = h.count as usize;
