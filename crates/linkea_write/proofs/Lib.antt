@@ -5,3 +5,4 @@ pub mod StandLaws
 pub mod ReadLaws
 pub mod RoundTrips
 pub mod Example
+pub mod ChangeLaws
