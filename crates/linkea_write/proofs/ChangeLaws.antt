@@ -46,13 +46,13 @@ module _ (e : LinkEA) (xs ys : List Link) (x : Link) (s : e .links ≡ xs ++ (x 
 
   all-bytes : length (encodeLinks (e .links)) ≡ length (encodeLinks (xs ++ ys)) + length (encodeLink x)
   unfolding encodeLinks
-  all-bytes = rw (s, links-append xs (x ∷ ys), links-append xs ys, length-append, length-append, length-append) (omega arith)
+  all-bytes = rw (s, links-append xs (x ∷ ys), links-append xs ys) (simp length-append (omega arith))
 
   -- one record less, and as many bytes as it has
   pub removed-header : headerOf e ≡ grown (headerOf (removed e (length xs))) 1 (length (encodeLink x))
   unfolding headerOf removed grown
   removed-header =
-      let n : length (e .links) ≡ length (removed e (length xs) .links) + 1 = rw (removed-links, s, length-append, length-append) (omega arith) in
+      let n : length (e .links) ≡ length (removed e (length xs) .links) + 1 = rw (removed-links, s) (simp length-append (omega arith)) in
       let t : linkHeader + length (encodeLinks (e .links)) ≡ linkHeader + length (encodeLinks (removed e (length xs) .links)) + length (encodeLink x) =
       rw (removed-links, all-bytes) (omega arith) in
       λ i. record { count = n i; total = t i; time = e .time; padding = e .padding }
