@@ -1,5 +1,5 @@
 -- Laws of records that are handed in as numbers: the tests case by case, one record and all of them. Assumes nothing.
-use mathlib.Core.Path.{_≡_, refl, sym, ap, _∙_}
+use mathlib.Core.Path.{_≡_, refl, ap}
 use mathlib.Core.List.{List, [], _∷_, _++_, map}
 use mathlib.Core.Bool.{Bool, true, false, not, _||_}
 use Prim.Native.Nat.{ℕ, zero, suc, _+_, _-_, _*_, _≤_, _<_}
@@ -7,12 +7,12 @@ use borrow.Author.Tests.{lt-ltb, le-ltb, ltb-false, eq-eqb, ne-eqb, eqb-false}
 use native.Mathlib.Omega.{arith}
 use native.Mathlib.Nat.{add-zero, sub-zero}
 use native.Mathlib.Numerals.{add-one}
-use lib.Dec.{ltb, eqb}
+use lib.Dec.{ltb}
 use lib.ListN.{length, take, drop, getD, length-append, length-drop}
 use lib.Seq.{length-take-le}
 use Rattle.wire.specs.Numbers.{maxWord}
 use Rattle.fid.specs.declared.MdtFid.{MdtFid}
-use Rattle.linkea.specs.Link.{Link, nameAt, linkHeader, encodeLinks}
+use Rattle.linkea.specs.Link.{nameAt, linkHeader, encodeLinks}
 use Rattle.linkea.specs.Conditions.{some, badByte}
 use Rattle.linkea.proofs.PlaceLaws.{or-first, or-second}
 use Rattle.linkea_write.specs.Writer.{linkNumbers, numberOf, parentGiven, startGiven, sizeGiven, linkGiven, upward, bytesGiven, wideParent, emptyName, longestRecord, longRecord, nameOutside, badNameGiven, badGiven}
@@ -155,7 +155,7 @@ length-name numbers names j h =
 -- ## All of them
 
 -- a condition that none of n numbers from j on meets
-pub none-at : (test : ℕ → Bool) (n j i : ℕ) → some test (upward n j) ≡ false → i < n → test (j + i) ≡ false
+none-at : (test : ℕ → Bool) (n j i : ℕ) → some test (upward n j) ≡ false → i < n → test (j + i) ≡ false
 unfolding some upward
 none-at test zero j i h k = absurd (omega arith)
 none-at test (suc n) j zero h k = rw add-zero (or-first (test j) (some test (upward n (suc j))) h)
@@ -176,13 +176,13 @@ none-first test (suc k) (suc n) j h e =
     rw (or-first (test j) (some test (upward n (suc j))) h) (none-first test k n (suc j) (or-second (test j) (some test (upward n (suc j))) h) (omega arith))
 
 -- a condition that implies another
-pub none-less : (test other : ℕ → Bool) → ((i : ℕ) → test i ≡ false → other i ≡ false) → (ns : List ℕ) → some test ns ≡ false → some other ns ≡ false
+none-less : (test other : ℕ → Bool) → ((i : ℕ) → test i ≡ false → other i ≡ false) → (ns : List ℕ) → some test ns ≡ false → some other ns ≡ false
 unfolding some
 none-less test other t [] h = refl
 none-less test other t (n ∷ ns) h =
     rw (t n (or-first (test n) (some test ns) h), none-less test other t ns (or-second (test n) (some test ns) h))
 
-pub not-long : (numbers names : List ℕ) (j : ℕ) → badGiven numbers names j ≡ false → longRecord numbers j ≡ false
+not-long : (numbers names : List ℕ) (j : ℕ) → badGiven numbers names j ≡ false → longRecord numbers j ≡ false
 unfolding longRecord sizeGiven numberOf
 not-long numbers names j h = le-ltb longestRecord (nameAt + sizeOf numbers j) (taken-facts numbers names j h .short)
 
@@ -218,7 +218,7 @@ module _ (numbers names : List ℕ) (n : ℕ) where
 
 module _ (numbers : List ℕ) where
   -- one record more, at the end
-  pub bytes-more : (n j : ℕ) → bytesGiven numbers (suc n) j ≡ bytesGiven numbers n j + (nameAt + sizeOf numbers (j + n))
+  bytes-more : (n j : ℕ) → bytesGiven numbers (suc n) j ≡ bytesGiven numbers n j + (nameAt + sizeOf numbers (j + n))
   unfolding bytesGiven sizeGiven numberOf
   bytes-more zero j = let e : j + 0 ≡ j = omega arith in rw e (omega arith)
   bytes-more (suc n) j =

@@ -4,3 +4,5 @@ pub mod WriteLaws
 pub mod StandLaws
 pub mod ReadLaws
 pub mod RoundTrips
+pub mod Example
+pub mod ChangeLaws

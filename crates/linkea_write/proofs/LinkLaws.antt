@@ -1,18 +1,17 @@
 -- Laws of a record and of a header as their bytes and back. Assumes nothing.
-use mathlib.Core.Path.{_≡_, refl, sym, ap, _∙_}
+use mathlib.Core.Path.{_≡_, refl, _∙_}
 use mathlib.Core.List.{List, [], _∷_, _++_, append-assoc}
 use mathlib.Core.Bool.{false}
 use Prim.Native.Nat.{ℕ, _+_, _-_, _≤_, _<_, _^_}
 use native.Mathlib.Omega.{arith}
 use native.Mathlib.Nat.{mod-eq-of-lt}
 use lib.ListN.{length, take, drop, length-append, length-drop}
-use lib.Seq.{sets, take-add, take-at, drop-at, drop-drop, length-take-le}
+use lib.Seq.{sets, take-add, take-at, drop-at, length-take-le}
 use Rattle.wire.specs.Numbers.{le, bytes, big, number, numberBytes}
 use Rattle.wire.proofs.Splice.{sets-at}
-use Rattle.wire.proofs.NumberLaws.{Bytes, bytes-drop, bytes-le, length-bytes, le-bytes, le-small-at}
+use Rattle.wire.proofs.NumberLaws.{Bytes, field, bytes-drop, bytes-le, length-bytes, le-bytes}
 use Rattle.wire.proofs.OrderLaws.{length-number, number-back, number-again, number-small}
 use Rattle.fid.specs.Fid.{fidSize, decodeFidIn, encodeFidIn}
-use Rattle.fid.specs.declared.Fid.{Fid}
 use Rattle.fid.proofs.FidLaws.{Fits, length-fid, fid-back, fid-again, fid-fits-in}
 use Rattle.linkea.specs.Link.{Link, linkMagic, countAt, totalAt, timeAt, paddingAt, linkHeader, parentAt, nameAt, linkLength, decodeLink, encodeLink, encodeLinks, decodeLinkHeader, encodeLinkHeader}
 use Rattle.linkea.specs.Conditions.{some, badByte}
@@ -120,10 +119,6 @@ pub record FitHeader (h : LinkHeader) : Type 0 where
   pub total : h .total < 2 ^ 64
   pub time : h .time < 2 ^ 32
   pub padding : h .padding < 2 ^ 32
-
--- a number after others, read back
-field : (n v k : ℕ) (before after l : List ℕ) → l ≡ before ++ (bytes n v ++ after) → length before ≡ k → v < 256 ^ n → le n (drop k l) ≡ v
-field n v k before after l e h f = rw (e, drop-at before (bytes n v ++ after) k h, le-bytes n v after, mod-eq-of-lt f)
 
 module _ (h : LinkHeader) (r : List ℕ) where
   pub magic-back : le 4 (encodeLinkHeader h ++ r) ≡ linkMagic

@@ -1,24 +1,20 @@
 -- Records that were read, handed to the writer as numbers. Assumes nothing.
-use mathlib.Core.Path.{_≡_, refl, sym, ap, _∙_}
+use mathlib.Core.Path.{_≡_, refl, ap, _∙_}
 use mathlib.Core.List.{List, [], _∷_, _++_, map}
 use mathlib.Core.Bool.{Bool, true, false, _||_}
-use Prim.Native.Nat.{ℕ, zero, suc, _+_, _-_, _*_, _≤_, _<_}
-use borrow.Author.Tests.{ltb-true, ltb-false, le-ltb, eq-eqb, ne-eqb}
+use Prim.Native.Nat.{ℕ, zero, suc, _+_, _-_, _*_, _<_}
+use borrow.Author.Tests.{ltb-true, ltb-false, eq-eqb}
 use native.Mathlib.Omega.{arith}
 use lib.Dec.{ltb, eqb}
-use lib.ListN.{length, take, drop, getD, length-append}
-use lib.Seq.{getD-drop, drop-drop, drop-at}
-use Rattle.wire.specs.Numbers.{maxWord}
+use lib.ListN.{length, drop, length-append}
+use lib.Seq.{getD-drop, drop-drop}
 use Rattle.wire.proofs.NumberLaws.{Bytes, bytes-drop}
-use Rattle.fid.proofs.FidLaws.{Fits}
-use Rattle.linkea.specs.Link.{Link, linkHeader, nameAt, linkLength, decodeLink, lengthAt, shortRecord, linkAt, places}
+use Rattle.linkea.specs.Link.{Link, linkHeader, nameAt, decodeLink, lengthAt, shortRecord, linkAt, places}
 use Rattle.linkea.specs.Conditions.{some, pastEnd, badByte, badName, badRecord, refusedLink}
-use Rattle.linkea.specs.Answers.{foundAt, readRecord}
-use Rattle.linkea.specs.declared.Found.{Found}
-use Rattle.linkea.specs.declared.RecordRead.the-variants.{RecordIs}
+use Rattle.linkea.specs.Answers.{foundAt}
 use Rattle.linkea.proofs.PlaceLaws.{or-first, or-second, from, places-from, from-end, from-step, AllGood, good-record, good-here, good-on, some-here}
 use Rattle.linkea.proofs.RecordLaws.{record-is, good-link}
-use Rattle.linkea_write.specs.Writer.{linkNumbers, numberOf, parentGiven, startGiven, sizeGiven, linkGiven, upward, wideParent, emptyName, longestRecord, longRecord, nameOutside, badNameGiven, badGiven}
+use Rattle.linkea_write.specs.Writer.{linkNumbers, numberOf, parentGiven, startGiven, sizeGiven, linkGiven, upward, wideParent, emptyName, longRecord, nameOutside, badNameGiven, badGiven}
 use Rattle.linkea_write.specs.RoundTrip.{foundNumbers, readNumbers, readNext, recordsRead}
 use Rattle.linkea_write.proofs.LinkLaws.{link-fits, link-small}
 use Rattle.linkea_write.proofs.GivenLaws.{facts-taken, narrow-parent}
@@ -40,12 +36,12 @@ module _ (numbers names : List ℕ) where
   unfolding badGiven wideParent emptyName longRecord nameOutside badNameGiven startGiven sizeGiven
   bad-on j = rw (link-on j, number-on j 1, number-on j 2, number-on j 3, number-on j 4)
 
-  pub links-on : (n j : ℕ) → map (linkGiven numbers names) (upward n (suc j)) ≡ map (linkGiven (drop linkNumbers numbers) names) (upward n j)
+  links-on : (n j : ℕ) → map (linkGiven numbers names) (upward n (suc j)) ≡ map (linkGiven (drop linkNumbers numbers) names) (upward n j)
   unfolding upward
   links-on zero j = refl
   links-on (suc n) j = rw (link-on j, links-on n (suc j))
 
-  pub bads-on : (n j : ℕ) → some (badGiven numbers names) (upward n (suc j)) ≡ some (badGiven (drop linkNumbers numbers) names) (upward n j)
+  bads-on : (n j : ℕ) → some (badGiven numbers names) (upward n (suc j)) ≡ some (badGiven (drop linkNumbers numbers) names) (upward n j)
   unfolding upward some
   bads-on zero j = refl
   bads-on (suc n) j = rw (bad-on j, bads-on n (suc j))

@@ -1,16 +1,15 @@
 -- The round trips that `specs/RoundTrip.antt` states. Assumes nothing.
 use mathlib.Core.Path.{_≡_, refl, sym, ap, _∙_}
-use mathlib.Core.List.{List, [], _∷_, _++_, map}
+use mathlib.Core.List.{List, _++_, map}
 use mathlib.Core.Bool.{Bool, true, false, cond}
 use Prim.Native.Nat.{ℕ, zero, suc, _+_, _*_, _≤_, _<_, _^_}
-use borrow.Author.Tests.{eq-eqb}
 use native.Mathlib.Omega.{arith}
-use lib.Dec.{eqb}
 use lib.ListN.{length, take, drop, getD}
-use lib.Seq.{sets, sets-eq, take-at, drop-at}
+use lib.Seq.{sets, take-at, drop-at}
 use Rattle.wire.specs.Numbers.{Bytes}
+use Rattle.wire.proofs.Splice.{sets-front}
 use Rattle.fid.proofs.FidLaws.{Fits}
-use Rattle.linkea.specs.Link.{Link, LinkEA, linkHeader, nameAt, linkAt, places, decodeLinkHeader, decodeLinkEA, headerOf, encodeLinks, encodeLinkEA}
+use Rattle.linkea.specs.Link.{LinkEA, linkHeader, linkAt, places, decodeLinkHeader, decodeLinkEA, headerOf, encodeLinkEA}
 use Rattle.linkea.specs.Conditions.{some, badRecord, refusedLink}
 use Rattle.linkea.specs.Answers.{readLink}
 use Rattle.linkea.specs.Walk.{walked, EveryWalk}
@@ -20,17 +19,13 @@ use Rattle.linkea.proofs.PlaceLaws.{or-first, or-second, places-from, AllGood}
 use Rattle.linkea.proofs.RecordLaws.{good-link, read-accepted}
 use Rattle.linkea.proofs.WalkLaws.{every-walk}
 use Rattle.linkea_write.specs.declared.Written.the-variants.{Bytes as Wrote}
-use Rattle.linkea_write.specs.Writer.{linkNumbers, numberOf, parentGiven, linkGiven, linkEAGiven, upward, badGiven, otherCount, otherTotal, refusedGiven, writeLink, writeLinkBytes}
-use Rattle.linkea_write.specs.RoundTrip.{recordsRead, DeclaredWidths, EveryLinkBack, ReadsBack, EveryWriteBack}
+use Rattle.linkea_write.specs.Writer.{linkNumbers, numberOf, parentGiven, linkGiven, linkEAGiven, upward, badGiven, refusedGiven, writeLink, writeLinkBytes}
+use Rattle.linkea_write.specs.RoundTrip.{recordsRead, EveryLinkBack, EveryWriteBack}
 use Rattle.linkea_write.proofs.LinkLaws.{FitLink, FitHeader}
 use Rattle.linkea_write.proofs.GivenLaws.{TakenFacts, taken-facts, length-name}
-use Rattle.linkea_write.proofs.WriteLaws.{WriteFacts, write-facts, facts-write, write-is, write-took}
+use Rattle.linkea_write.proofs.WriteLaws.{write-facts, facts-write, write-is, write-took}
 use Rattle.linkea_write.proofs.StandLaws.{FitLinks, header-read, written-again, links-back, header-of-back, length-encoded, encoded-accepted}
 use Rattle.linkea_write.proofs.ReadLaws.{numbersAt, length-numbers, links-at, good-at, records-read}
-
--- stores at the front: what was stored, and the rest
-front : (l dest : List ℕ) → length l ≤ length dest → sets dest 0 l ≡ l ++ drop (length l) dest
-front l dest k = let z : 0 + length l ≡ length l = omega arith in rw (sets-eq l dest 0 (omega arith), z)
 
 -- ## What was read, written
 
@@ -81,7 +76,7 @@ every-link-back l h dest b e k =
     let t = read-taken l h e in
     let w = read-written l b (t .0) dest k in
     let n : recordsRead (h .count) l linkHeader ≡ numbersAt l (places l) = rw (← t .1) (numbers-read l (t .0)) in
-    let x : writeLinkBytes h (recordsRead (h .count) l linkHeader) l dest ≡ l ++ drop (length l) dest = rw (n, ← t .1) (w .1) ∙ front l dest k in
+    let x : writeLinkBytes h (recordsRead (h .count) l linkHeader) l dest ≡ l ++ drop (length l) dest = rw (n, ← t .1) (w .1) ∙ sets-front l dest k in
     record {
       answer = rw (n, ← t .1) (w .0);
       linkEA = ap (λ (m : List ℕ). take (length l) m) x ∙ take-at l (drop (length l) dest) (length l) refl;
@@ -133,7 +128,7 @@ every-write-back h numbers names dest b d e =
     let g : FitLinks (x .links) = fit-givens numbers names (h .count) 0 (d .given) (f .good) in
     let n : length l ≡ b = length-encoded x g w ∙ ap (λ (y : LinkHeader). y .total) (f .header) ∙ sym (t .2) in
     let q : take b (writeLinkBytes h numbers names dest) ≡ l =
-    ap (λ (m : List ℕ). take b m) (write-is h numbers names dest (t .0) (t .1) .1 ∙ front l dest (omega (arith, t .1, t .2))) ∙ take-at l (drop (length l) dest) b n in
+    ap (λ (m : List ℕ). take b m) (write-is h numbers names dest (t .0) (t .1) .1 ∙ sets-front l dest (omega (arith, t .1, t .2))) ∙ take-at l (drop (length l) dest) b n in
     let r = encoded-read x g w in
     record {
       header = rw q (r .0 ∙ ap (λ (y : LinkHeader). Accepted y) (f .header));

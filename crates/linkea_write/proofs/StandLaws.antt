@@ -1,7 +1,7 @@
 -- Records that stand in bytes one after the other, to the end: what is read of them, and that encoded records do. Assumes nothing.
 use mathlib.Core.Path.{_≡_, refl, sym, ap, _∙_}
 use mathlib.Core.List.{List, [], _∷_, _++_, append-assoc, append-nil, map}
-use mathlib.Core.Bool.{Bool, true, false, _||_}
+use mathlib.Core.Bool.{Bool, true, false}
 use Prim.Native.Nat.{ℕ, zero, suc, _+_, _-_, _≤_, _<_}
 use borrow.Author.Tests.{ltb-true, ltb-false, le-ltb}
 use native.Mathlib.Omega.{arith}
@@ -10,15 +10,15 @@ use lib.ListN.{length, take, drop, length-append, length-drop, take-append-drop,
 use lib.Seq.{drop-append-seam, drop-length, drop-drop}
 use Rattle.wire.specs.Numbers.{le}
 use Rattle.wire.proofs.NumberLaws.{Bytes, bytes-drop}
-use Rattle.linkea.specs.Link.{Link, LinkEA, linkMagic, linkHeader, nameAt, shortestRecord, linkLength, decodeLink, encodeLink, encodeLinks, lengthAt, shortRecord, linkAt, places, decodeLinkHeader, decodeLinkEA, headerOf, encodeLinkHeader, encodeLinkEA}
+use Rattle.linkea.specs.Link.{Link, LinkEA, linkMagic, linkHeader, nameAt, shortestRecord, linkLength, encodeLink, encodeLinks, lengthAt, shortRecord, linkAt, places, decodeLinkHeader, decodeLinkEA, headerOf, encodeLinkHeader, encodeLinkEA}
 use Rattle.linkea.specs.Conditions.{some, pastEnd, badName, badRecord, refusedLink}
 use Rattle.linkea.specs.declared.LinkHeader.{LinkHeader}
 use Rattle.linkea.proofs.PlaceLaws.{from, places-from, from-end, from-step, AllGood, good-record, good-here, good-on}
-use Rattle.linkea.proofs.RecordLaws.{GoodLink, good-link, link-good}
+use Rattle.linkea.proofs.RecordLaws.{good-link, link-good}
 use Rattle.linkea_write.proofs.LinkLaws.{FitLink, FitHeader, length-link, link-length, link-back, link-again, length-link-header, magic-back, header-back, header-again}
 
 -- the records xs stand in l from p on
-unfoldable pub Stand : List ℕ → ℕ → List Link → Type 0
+unfoldable Stand : List ℕ → ℕ → List Link → Type 0
 Stand l p [] = p ≡ length l
 Stand l p (x ∷ xs) = (p < length l) × (badRecord l p ≡ false) × (linkAt l p ≡ x) × Stand l (p + lengthAt l p) xs
 
@@ -28,18 +28,18 @@ FitLinks (x ∷ xs) = FitLink x × FitLinks xs
 
 -- ## Read
 
-pub stand-good : (xs : List Link) (l : List ℕ) (p : ℕ) → Stand l p xs → AllGood l p
+stand-good : (xs : List Link) (l : List ℕ) (p : ℕ) → Stand l p xs → AllGood l p
 unfolding Stand AllGood some
 stand-good [] l p s = rw (from-end l p (omega arith))
 stand-good (x ∷ xs) l p s = rw (from-step l p (s .0) (good-record l p (s .1) .short), s .1) (stand-good xs l (p + lengthAt l p) (s .3))
 
-pub stand-links : (xs : List Link) (l : List ℕ) (p : ℕ) → Stand l p xs → map (linkAt l) (from l p) ≡ xs
+stand-links : (xs : List Link) (l : List ℕ) (p : ℕ) → Stand l p xs → map (linkAt l) (from l p) ≡ xs
 unfolding Stand
 stand-links [] l p s = rw (from-end l p (omega arith))
 stand-links (x ∷ xs) l p s = rw (from-step l p (s .0) (good-record l p (s .1) .short), s .2, stand-links xs l (p + lengthAt l p) (s .3))
 
 -- good records stand where they begin
-pub good-stand : (n : ℕ) (b : Bool) (l : List ℕ) (p : ℕ) → ltb p (length l) ≡ b → AllGood l p → p ≤ length l → length l ≤ p + n →
+good-stand : (n : ℕ) (b : Bool) (l : List ℕ) (p : ℕ) → ltb p (length l) ≡ b → AllGood l p → p ≤ length l → length l ≤ p + n →
     Stand l p (map (linkAt l) (from l p))
 unfolding Stand
 good-stand zero false l p t g h k = let e : length l ≤ p = ltb-false p (length l) t in rw (from-end l p e) (omega arith)
@@ -55,7 +55,7 @@ good-stand (suc n) true l p t g h k =
 -- ## Written
 
 -- the records of bytes, written, are these bytes
-pub stand-bytes : (xs : List Link) (l : List ℕ) (p : ℕ) → Bytes l → Stand l p xs → encodeLinks xs ≡ drop p l
+stand-bytes : (xs : List Link) (l : List ℕ) (p : ℕ) → Bytes l → Stand l p xs → encodeLinks xs ≡ drop p l
 unfolding Stand encodeLinks linkAt lengthAt
 stand-bytes [] l p b s = rw (s, drop-length l)
 stand-bytes (x ∷ xs) l p b s =
@@ -95,7 +95,7 @@ module _ (x : Link) (before after : List ℕ) (f : FitLink x) where
       )
       (f .clean)
 
-pub stand-encoded : (xs : List Link) (before : List ℕ) → FitLinks xs → Stand (before ++ encodeLinks xs) (length before) xs
+stand-encoded : (xs : List Link) (before : List ℕ) → FitLinks xs → Stand (before ++ encodeLinks xs) (length before) xs
 unfolding Stand FitLinks encodeLinks
 stand-encoded [] before f = rw append-nil
 stand-encoded (x ∷ xs) before f =

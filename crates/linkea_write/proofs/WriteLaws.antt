@@ -2,19 +2,18 @@
 use mathlib.Core.Path.{_≡_, refl, sym, ap, _∙_}
 use mathlib.Core.List.{List, [], _∷_, _++_, append-nil, map, map-append}
 use mathlib.Core.Bool.{Bool, true, false, cond, not, _||_}
-use Prim.Native.Nat.{ℕ, suc, _+_, _-_, _*_, _≤_, _<_}
+use Prim.Native.Nat.{ℕ, _+_, _-_, _*_, _≤_, _<_}
 use borrow.Author.Tests.{lt-ltb, le-ltb, ltb-false, eq-eqb, ne-eqb, eqb-true, not-false}
 use native.Mathlib.Omega.{arith}
 use native.Mathlib.Numerals.{add-one}
 use lib.Dec.{ltb, eqb}
-use lib.ListN.{length, take, drop, set, getD, length-append, length-drop, length-map}
-use lib.Seq.{sets, sets-eq, length-sets, take-suc, take-all, take-at, drop-at, length-take-le}
+use lib.ListN.{length, take, drop, length-append, length-drop, length-map}
+use lib.Seq.{sets, length-sets, length-take-le}
 use borrow.Rule.Slice.PartMut.{putMid}
 use Rattle.wire.specs.Numbers.{big, numberBytes}
 use Rattle.wire.proofs.Splice.{sets-at, sets-whole, put-sets}
 use Rattle.wire.proofs.OrderLaws.{length-number}
 use Rattle.fid.specs.Fid.{encodeFidIn}
-use Rattle.fid.specs.declared.Fid.{Fid}
 use Rattle.fid.specs.declared.MdtFid.{MdtFid}
 use Rattle.fid.proofs.FidLaws.{length-fid}
 use Rattle.linkea.specs.Link.{Link, linkHeader, parentAt, nameAt, headerOf, encodeLink, encodeLinks, encodeLinkHeader, encodeLinkEA}
@@ -24,7 +23,7 @@ use Rattle.linkea.proofs.PlaceLaws.{or-first, or-second}
 use Rattle.linkea_write.specs.declared.Written.the-variants.{BadRecords, TooShort, Bytes}
 use Rattle.linkea_write.specs.Writer.{linkNumbers, numberOf, startGiven, sizeGiven, parentGiven, linkGiven, linkEAGiven, upward, bytesGiven, badGiven, otherCount, otherTotal, refusedGiven, writeLink, leftBy, writeLinkBytes}
 use Rattle.linkea_write.proofs.LinkLaws.{length-link, length-link-header, links-append}
-use Rattle.linkea_write.proofs.GivenLaws.{startOf, sizeOf, taken-facts, length-name, length-links, length-upward, upward-more, bytes-step}
+use Rattle.linkea_write.proofs.GivenLaws.{startOf, sizeOf, length-name, length-links, length-upward, upward-more}
 
 -- ## What the writer takes
 
@@ -75,24 +74,6 @@ facts-write h numbers names e g t =
     rw (eq-eqb (length numbers) (linkNumbers * h .count) e, g, eq-eqb (h .total) (headerOf (linkEAGiven h numbers names) .total) t)
 
 -- ## The stores
-
--- a record with the first i bytes of its name
-pub nameDone : List ℕ → List ℕ → ℕ → List ℕ
-nameDone d name i = sets d nameAt (take i name)
-
-module _ (d name : List ℕ) where
-  pub name-start : d ≡ nameDone d name 0
-  unfolding nameDone
-  name-start = refl
-
-  pub name-step : (i b : ℕ) (x : List ℕ) → x ≡ nameDone d name i → i < length name → b ≡ getD name i 0 → set x (nameAt + i) b ≡ nameDone d name (i + 1)
-  unfolding nameDone
-  name-step i b x q h e =
-      rw (q, add-one i, take-suc name i 0 h, ← e) (sets-at (take i name) (b ∷ []) d nameAt i (length-take-le i name (omega arith)))
-
-  pub name-end : (i : ℕ) (x : List ℕ) → x ≡ nameDone d name i → length name ≤ i → x ≡ sets d nameAt name
-  unfolding nameDone
-  name-end i x q h = rw (q, take-all i name h)
 
 -- length, parent and name, stored one after the other over the bytes of the record
 pub record-stores : (numbers names l a b x : List ℕ) (j : ℕ) (f : MdtFid) → badGiven numbers names j ≡ false → length l ≡ nameAt + sizeOf numbers j →

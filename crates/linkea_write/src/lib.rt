@@ -148,17 +148,6 @@ fn write_header(dest: &mut [u8], h: LinkHeader)
     wire::put_le32(dest, PADDING_AT, h.padding);
 }
 
-// Copies a name to its place in a record.
-fn write_name(part: &mut [u8], name: &[u8])
-    requires { ⌜ nameAt + length (now name) ≤ length (now part) ⌝ }
-    ensures { λ _. ⌜ now (part .exit) ≡ sets (now (part .entry)) nameAt (now (name .entry)) ⌝ }
-{
-    for i in 0..name.len() {
-        let b = name[i];
-        part[NAME_AT + i] = b;
-    }
-}
-
 // Writes the j-th record over the bytes that it is lent.
 fn put_given(part: &mut [u8], numbers: &[u64], names: &[u8], j: usize)
     requires { ⌜ (linkNumbers * j + linkNumbers ≤ length (now numbers)) × (badGiven (now numbers) (now names) j ≡ false) × (length (now part) ≡ nameAt + sizeGiven (now numbers) j) ⌝ }
@@ -171,7 +160,7 @@ fn put_given(part: &mut [u8], numbers: &[u64], names: &[u8], j: usize)
     let e = a + (size - NAME_AT);
     wire::put_be16(part, 0, size as u16);
     fid::write_big(part, PARENT_AT, f);
-    write_name(part, &names[a..e]);
+    wire::put_bytes(part, NAME_AT, &names[a..e]);
 }
 
 // Writes the records one after the other, from the end of the header on.

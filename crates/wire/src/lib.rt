@@ -109,3 +109,14 @@ pub fn put_be64(s: &mut [u8], at: usize, v: u64)
     put_be32(s, at, (v / 0x1_0000_0000) as u32);
     put_be32(s, at + 4, (v % 0x1_0000_0000) as u32);
 }
+
+// Copies bytes to a place of the slice.
+pub fn put_bytes(s: &mut [u8], at: usize, v: &[u8])
+    requires { ⌜ at + length (now v) ≤ length (now s) ⌝ }
+    ensures { λ _. ⌜ now (s .exit) ≡ sets (now (s .entry)) at (now (v .entry)) ⌝ }
+{
+    for i in 0..v.len() {
+        let b = v[i];
+        s[at + i] = b;
+    }
+}

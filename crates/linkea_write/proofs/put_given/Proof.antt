@@ -21,9 +21,9 @@ cast-put-be16 c = omega (arith, taken-facts _ _ _ (c .before .before .before .be
 put-be16-requires : tie.Need-put-be16-requires
 put-be16-requires c κs = search needs
 
-part-write-name-end : tie.Need-part-write-name-end
+part-put-bytes-end : tie.Need-part-put-bytes-end
 unfolding sizeGiven numberOf
-part-write-name-end c =
+part-put-bytes-end c =
     let s = c .before .before .before .before .before .before .before .before .before .before .before .before .before .before .before in
     omega (arith, s .pre .2, taken-facts _ _ _ (s .pre .1))
 
@@ -36,10 +36,10 @@ returns c =
     let f = a .before .before .before .before in
     let s = f .before .before .before .before in
     let p = s .pre in
-    record-stores _ _ (now (s .args .part)) _ _ _ _ _ (p .1) (p .2) (f .parent-given .ensures) (a .put-be16 .ensures) (b .write-big .ensures) (n .write-name .ensures)
+    record-stores _ _ (now (s .args .part)) _ _ _ _ _ (p .1) (p .2) (f .parent-given .ensures) (a .put-be16 .ensures) (b .write-big .ensures) (n .put-bytes .ensures)
 
 pub put-given-spec : {M : Type 1} → statement M
 put-given-spec =
     tie.close (tie.spec parent-given-requires (λ c. search needs) (λ c. search needs) (λ c. search needs) (λ c. search needs) (λ c. search needs)
-    add-e cast-put-be16 put-be16-requires (λ c κs. search needs) (λ c. search needs) (λ c. search needs) part-write-name-end (λ c κs. search needs)
+    add-e cast-put-be16 put-be16-requires (λ c κs. search needs) (λ c. search needs) (λ c. search needs) part-put-bytes-end (λ c κs. search needs)
     (λ c. search needs) returns)
