@@ -2,4 +2,5 @@
 pub mod checks;
 pub mod classes;
 pub mod layouts;
+pub mod links;
 pub mod runs;

@@ -9,7 +9,8 @@ use lib.Dec.{eqb, leb}
 use lib.ListN.{length, getD, set}
 use Rattle.wire.proofs.Both.{and-first, and-second}
 use Rattle.layout.specs.Layout.{magicOne, magicThree, layoutSize}
-use Rattle.layout_write.specs.Writer.{maxWord, writable, writeLayout, writtenNumber, leftBy, writeBytes}
+use Rattle.wire.specs.Numbers.{maxWord}
+use Rattle.layout_write.specs.Writer.{writable, writeLayout, writtenNumber, leftBy, writeBytes}
 use Rattle.layout.specs.declared.Header.{Header}
 use Rattle.layout_write.specs.declared.Written.the-variants.{BadFields, TooShort, Bytes}
 use Rattle.capi_write.specs.declared.HeaderGiven.the-variants.{NotHeader, HeaderIs}

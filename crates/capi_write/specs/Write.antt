@@ -5,7 +5,8 @@ use mathlib.Core.Bool.{Bool, cond, _&&_, _||_}
 use lib.Dec.{leb, eqb}
 use lib.ListN.{length, getD}
 use Rattle.layout.specs.Layout.{magicOne, magicThree, layoutSize}
-use Rattle.layout_write.specs.Writer.{maxWord, writeLayout, writtenNumber, writeBytes}
+use Rattle.wire.specs.Numbers.{maxWord}
+use Rattle.layout_write.specs.Writer.{writeLayout, writtenNumber, writeBytes}
 use Rattle.layout.specs.declared.Header.{Header}
 use Rattle.capi_write.specs.declared.HeaderGiven.{HeaderGiven}
 use Rattle.capi_write.specs.declared.HeaderGiven.the-variants.{NotHeader, HeaderIs}

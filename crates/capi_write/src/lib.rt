@@ -1,7 +1,7 @@
 // A layout written from numbers.
 use layout::Header;
-use layout_write::MAX_WORD;
 use layout_write::Written;
+use wire::MAX_WORD;
 ghost use mathlib.Core.Path.{_≡_};
 ghost use Rattle.capi_out.specs.Out.{outNumbers};
 ghost use Rattle.capi_write.specs.Write.{magicOf, isVersion, fieldsFit, headerGiven, headerAnswer, headerDest, headerOut, writeNumber, writeValues, writeAnswer, writeDest};

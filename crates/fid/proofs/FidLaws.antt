@@ -9,12 +9,13 @@ use native.Mathlib.Omega.{arith}
 use lib.Dec.{leb, eqb}
 use lib.ListN.{length, take, drop, length-append, length-drop}
 use lib.Seq.{sets, drop-drop, take-add, drop-at}
-use Rattle.wire.specs.Numbers.{le, bytes}
-use Rattle.fid.specs.Fid.{idAt, versionAt, fidSize, leastSequence, greatestSequence, goodSequence, goodNumber, goodFid, sameFid, decodeFid, encodeFid}
+use Rattle.wire.specs.Numbers.{le, bytes, Order, little, number, numberBytes}
+use Rattle.fid.specs.Fid.{idAt, versionAt, fidSize, leastSequence, greatestSequence, goodSequence, goodNumber, goodFid, sameFid, decodeFid, encodeFid, decodeFidIn, encodeFidIn}
 use Rattle.fid.specs.declared.Fid.{Fid}
 use Rattle.wire.proofs.Both.{and-first, and-second}
 use Rattle.wire.proofs.Splice.{sets-at}
-use Rattle.wire.proofs.NumberLaws.{length-bytes, le-bytes, bytes-le, le-small, le-small-at, Bytes, bytes-drop}
+use Rattle.wire.proofs.NumberLaws.{Bytes, bytes-drop}
+use Rattle.wire.proofs.OrderLaws.{length-number, number-back, number-again, number-small}
 
 module _ (f : Fid) where
   pub number-low : f .seq < leastSequence → false ≡ goodNumber f
@@ -50,23 +51,28 @@ module _ (f g : Fid) where
   unfolding sameFid
   same-ver h k = simp (eq-eqb _ _ h, eq-eqb _ _ k)
 
-pub length-encode : (f : Fid) → length (encodeFid f) ≡ fidSize
-unfolding encodeFid
-length-encode f = simp (length-append, length-bytes)
+-- ## Bytes, in either byte order
+
+pub length-fid : (o : Order) (f : Fid) → length (encodeFidIn o f) ≡ fidSize
+unfolding encodeFidIn
+length-fid o f = simp (length-append, length-number)
 
 -- the fields, read one by one from a place on
-pub decode-at : (l : List ℕ) (at s o v : ℕ) → s ≡ le 8 (drop at l) → o ≡ le 4 (drop (at + idAt) l) → v ≡ le 4 (drop (at + versionAt) l) →
-    _≡_ {A = Fid} (record { seq = s; oid = o; ver = v }) (decodeFid (drop at l))
-unfolding decodeFid
-decode-at l at s o v p q r = rw (drop-drop idAt at l, drop-drop versionAt at l) (λ i. record { seq = p i; oid = q i; ver = r i })
+pub fid-at : (o : Order) (l : List ℕ) (at s i v : ℕ) → s ≡ number o 8 (drop at l) → i ≡ number o 4 (drop (at + idAt) l) →
+    v ≡ number o 4 (drop (at + versionAt) l) → _≡_ {A = Fid} (record { seq = s; oid = i; ver = v }) (decodeFidIn o (drop at l))
+unfolding decodeFidIn
+fid-at o l at s i v p q r = rw (drop-drop idAt at l, drop-drop versionAt at l) (λ j. record { seq = p j; oid = q j; ver = r j })
 
 -- the fields, stored one by one from a place on
-pub encode-at : (l : List ℕ) (at : ℕ) (f : Fid) →
-    sets (sets (sets l at (bytes 8 (f .seq))) (at + idAt) (bytes 4 (f .oid))) (at + versionAt) (bytes 4 (f .ver)) ≡ sets l at (encodeFid f)
-unfolding encodeFid bytes
-encode-at l at f =
-    rw (sets-at (bytes 8 (f .seq)) (bytes 4 (f .oid)) l at idAt refl)
-    (sets-at (bytes 8 (f .seq) ++ bytes 4 (f .oid)) (bytes 4 (f .ver)) l at versionAt refl)
+pub fid-stores : (o : Order) (l : List ℕ) (at : ℕ) (f : Fid) →
+    sets (sets (sets l at (numberBytes o 8 (f .seq))) (at + idAt) (numberBytes o 4 (f .oid))) (at + versionAt) (numberBytes o 4 (f .ver))
+    ≡ sets l at (encodeFidIn o f)
+unfolding encodeFidIn
+fid-stores o l at f =
+    let a : List ℕ = numberBytes o 8 (f .seq) in
+    let b : List ℕ = numberBytes o 4 (f .oid) in
+    rw (sets-at a b l at idAt (length-number o 8 (f .seq)))
+    (sets-at (a ++ b) (numberBytes o 4 (f .ver)) l at versionAt (simp (length-append, length-number)))
 
 -- a FID whose fields fit, written and read
 pub record Fits (f : Fid) : Type 0 where
@@ -75,35 +81,68 @@ pub record Fits (f : Fid) : Type 0 where
   pub ver : f .ver < 2 ^ 32
 
 -- what is read from bytes fits
-pub fid-fits : (l : List ℕ) → Bytes l → Fits (decodeFid l)
-unfolding decodeFid
-fid-fits l h = record { seq = le-small 8 l h; oid = le-small-at 4 idAt l h; ver = le-small-at 4 versionAt l h }
+pub fid-fits-in : (o : Order) (l : List ℕ) → Bytes l → Fits (decodeFidIn o l)
+unfolding decodeFidIn
+fid-fits-in o l h =
+    record {
+      seq = number-small o 8 l h;
+      oid = number-small o 4 (drop idAt l) (bytes-drop idAt l h);
+      ver = number-small o 4 (drop versionAt l) (bytes-drop versionAt l h);
+    }
 
-pub decode-encode : (f : Fid) (r : List ℕ) → Fits f → decodeFid (encodeFid f ++ r) ≡ f
-unfolding decodeFid encodeFid
-decode-encode f r h =
-    let a : List ℕ = bytes 8 (f .seq) in
-    let b : List ℕ = bytes 4 (f .oid) in
-    let d : List ℕ = bytes 4 (f .ver) in
-    let p : le 8 (((a ++ b) ++ d) ++ r) ≡ f .seq =
-    simp append-assoc (le-bytes 8 (f .seq) (b ++ (d ++ r)) ∙ mod-eq-of-lt (h .seq)) in
-    let q : le 4 (drop idAt (((a ++ b) ++ d) ++ r)) ≡ f .oid =
-    simp (append-assoc, drop-at a (b ++ (d ++ r)) idAt (length-bytes 8 (f .seq))) (le-bytes 4 (f .oid) (d ++ r) ∙ mod-eq-of-lt (h .oid)) in
-    let s : le 4 (drop versionAt (((a ++ b) ++ d) ++ r)) ≡ f .ver =
-    rw (append-assoc (a ++ b) d r, drop-at (a ++ b) (d ++ r) versionAt (simp (length-append, length-bytes)))
-    (le-bytes 4 (f .ver) r ∙ mod-eq-of-lt (h .ver)) in
+pub fid-back : (o : Order) (f : Fid) (r : List ℕ) → Fits f → decodeFidIn o (encodeFidIn o f ++ r) ≡ f
+unfolding decodeFidIn encodeFidIn
+fid-back o f r h =
+    let a : List ℕ = numberBytes o 8 (f .seq) in
+    let b : List ℕ = numberBytes o 4 (f .oid) in
+    let d : List ℕ = numberBytes o 4 (f .ver) in
+    let p : number o 8 (((a ++ b) ++ d) ++ r) ≡ f .seq =
+    simp append-assoc (number-back o 8 (f .seq) (b ++ (d ++ r)) ∙ mod-eq-of-lt (h .seq)) in
+    let q : number o 4 (drop idAt (((a ++ b) ++ d) ++ r)) ≡ f .oid =
+    simp (append-assoc, drop-at a (b ++ (d ++ r)) idAt (length-number o 8 (f .seq))) (number-back o 4 (f .oid) (d ++ r) ∙ mod-eq-of-lt (h .oid)) in
+    let s : number o 4 (drop versionAt (((a ++ b) ++ d) ++ r)) ≡ f .ver =
+    rw (append-assoc (a ++ b) d r, drop-at (a ++ b) (d ++ r) versionAt (simp (length-append, length-number)))
+    (number-back o 4 (f .ver) r ∙ mod-eq-of-lt (h .ver)) in
     λ i. record { seq = p i; oid = q i; ver = s i }
 
-pub encode-decode : (l : List ℕ) → Bytes l → fidSize ≤ length l → encodeFid (decodeFid l) ≡ take fidSize l
-unfolding decodeFid encodeFid
-encode-decode l h k =
+pub fid-again : (o : Order) (l : List ℕ) → Bytes l → fidSize ≤ length l → encodeFidIn o (decodeFidIn o l) ≡ take fidSize l
+unfolding decodeFidIn encodeFidIn
+fid-again o l h k =
     rw (
-      bytes-le 8 l h (omega arith),
-      bytes-le 4 (drop idAt l) (bytes-drop idAt l h) (simp length-drop (omega arith)),
-      bytes-le 4 (drop versionAt l) (bytes-drop versionAt l h) (simp length-drop (omega arith)),
+      number-again o 8 l h (omega arith),
+      number-again o 4 (drop idAt l) (bytes-drop idAt l h) (simp length-drop (omega arith)),
+      number-again o 4 (drop versionAt l) (bytes-drop versionAt l h) (simp length-drop (omega arith)),
       ← take-add idAt 4 l,
       ← take-add versionAt 4 l,
     )
+
+-- ## Little-endian, as in every table
+
+pub length-encode : (f : Fid) → length (encodeFid f) ≡ fidSize
+unfolding encodeFid encodeFidIn numberBytes
+length-encode f = length-fid little f
+
+pub decode-at : (l : List ℕ) (at s i v : ℕ) → s ≡ le 8 (drop at l) → i ≡ le 4 (drop (at + idAt) l) → v ≡ le 4 (drop (at + versionAt) l) →
+    _≡_ {A = Fid} (record { seq = s; oid = i; ver = v }) (decodeFid (drop at l))
+unfolding decodeFid decodeFidIn number
+decode-at l at s i v p q r = fid-at little l at s i v p q r
+
+pub encode-at : (l : List ℕ) (at : ℕ) (f : Fid) →
+    sets (sets (sets l at (bytes 8 (f .seq))) (at + idAt) (bytes 4 (f .oid))) (at + versionAt) (bytes 4 (f .ver)) ≡ sets l at (encodeFid f)
+unfolding encodeFid encodeFidIn numberBytes
+encode-at l at f = fid-stores little l at f
+
+pub fid-fits : (l : List ℕ) → Bytes l → Fits (decodeFid l)
+unfolding decodeFid decodeFidIn number
+fid-fits l h = fid-fits-in little l h
+
+pub decode-encode : (f : Fid) (r : List ℕ) → Fits f → decodeFid (encodeFid f ++ r) ≡ f
+unfolding decodeFid encodeFid decodeFidIn encodeFidIn number numberBytes
+decode-encode f r h = fid-back little f r h
+
+pub encode-decode : (l : List ℕ) → Bytes l → fidSize ≤ length l → encodeFid (decodeFid l) ≡ take fidSize l
+unfolding decodeFid encodeFid decodeFidIn encodeFidIn number numberBytes
+encode-decode l h k = fid-again little l h k
 
 -- what is known of a good FID
 pub record GoodFacts (f : Fid) : Type 0 where

@@ -4,7 +4,7 @@ use mathlib.Core.List.{List, _++_}
 use mathlib.Core.Bool.{Bool, _&&_}
 use lib.ListN.{drop}
 use lib.Dec.{leb, eqb}
-use Rattle.wire.specs.Numbers.{le, bytes}
+use Rattle.wire.specs.Numbers.{le, bytes, Order, number, numberBytes}
 use Rattle.fid.specs.declared.Fid.{Fid}
 use Rattle.fid.specs.declared.MdtFid.{MdtFid}
 use Rattle.fid.specs.declared.OstFid.{OstFid}
@@ -26,6 +26,13 @@ decodeFid l = record { seq = le 8 l; oid = le 4 (drop idAt l); ver = le 4 (drop 
 -- and its bytes
 unfoldable pub encodeFid : Fid → List ℕ
 encodeFid f = bytes 8 (f .seq) ++ bytes 4 (f .oid) ++ bytes 4 (f .ver)
+
+-- the same in either byte order, field by field
+unfoldable pub decodeFidIn : Order → List ℕ → Fid
+decodeFidIn o l = record { seq = number o 8 l; oid = number o 4 (drop idAt l); ver = number o 4 (drop versionAt l) }
+
+unfoldable pub encodeFidIn : Order → Fid → List ℕ
+encodeFidIn o f = numberBytes o 8 (f .seq) ++ numberBytes o 4 (f .oid) ++ numberBytes o 4 (f .ver)
 
 -- "a sequence from 0x200000400 to 0xfffffffffffffffe"
 abbrev pub leastSequence : ℕ

@@ -3,7 +3,8 @@ ghost use mathlib.Core.Path.{_≡_};
 ghost use Prim.Native.Nat.{_+_, _≤_};
 ghost use lib.ListN.{length, drop};
 ghost use lib.Seq.{sets};
-ghost use Rattle.fid.specs.Fid.{fidSize, decodeFid, encodeFid, goodFid, goodNumber, goodFile, goodObject, goodReserve, sameFid};
+ghost use Rattle.wire.specs.Numbers.{big};
+ghost use Rattle.fid.specs.Fid.{fidSize, decodeFid, encodeFid, decodeFidIn, encodeFidIn, goodFid, goodNumber, goodFile, goodObject, goodReserve, sameFid};
 
 // Where id and version stand, after the 8 bytes of the sequence.
 const ID_AT: usize = 8;
@@ -51,6 +52,28 @@ pub fn write_fid(s: &mut [u8], at: usize, f: Fid)
     wire::put_le64(s, at, f.seq);
     wire::put_le32(s, at + ID_AT, f.oid);
     wire::put_le32(s, at + VERSION_AT, f.ver);
+}
+
+// The big-endian FID at a place of the slice.
+pub fn read_big(s: &[u8], at: usize) -> Fid
+    requires { ⌜ at + fidSize ≤ length (now s) ⌝ }
+    ensures { λ r. ⌜ r ≡ decodeFidIn big (drop at (now (s .entry))) ⌝ }
+{
+    Fid {
+        seq: wire::be64(s, at),
+        oid: wire::be32(s, at + ID_AT),
+        ver: wire::be32(s, at + VERSION_AT),
+    }
+}
+
+// Writes a FID over the bytes at a place, big-endian.
+pub fn write_big(s: &mut [u8], at: usize, f: Fid)
+    requires { ⌜ at + fidSize ≤ length (now s) ⌝ }
+    ensures { λ _. ⌜ now (s .exit) ≡ sets (now (s .entry)) at (encodeFidIn big f) ⌝ }
+{
+    wire::put_be64(s, at, f.seq);
+    wire::put_be32(s, at + ID_AT, f.oid);
+    wire::put_be32(s, at + VERSION_AT, f.ver);
 }
 
 // Whether sequence and object id are good, whatever the version.

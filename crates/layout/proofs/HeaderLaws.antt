@@ -5,13 +5,12 @@ use mathlib.Core.Bool.{Bool, true, false, cond, _&&_}
 use Prim.Native.Nat.{ℕ, _+_, _≤_, _<_, _^_}
 use borrow.Author.Tests.{eq-eqb, ne-eqb}
 use native.Mathlib.Omega.{arith}
-use native.Mathlib.Nat.{mod-eq-of-lt}
 use lib.Dec.{eqb}
 use lib.ListN.{length, take, drop, length-append, length-drop}
-use lib.Seq.{sets, take-add, drop-at}
+use lib.Seq.{sets, take-add}
 use Rattle.wire.specs.Numbers.{le, bytes}
 use Rattle.wire.proofs.Splice.{sets-at}
-use Rattle.wire.proofs.NumberLaws.{Bytes, bytes-drop, bytes-le, length-bytes, le-bytes, le-small, le-small-at}
+use Rattle.wire.proofs.NumberLaws.{Bytes, field, bytes-drop, bytes-le, length-bytes, le-small, le-small-at}
 use Rattle.layout.specs.declared.Header.{Header}
 use Rattle.layout.specs.Layout.{patternAt, ownIdAt, ownSequenceAt, stripeSizeAt, stripeCountAt, generationAt, plainHeader, poolHeader, headerSize, magicOne, magicThree, decodeHeader, encodeHeader, stripeCount, knownVersion, knownPattern, plainPattern, holePattern}
 
@@ -132,10 +131,6 @@ header-fits l h =
       stripe = le-small-at 4 stripeSizeAt l h;
       generation = le-small-at 2 generationAt l h;
     }
-
--- a number after others, read back
-pub field : (n v k : ℕ) (before after l : List ℕ) → l ≡ before ++ (bytes n v ++ after) → length before ≡ k → v < 256 ^ n → le n (drop k l) ≡ v
-field n v k before after l e h f = rw (e, drop-at before (bytes n v ++ after) k h, le-bytes n v after, mod-eq-of-lt f)
 
 module _ (h : Header) (n : ℕ) (r : List ℕ) where
   m : List ℕ

@@ -14,7 +14,8 @@ use Rattle.layout.specs.declared.Slot.the-variants.{Hole, Names}
 use Rattle.layout_write.specs.declared.Given.{Given}
 use Rattle.layout_write.specs.declared.Given.the-variants.{NotSlot, GivenSlot}
 use Rattle.layout.specs.Slot.{allowedSlot, allowedSlots, encodeSlot}
-use Rattle.layout_write.specs.Writer.{maxWord, zeroGiven, namesGiven, givenFrom, givenAt, isSlot, slotGiven, givenSlots, allGiven}
+use Rattle.wire.specs.Numbers.{maxWord}
+use Rattle.layout_write.specs.Writer.{zeroGiven, namesGiven, givenFrom, givenAt, isSlot, slotGiven, givenSlots, allGiven}
 
 module _ (k s o g i : ℕ) where
   pub zero-kind : (k ≡ 0 → ⊥) → false ≡ zeroGiven k s o g i

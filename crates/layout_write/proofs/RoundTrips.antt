@@ -7,9 +7,9 @@ use borrow.Author.Tests.{eqb-true}
 use native.Mathlib.Omega.{arith}
 use lib.Dec.{eqb}
 use lib.ListN.{length, take, drop}
-use lib.Seq.{sets, sets-eq, drop-drop, take-at, drop-at}
+use lib.Seq.{sets, drop-drop, take-at, drop-at}
 use Rattle.wire.proofs.Both.{and-first, and-second}
-use Rattle.wire.proofs.Splice.{drop-take-all}
+use Rattle.wire.proofs.Splice.{drop-take-all, sets-front}
 use Rattle.layout.specs.declared.Header.{Header}
 use Rattle.layout.specs.declared.Slot.{Slot}
 use Rattle.layout.specs.declared.Reading.the-variants.{Refused, Accepted}
@@ -83,10 +83,6 @@ module _ (L : Layout) (w : Writable L) where
       let r = write-is (L .header) (length (L .slots)) (L .pool) (fieldsOf (L .slots)) dest taken (rw (← z) k) in
       (r .0 ∙ ap (λ (b : ℕ). Wrote b) (sym z), r .1 ∙ ap (λ (M : Layout). sets dest 0 (encodeLayout M)) given-is)
 
--- stores at the front: what was stored, and the rest
-front : (l dest : List ℕ) → length l ≤ length dest → sets dest 0 l ≡ l ++ drop (length l) dest
-front l dest k = let z : 0 + length l ≡ length l = omega arith in rw (sets-eq l dest 0 (omega arith), z)
-
 pub every-layout-back : EveryLayoutBack
 unfolding EveryLayoutBack
 every-layout-back l h n dest b e k =
@@ -100,7 +96,7 @@ every-layout-back l h n dest b e k =
     let pl : poolRead h l ≡ L .pool = rw (← t .1) (pool-is l) in
     let nm : slotsRead l n 0 ≡ fieldsOf (L .slots) = rw (← t .2) (slots-read l (t .0)) in
     let x : writeBytes h n (poolRead h l) (slotsRead l n 0) dest ≡ l ++ drop (length l) dest =
-    rw (pl, nm, ← hd, ← ct) (f .1 ∙ ap (λ (m : List ℕ). sets dest 0 m) q) ∙ front l dest k in
+    rw (pl, nm, ← hd, ← ct) (f .1 ∙ ap (λ (m : List ℕ). sets dest 0 m) q) ∙ sets-front l dest k in
     record {
       answer = rw (pl, nm, ← hd, ← ct) (f .0 ∙ ap (λ (m : List ℕ). Wrote (length m)) q);
       layout = ap (λ (m : List ℕ). take (length l) m) x ∙ take-at l (drop (length l) dest) (length l) refl;
@@ -170,7 +166,7 @@ every-write-back h n pool numbers dest b d e =
     let ct : length (givenSlots numbers n 0) ≡ n = length-given numbers n 0 in
     let z : length l ≡ b = length-layout L (w .pool) ∙ ap (λ (k : ℕ). layoutSize (h .magic) k) ct ∙ sym (t .2) in
     let x : take b (writeBytes h n pool numbers dest) ≡ l =
-    ap (λ (m : List ℕ). take b m) (write-is h n pool numbers dest (t .0) (t .1) .1 ∙ front l dest (omega (arith, t .1, t .2))) ∙ take-at l (drop (length l) dest) b z in
+    ap (λ (m : List ℕ). take b m) (write-is h n pool numbers dest (t .0) (t .1) .1 ∙ sets-front l dest (omega (arith, t .1, t .2))) ∙ take-at l (drop (length l) dest) b z in
     let r = layout-read L w in
     record {
       header = rw x (r .header ∙ ap (λ (k : ℕ). Accepted h k) ct);

@@ -19,7 +19,8 @@ use Rattle.layout.specs.Slot.{allowedSlot, allowedSlots, maxIndex}
 use Rattle.layout.proofs.SlotLaws.{FitSlot, FitSlots}
 use Rattle.layout_write.specs.declared.Given.{Given}
 use Rattle.layout_write.specs.declared.Given.the-variants.{NotSlot, GivenSlot}
-use Rattle.layout_write.specs.Writer.{slotNumbers, maxWord, slotFields, zeroGiven, namesGiven, givenFrom, givenAt, isSlot, slotGiven, givenSlots, allGiven}
+use Rattle.wire.specs.Numbers.{maxWord}
+use Rattle.layout_write.specs.Writer.{slotNumbers, slotFields, zeroGiven, namesGiven, givenFrom, givenAt, isSlot, slotGiven, givenSlots, allGiven}
 use Rattle.layout_write.proofs.GivenLaws.{given-hole, given-names}
 
 pub fields-five : (s : Slot) → length (slotFields s) ≡ slotNumbers

@@ -7,8 +7,8 @@ use borrow.Author.Tests.{eq-eqb, ne-eqb, le-leb, lt-leb, eqb-true, leb-true}
 use native.Mathlib.Omega.{arith}
 use native.Mathlib.Numerals.{add-one}
 use lib.Dec.{eqb, leb}
-use lib.ListN.{length, take, set, getD, length-append}
-use lib.Seq.{sets, length-sets, take-suc, take-all, length-take-le}
+use lib.ListN.{length, length-append}
+use lib.Seq.{sets, length-sets}
 use Rattle.wire.proofs.Both.{and-first, and-second}
 use Rattle.wire.proofs.Splice.{sets-at, put-sets}
 use borrow.Rule.Slice.PartMut.{putMid}
@@ -107,25 +107,6 @@ unfolding writable
 facts-write h n pool numbers e g p r = rw (eq-eqb (length numbers) (slotNumbers * n) e, g, eq-eqb (length pool) (headerSize (h .magic) - plainHeader) p, r)
 
 -- ## The stores
-
--- the destination with the first i bytes of the pool name
-pub poolDone : List ℕ → List ℕ → ℕ → List ℕ
-poolDone d pool i = sets d plainHeader (take i pool)
-
-module _ (d pool : List ℕ) where
-  pub pool-start : d ≡ poolDone d pool 0
-  unfolding poolDone
-  pool-start = refl
-
-  pub pool-step : (i b : ℕ) (x : List ℕ) → x ≡ poolDone d pool i → i < length pool → b ≡ getD pool i 0 →
-      set x (plainHeader + i) b ≡ poolDone d pool (i + 1)
-  unfolding poolDone
-  pool-step i b x q h e =
-      rw (q, add-one i, take-suc pool i 0 h, ← e) (sets-at (take i pool) (b ∷ []) d plainHeader i (length-take-le i pool (omega arith)))
-
-  pub pool-end : (i : ℕ) (x : List ℕ) → x ≡ poolDone d pool i → length pool ≤ i → x ≡ sets d plainHeader pool
-  unfolding poolDone
-  pool-end i x q h = rw (q, take-all i pool h)
 
 -- the destination with the first j slots from a place on
 pub slotsDone : List ℕ → List ℕ → ℕ → ℕ → List ℕ

@@ -5,6 +5,7 @@ use mathlib.Core.Bool.{Bool, true, false, cond, _&&_}
 use lib.ListN.{length, getD}
 use lib.Seq.{sets}
 use lib.Dec.{leb, eqb}
+use Rattle.wire.specs.Numbers.{maxWord}
 use Rattle.layout.specs.Layout.{Layout, plainHeader, encodeLayout, headerSize, layoutSize, layoutRules}
 use Rattle.layout.specs.declared.Header.{Header}
 use Rattle.layout.specs.declared.Slot.{Slot}
@@ -36,10 +37,6 @@ slotReadFields (SlotIs s) = slotFields s
 -- handed in, a hole where all are 0
 unfoldable pub zeroGiven : ℕ → ℕ → ℕ → ℕ → ℕ → Bool
 zeroGiven k s o g i = eqb k 0 && eqb s 0 && eqb o 0 && eqb g 0 && eqb i 0
-
--- the greatest number of 32 bits
-abbrev pub maxWord : ℕ
-maxWord = 0xffffffff
 
 -- else 1, sequence, id, generation and OST index, of which the last three fit 32 bits
 unfoldable pub namesGiven : ℕ → ℕ → ℕ → ℕ → Bool

@@ -6,20 +6,17 @@ use layout::MAX_SLOTS;
 use layout::PLAIN_HEADER;
 use layout::SLOT_SIZE;
 use layout::Slot;
+use wire::MAX_WORD;
 ghost use mathlib.Core.Path.{_≡_};
 ghost use mathlib.Core.Bool.{_&&_};
 ghost use Prim.Native.Nat.{_+_, _*_, _≤_};
 ghost use lib.ListN.{length};
 ghost use lib.Seq.{sets};
 ghost use Rattle.layout.specs.Slot.{slotSize, encodeSlot, encodeSlots, allowedSlot, allowedSlots};
-ghost use Rattle.layout.specs.Layout.{plainHeader};
 ghost use Rattle.layout_write.specs.Writer.{slotNumbers, zeroGiven, givenFrom, givenAt, isSlot, slotGiven, givenSlots, allGiven, writable, writeLayout, writeBytes};
 
 // The numbers of a slot that is handed in.
 pub const SLOT_NUMBERS: usize = 5;
-
-// The greatest number of 32 bits.
-pub const MAX_WORD: u64 = 0xffff_ffff;
 
 // A slot that is handed in as five numbers.
 pub enum Given {
@@ -138,17 +135,6 @@ pub fn may_write(h: Header, count: usize, pool: &[u8], numbers: &[u64]) -> bool
     allowed_numbers(numbers, count, layout::with_holes(h))
 }
 
-// Copies the pool name to its place after the plain header.
-fn write_pool(dest: &mut [u8], pool: &[u8])
-    requires { ⌜ plainHeader + length (now pool) ≤ length (now dest) ⌝ }
-    ensures { λ _. ⌜ now (dest .exit) ≡ sets (now (dest .entry)) plainHeader (now (pool .entry)) ⌝ }
-{
-    for i in 0..pool.len() {
-        let b = pool[i];
-        dest[PLAIN_HEADER + i] = b;
-    }
-}
-
 // Writes the j-th of the slots handed in over the 24 bytes that it is lent.
 fn put_given(part: &mut [u8], numbers: &[u64], j: usize)
     requires { ⌜ (length (now part) ≡ slotSize) × (slotNumbers * j + slotNumbers ≤ length (now numbers)) ⌝ }
@@ -187,7 +173,7 @@ pub fn write(h: Header, count: usize, pool: &[u8], numbers: &[u64], dest: &mut [
         return Written::TooShort;
     }
     layout::write_header(dest, h, count as u16);
-    write_pool(dest, pool);
+    wire::put_bytes(dest, PLAIN_HEADER, pool);
     write_slots(dest, start, numbers, count);
     Written::Bytes(size)
 }

@@ -11,13 +11,12 @@ use lib.ListN.{length, getD, drop, length-append}
 use lib.Seq.{drop-drop, drop-at, take-at, getD-drop}
 use Rattle.wire.specs.Numbers.{le, bytes}
 use Rattle.wire.proofs.Both.{and-second}
-use Rattle.wire.proofs.NumberLaws.{length-bytes, le-bytes}
+use Rattle.wire.proofs.NumberLaws.{field, length-bytes, le-bytes}
 use Rattle.fid.specs.Fid.{decodeFid, encodeFid, goodFid, goodNumber, sameFid, zeroFid}
 use Rattle.fid.specs.declared.Fid.{Fid}
 use Rattle.fid.proofs.FidLaws.{Fits, length-encode, decode-encode, good-positive}
 use Rattle.layout.specs.Slot.{maxIndex}
 use Rattle.layout.specs.Layout.{decodeLayout, encodeLayout}
-use Rattle.layout.proofs.HeaderLaws.{field}
 use Rattle.layout.proofs.LayoutLaws.{Writable, read-back}
 use Rattle.tables.specs.Records.{Parent, ParentRow, used, ObjectRow}
 use Rattle.tables.specs.Bytes.{parentSize, objectSize, layoutRoom, decodeOwner, encodeOwner, layoutLength, layoutBytes, decodeParent, encodeParent, parseParent, renderParent, claimFrom, claimFid, decodeObject, mark, encodeObject, parseObject, renderObject, selfFid, claimedFid, ostAt, freshAt}

@@ -1,4 +1,5 @@
 pub mod Both
 pub mod Splice
 pub mod NumberLaws
+pub mod OrderLaws
 pub mod RowLaws

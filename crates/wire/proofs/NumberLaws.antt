@@ -2,12 +2,12 @@
 use mathlib.Core.Path.{_≡_, refl, sym, ap}
 use mathlib.Core.List.{List, [], _∷_, _++_}
 use Prim.Native.Nat.{ℕ, zero, suc, _+_, _*_, _/_, _%_, _^_, _≤_, _<_}
-use native.Mathlib.Nat.{zero-add, suc-add, mul-zero, mul-assoc, mul-comm, add-zero, pow-suc, div-one, one-le-pow, div-div-eq-div-mul, mod-one}
+use native.Mathlib.Nat.{zero-add, suc-add, mul-zero, mul-assoc, mul-comm, add-zero, pow-suc, div-one, one-le-pow, div-div-eq-div-mul, mod-one, mod-eq-of-lt}
 use native.Mathlib.Omega.{arith}
 use lib.Arith.{mod-mul, digits-div, digits-mod}
 use lib.ListN.{length, take, drop, getD}
 use native.Mathlib.Nat.{not-suc-le-zero}
-use lib.Seq.{drop-drop, getD-drop, sets}
+use lib.Seq.{drop-drop, drop-at, getD-drop, sets}
 use Rattle.wire.proofs.Splice.{sets-at}
 use Rattle.wire.specs.Numbers.{le, bytes}
 unfoldable pub use Rattle.wire.specs.Numbers.{Bytes}
@@ -77,6 +77,10 @@ le-bytes zero v r = sym (mod-one v)
 le-bytes (suc n) v r =
     let e : v % (256 ^ n * 256) ≡ v / 256 % 256 ^ n * 256 + v % 256 = mod-mul v (pow256-pos n) (omega arith) in
     rw (pow-suc, e, le-bytes n (v / 256) r) (omega arith)
+
+-- a number after others, read back
+pub field : (n v k : ℕ) (before after l : List ℕ) → l ≡ before ++ (bytes n v ++ after) → length before ≡ k → v < 256 ^ n → le n (drop k l) ≡ v
+field n v k before after l e h f = rw (e, drop-at before (bytes n v ++ after) k h, le-bytes n v after, mod-eq-of-lt f)
 
 pub bytes-tail : (b : ℕ) (l : List ℕ) → Bytes (b ∷ l) → Bytes l
 unfolding Bytes

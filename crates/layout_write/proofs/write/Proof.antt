@@ -25,8 +25,8 @@ cast-write-header c = omega (arith, write-facts _ _ _ _ (sym (c .before .before 
 write-header-requires : tie.Need-write-header-requires
 write-header-requires c κs = omega (arith, write-facts _ _ _ _ (sym (c .before .before .before .before .may-write .ensures) ∙ not-false _ (c .before .before .before .if1 .left)), size-known _ _ (c .before .before .header-size .ensures))
 
-write-pool-requires : tie.Need-write-pool-requires
-write-pool-requires c κs = omega (arith, write-facts _ _ _ _ (sym (c .before .before .before .before .before .before .before .before .may-write .ensures) ∙ not-false _ (c .before .before .before .before .before .before .before .if1 .left)), size-known _ _ (c .before .before .before .before .before .before .header-size .ensures))
+put-bytes-requires : tie.Need-put-bytes-requires
+put-bytes-requires c κs = omega (arith, write-facts _ _ _ _ (sym (c .before .before .before .before .before .before .before .before .may-write .ensures) ∙ not-false _ (c .before .before .before .before .before .before .before .if1 .left)), size-known _ _ (c .before .before .before .before .before .before .header-size .ensures))
 
 write-slots-requires : tie.Need-write-slots-requires
 write-slots-requires c κs =
@@ -34,9 +34,9 @@ write-slots-requires c κs =
     (omega (arith, f, size-known _ _ (c .before .before .before .before .before .before .before .before .before .before .header-size .ensures)), f .even)
 
 returns-3 : tie.Need-returns-3
-returns-3 c = write-done _ _ _ _ _ _ _ _ _ (sym (c .before .before .before .before .before .before .before .before .before .before .before .before .before .before .before .may-write .ensures) ∙ not-false _ (c .before .before .before .before .before .before .before .before .before .before .before .before .before .before .if1 .left)) (c .before .before .before .before .before .before .before .before .before .before .before .before .before .header-size .ensures) (omega arith) (c .before .before .before .before .before .before .before .before .before .before .write-header .ensures) (c .before .before .before .before .before .before .write-pool .ensures) (c .before .before .write-slots .ensures)
+returns-3 c = write-done _ _ _ _ _ _ _ _ _ (sym (c .before .before .before .before .before .before .before .before .before .before .before .before .before .before .before .may-write .ensures) ∙ not-false _ (c .before .before .before .before .before .before .before .before .before .before .before .before .before .before .if1 .left)) (c .before .before .before .before .before .before .before .before .before .before .before .before .before .header-size .ensures) (omega arith) (c .before .before .before .before .before .before .before .before .before .before .write-header .ensures) (c .before .before .before .before .before .before .put-bytes .ensures) (c .before .before .write-slots .ensures)
 
 pub write-spec : {M : Type 1} → statement M
 write-spec =
     tie.close (tie.spec (λ c κs. search needs) returns (λ c κs. search needs) mul-size add-size returns-2 cast-write-header write-header-requires
-    write-pool-requires write-slots-requires (λ c. search needs) returns-3)
+    put-bytes-requires write-slots-requires (λ c. search needs) returns-3)

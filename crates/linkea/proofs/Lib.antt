@@ -1,0 +1,4 @@
+pub mod Example
+pub mod PlaceLaws
+pub mod RecordLaws
+pub mod WalkLaws

@@ -1,0 +1,4 @@
+pub mod Link
+pub mod Conditions
+pub mod Answers
+pub mod Walk
