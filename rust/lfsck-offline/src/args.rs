@@ -11,6 +11,7 @@ use crate::fid::{Fid, MdtFid, OstFid};
 use crate::filter::{Filter, OwnerPattern};
 use crate::help::Topic;
 use crate::outcome::Failure;
+use crate::source::{STANDARD, Source};
 
 /// What is asked for.
 #[derive(Debug, PartialEq, Eq)]
@@ -33,6 +34,8 @@ pub enum Command {
     Log(Option<Fid>),
     /// Take the last run back.
     Undo,
+    /// Print a linkEA.
+    Link(Source),
 }
 
 /// What to list, and how.
@@ -138,6 +141,7 @@ impl Words {
         while let Some(word) = words.next() {
             match word.to_str() {
                 Some("--") if !options_end => options_end = true,
+                Some(STANDARD) if topic == Topic::Link => sorted.places.push(word),
                 Some(option) if option.starts_with('-') && !options_end => {
                     sorted.add_option(option, topic, &mut words)?;
                 }
@@ -218,9 +222,19 @@ impl Words {
         let takes_fid = matches!(topic, Topic::Show | Topic::Log);
         self.expect_places(if takes_fid { 2 } else { 1 })?;
         if self.places.first().is_none_or(|place| place.is_empty()) {
-            return Err(Failure::usage("the directory of the case is missing"));
+            return Err(Failure::usage(match topic {
+                Topic::Link => "the file of the linkEA is missing",
+                _ => "the directory of the case is missing",
+            }));
         }
-        let directory = self.places.remove(0).into();
+        let place = self.places.remove(0);
+        if topic == Topic::Link {
+            return Ok(Call {
+                json: self.json,
+                ..Call::without_case(Command::Link(Source::of_word(place)))
+            });
+        }
+        let directory = place.into();
         let command = match topic {
             Topic::Sample => Command::Sample,
             Topic::Check => Command::Check,
@@ -234,7 +248,7 @@ impl Words {
             Topic::Log if self.places.is_empty() => Command::Log(None),
             Topic::Log => Command::Log(Some(self.shown()?)),
             Topic::Undo => Command::Undo,
-            Topic::All => Command::Help(topic),
+            Topic::All | Topic::Link => Command::Help(topic),
         };
         Ok(Call {
             command,
@@ -352,6 +366,28 @@ mod tests {
     }
 
     #[test]
+    fn a_linkea_is_in_a_file_or_in_standard_input() {
+        let file = |name: &str| Command::Link(Source::File(name.into()));
+        for (line, command) in [
+            ("link f", file("f")),
+            ("link --json f", file("f")),
+            ("link -- -f", file("-f")),
+            ("link ./-", file("./-")),
+            ("link -", Command::Link(Source::Standard)),
+            ("link - --json", Command::Link(Source::Standard)),
+            ("link -- -", Command::Link(Source::Standard)),
+        ] {
+            let call = call(line);
+            assert_eq!(call.command, command, "{line}");
+            assert_eq!(call.json, line.contains("--json"));
+        }
+        let words = ["link", ""].map(OsString::from);
+        let failure = Call::parse(words).expect_err("no file");
+        assert_eq!(failure.status, Status::Usage);
+        assert!(failure.message.contains("the file"), "{failure:?}");
+    }
+
+    #[test]
     fn filters_may_be_given_several_times() {
         let Command::Classes(options) = call(
             "classes d --only multiple --only=OWNER --file 0x200000401:1 --object 0x240000400:2 \
@@ -388,6 +424,9 @@ mod tests {
             ("run --help", Topic::Run),
             ("show -h", Topic::Show),
             ("help classes", Topic::Classes),
+            ("link --help", Topic::Link),
+            ("link - -h", Topic::Link),
+            ("help link", Topic::Link),
             ("help help", Topic::All),
         ] {
             assert_eq!(call(line).command, Command::Help(topic));
@@ -441,6 +480,12 @@ mod tests {
             "log d 1:2 e",
             "undo d e",
             "undo d --steps 1",
+            "check -",
+            "link",
+            "link f g",
+            "link - -",
+            "link --only CLEAN f",
+            "link -x",
         ] {
             let failure = parse(line).expect_err(line);
             assert_eq!(failure.status, Status::Usage);
