@@ -101,7 +101,8 @@ static void test_walk(void)
     check("each as it stands there", same);
     check("the last next place is the total", place == fields[1]);
     check("the number after a record stays", out[6] == MARK);
-    check("the name is a part of the linkEA", memcmp(three + out[3], "..", out[4]) == 0);
+    check("the name is a part of the linkEA",
+          out[3] == 81 && out[4] == 2 && memcmp(three + out[3], "..", 2) == 0);
 }
 
 static void test_places(void)
@@ -134,6 +135,7 @@ static void check_bad(const char *name, const uint8_t *bytes, size_t length)
     refused = lfsck_link_read(bytes, length, out, 6) == LFSCK_BAD_LINK
         && lfsck_link_read(bytes, length, out, 3) == LFSCK_BAD_LINK
         && lfsck_link_record(bytes, length, 24, out, 6) == LFSCK_BAD_LINK
+        && lfsck_link_record(bytes, length, 0, out, 6) == LFSCK_BAD_LINK
         && lfsck_link_record(bytes, length, 25, out, 5) == LFSCK_BAD_LINK;
     check(name, refused && all_marked(out, 6));
 }
@@ -150,13 +152,18 @@ static void check_byte(const char *name, size_t at, uint8_t value)
 
 static void test_bad_bytes(void)
 {
-    uint8_t bytes[BYTES + 1] = {0};
+    uint8_t bytes[BYTES + 2] = {0};
 
     memcpy(bytes, three, BYTES);
     check_bad("no bytes", bytes, 0);
     check_bad("a byte less", bytes, BYTES - 1);
     check_bad("a byte more", bytes, BYTES + 1);
     check_bad("cut after a record", bytes, 63);
+    bytes[8] = BYTES + 1;
+    check_bad("a byte more that the total counts", bytes, BYTES + 1);
+    bytes[8] = BYTES + 2;
+    bytes[BYTES] = 0xff;
+    check_bad("a length more that the total counts", bytes, BYTES + 2);
     memcpy(bytes, none, 24);
     bytes[8] = 23;
     check_bad("a header of 23 bytes", bytes, 23);
@@ -164,6 +171,12 @@ static void test_bad_bytes(void)
     bytes[4] = 1;
     bytes[24] = 0;
     check_bad("half of a record's length", bytes, 25);
+
+    memcpy(bytes, three, 42);
+    bytes[4] = 1;
+    bytes[8] = 42;
+    bytes[25] = 18;
+    check_bad("a record of 18 bytes, without a name", bytes, 42);
 
     check_byte("another magic", 0, 0xde);
     check_byte("another magic in its last byte", 3, 0x10);

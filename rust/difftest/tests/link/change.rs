@@ -16,6 +16,7 @@ pub enum Change {
     Stretched,
     StretchedByRecord,
     StretchedByRecordAgreed,
+    StretchedAgreed,
     HalfLengthAgreed,
     AnyByte,
     Magic,
@@ -26,6 +27,7 @@ pub enum Change {
     RecordLength,
     LastLengthShort,
     LastLengthLong,
+    LastShortAgreed,
     RecordLostAgreed,
     Parent,
     NameByte,
@@ -34,7 +36,7 @@ pub enum Change {
 }
 
 impl Change {
-    pub const ALL: [Change; 24] = [
+    pub const ALL: [Change; 26] = [
         Change::None,
         Change::Cut,
         Change::CutShort,
@@ -44,6 +46,7 @@ impl Change {
         Change::Stretched,
         Change::StretchedByRecord,
         Change::StretchedByRecordAgreed,
+        Change::StretchedAgreed,
         Change::HalfLengthAgreed,
         Change::AnyByte,
         Change::Magic,
@@ -54,6 +57,7 @@ impl Change {
         Change::RecordLength,
         Change::LastLengthShort,
         Change::LastLengthLong,
+        Change::LastShortAgreed,
         Change::RecordLostAgreed,
         Change::Parent,
         Change::NameByte,
@@ -80,9 +84,14 @@ impl Change {
                 put(&mut bytes, 8, &(left as u64).to_le_bytes());
                 bytes.truncate(left);
             }
-            Change::Stretched => {
-                let more = 1 + random.below(30);
-                bytes.extend(random.bytes(more));
+            Change::Stretched | Change::StretchedAgreed => {
+                let mut more = vec![0; 1 + random.below(30)];
+                let from = random.pick(&[0, 1, 2]).min(more.len());
+                random.fill(&mut more[from..]);
+                bytes.extend(more);
+                if self == Change::StretchedAgreed {
+                    agree(&mut bytes);
+                }
             }
             Change::StretchedByRecord | Change::StretchedByRecordAgreed => {
                 bytes.extend(last_record(link));
@@ -152,7 +161,10 @@ impl Change {
         if count == 0 {
             return;
         }
-        let last = matches!(self, Change::LastLengthShort | Change::LastLengthLong);
+        let last = matches!(
+            self,
+            Change::LastLengthShort | Change::LastLengthLong | Change::LastShortAgreed
+        );
         let which = if last { count - 1 } else { random.below(count) };
         let Some((at, record)) = link.placed().nth(which) else {
             return;
@@ -180,6 +192,12 @@ impl Change {
             Change::LastLengthLong => {
                 let more = random.pick(&[1, 2, 256, u16::MAX - length]);
                 put(bytes, at, &length.saturating_add(more).to_be_bytes());
+            }
+            Change::LastShortAgreed => {
+                let short = random.pick(&[2_u16, 10, 17, 18, 18, 18]);
+                put(bytes, at, &short.to_be_bytes());
+                bytes.truncate(at + usize::from(short));
+                agree(bytes);
             }
             Change::RecordLostAgreed => {
                 bytes.drain(at..name.end);
