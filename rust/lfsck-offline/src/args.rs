@@ -114,6 +114,7 @@ impl Call {
         match topic {
             Topic::All => Ok(Call::without_case(Command::Help(words.topic()?))),
             _ if words.help => Ok(Call::without_case(Command::Help(topic))),
+            Topic::Link => words.link(),
             _ => words.call(topic),
         }
     }
@@ -218,23 +219,25 @@ impl Words {
             .map_or(Ok(Topic::All), |name| topic_of(name))
     }
 
+    /// The call of `link`, whose place is a file.
+    fn link(mut self) -> Result<Call, Failure> {
+        self.expect_places(1)?;
+        let place = self.places.pop().filter(|place| !place.is_empty());
+        let missing = || Failure::usage("the file of the linkEA is missing");
+        let source = Source::of_word(place.ok_or_else(missing)?);
+        Ok(Call {
+            json: self.json,
+            ..Call::without_case(Command::Link(source))
+        })
+    }
+
     fn call(mut self, topic: Topic) -> Result<Call, Failure> {
         let takes_fid = matches!(topic, Topic::Show | Topic::Log);
         self.expect_places(if takes_fid { 2 } else { 1 })?;
         if self.places.first().is_none_or(|place| place.is_empty()) {
-            return Err(Failure::usage(match topic {
-                Topic::Link => "the file of the linkEA is missing",
-                _ => "the directory of the case is missing",
-            }));
+            return Err(Failure::usage("the directory of the case is missing"));
         }
-        let place = self.places.remove(0);
-        if topic == Topic::Link {
-            return Ok(Call {
-                json: self.json,
-                ..Call::without_case(Command::Link(Source::of_word(place)))
-            });
-        }
-        let directory = place.into();
+        let directory = self.places.remove(0).into();
         let command = match topic {
             Topic::Sample => Command::Sample,
             Topic::Check => Command::Check,

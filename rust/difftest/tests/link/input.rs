@@ -16,6 +16,11 @@ pub fn random_link(random: &mut Random) -> Link {
         1..250 => 0,
         _ => 1 + random.below(4),
     };
+    random_link_of(count, random)
+}
+
+/// A linkEA of so many records.
+pub fn random_link_of(count: usize, random: &mut Random) -> Link {
     let mut link = Link {
         time: random_number(random),
         padding: random_number(random),

@@ -12,7 +12,7 @@ use std::time::Instant;
 
 use difftest::Random;
 use reference::interface;
-use reference::link::Link;
+use reference::link::{Link, Record};
 
 use change::Change;
 use given::Given;
@@ -51,6 +51,38 @@ fn linkeas_are_read_and_written_alike() {
     );
     assert!(seen.changes.total() >= 500_000);
     seen.require();
+}
+
+/// More records, and more bytes, than 16 bits count; a few of their places.
+#[test]
+fn very_many_records_are_read_and_written_alike() {
+    let mut random = Random::for_test("many links");
+    let mut seen = Seen::nothing();
+    let record = input::random_link_of(1, &mut random).records.remove(0);
+    let record = Record {
+        name: b"n".to_vec(),
+        ..record
+    };
+    let link = Link {
+        time: 1,
+        padding: 2,
+        records: vec![record; 70_000],
+    };
+    let mut bytes = link.encode();
+    let last = bytes.len() as u64 - 19;
+    for damaged in [false, true] {
+        if damaged {
+            let middle = bytes.len() / 2;
+            bytes[middle..middle + 19].fill(b'/');
+        }
+        compare_read(&bytes, &mut random, &mut seen);
+        for place in [24, 25, 24 + 19 * 66_000, last - 1, last, last + 19] {
+            compare_record(&bytes, place, &mut random, &mut seen);
+        }
+    }
+    for _ in 0..8 {
+        compare_write(&link, &mut random, &mut seen);
+    }
 }
 
 // Comparisons. Each lends the same to both sides and compares the answer and whatever was lent.
@@ -150,14 +182,18 @@ fn write_alike(given: &Given, destination: &[u8], out: &[u64]) -> u32 {
 /// A sound linkEA, read record by record from the first place to the end and written again, gives
 /// the same bytes; the reference says the same of each step.
 fn there_and_back(bytes: &[u8], seen: &mut Seen) {
+    let lent = bytes.to_vec();
     let mut fields = [0; 4];
-    assert_eq!(lfsck_sys::link_read(bytes, &mut fields), 0);
+    assert_eq!(lfsck_sys::link_read(black_box(&lent), &mut fields), 0);
     assert_eq!(fields[1], bytes.len() as u64);
     let mut records = Vec::new();
     let mut place = 24;
     for _ in 0..fields[0] {
         let (mut record, mut ours) = ([0; 6], [0; 6]);
-        assert_eq!(lfsck_sys::link_record(bytes, place, &mut record), 0);
+        assert_eq!(
+            lfsck_sys::link_record(black_box(&lent), place, &mut record),
+            0
+        );
         // Of very many, the reference is asked for some.
         if fields[0] < 50 || place % 7 == 0 {
             assert_eq!(interface::link_record(bytes, place, &mut ours), 0);
@@ -167,23 +203,22 @@ fn there_and_back(bytes: &[u8], seen: &mut Seen) {
         place = record[5];
     }
     assert_eq!(place, fields[1], "the end of {bytes:02x?}");
-    assert_eq!(lfsck_sys::link_record(bytes, place, &mut [0; 6]), 16);
-    let given = Given {
-        fields: fields.to_vec(),
-        records,
-        names: bytes.to_vec(),
-    };
+    assert_eq!(
+        lfsck_sys::link_record(black_box(&lent), place, &mut [0; 6]),
+        16
+    );
     let (mut written, mut length) = (vec![0xab; bytes.len() + 3], [0]);
     let answer = lfsck_sys::link_write(
-        &given.fields,
-        &given.records,
-        &given.names,
+        &fields,
+        &records,
+        black_box(&lent),
         &mut written,
         &mut length,
     );
-    assert_eq!((answer, length[0]), (0, fields[1]), "{given:x?}");
+    assert_eq!((answer, length[0]), (0, fields[1]), "{bytes:02x?}");
     assert!(&written[..bytes.len()] == bytes, "back from {bytes:02x?}");
     assert_eq!(&written[bytes.len()..], [0xab; 3]);
+    assert!(black_box(&lent) == bytes, "changed {bytes:02x?}");
     seen.back += 1;
 }
 
