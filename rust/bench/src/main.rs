@@ -20,7 +20,7 @@ const POLICY: u64 = call::BOTH;
 const SIZES: [usize; 5] = [10_000, 20_000, 40_000, 80_000, 160_000];
 
 /// The records of a linkEA that is written or whose header is read.
-const RECORDS: usize = 400_000;
+const RECORDS: usize = 1_000_000;
 /// The records of one that is walked, each of which is a look at all of it.
 const WALKED: usize = 2_000;
 /// The bytes of a name.
@@ -236,40 +236,33 @@ fn repaired(run: Timed<Ran>) -> Timed<Ran> {
 
 /// A long linkEA written and its header read, and a shorter one read record by record.
 fn measure_link(rounds: usize) {
-    let many = Names::of(RECORDS, NAME);
-    let bytes = write(&many, lfsck_link_write).result;
+    let given = Names::of(RECORDS, NAME);
+    let link = write(&given, lfsck_link_write).result;
     let times = side_by_side(
         rounds,
-        || write(&many, lfsck_link_write),
-        || write(&many, plain::link_write),
+        || write(&given, lfsck_link_write),
+        || write(&given, plain::link_write),
     );
-    print_line(
-        "linkEA written: 400,000 records, names of 16 bytes",
-        times,
-        "",
-    );
+    print_link("written", RECORDS, times);
     let times = side_by_side(
         rounds,
-        || read(&bytes, |link, fields| lfsck_sys::link_read(link, fields)),
-        || read(&bytes, plain::link_read),
+        || read(&link, lfsck_link_read),
+        || read(&link, plain::link_read),
     );
-    print_line(
-        "linkEA's header read: 400,000 records, names of 16 bytes",
-        times,
-        "",
-    );
-    let some = Names::of(WALKED, NAME);
-    let bytes = write(&some, lfsck_link_write).result;
+    print_link("header read", RECORDS, times);
+    let link = write(&Names::of(WALKED, NAME), lfsck_link_write).result;
     let times = side_by_side(
         rounds,
-        || {
-            walk(&bytes, |link, place, out| {
-                lfsck_sys::link_record(link, place, out)
-            })
-        },
-        || walk(&bytes, plain::link_record),
+        || walk(&link, lfsck_link_record),
+        || walk(&link, plain::link_record),
     );
-    print_line("linkEA walked: 2,000 records, names of 16 bytes", times, "");
+    print_link("walked record by record", WALKED, times);
+}
+
+fn print_link(what: &str, records: usize, times: Times) {
+    let records = grouped(records);
+    let what = format!("linkEA {what}: {records} records, names of {NAME} bytes");
+    print_line(&what, times, "");
 }
 
 /// A linkEA written by either side.
@@ -285,6 +278,16 @@ fn lfsck_link_write(
 ) -> u32 {
     let out = std::slice::from_mut(out);
     lfsck_sys::link_write(fields, records, names, destination, out)
+}
+
+/// The library's reader of a header.
+fn lfsck_link_read(link: &[u8], fields: &mut [u64; call::LINK_HEADER]) -> u32 {
+    lfsck_sys::link_read(link, fields)
+}
+
+/// The library's reader of a record.
+fn lfsck_link_record(link: &[u8], place: u64, out: &mut [u64; call::LINK_READ]) -> u32 {
+    lfsck_sys::link_record(link, place, out)
 }
 
 /// Times the writing of a linkEA, which must not be refused.
