@@ -1,14 +1,16 @@
 /*
- * The C interface of the verified layout check. The rules, with the bytes of tables and layouts,
- * when each class applies and what each repair writes, are in docs/RULES.md.
+ * The C interface of the verified layout check. The rules, with the bytes of tables, layouts and
+ * linkEAs, when each class applies and what each repair writes, are in docs/RULES.md.
  *
  * Every function answers one of the numbers below. All other numbers are uint64_t. What is lent
- * is a pointer and a count: of bytes for a table, a layout or a pool, of numbers for an array of
- * numbers. A pointer is not null and, for numbers, aligned, also where its count is 0. What is
- * lent to be written overlaps nothing else that is lent. Nothing is kept after the call.
+ * is a pointer and a count: of bytes for a table, a layout, a pool, a linkEA or names, of numbers
+ * for an array of numbers. A pointer is not null and, for numbers, aligned, also where its count
+ * is 0. What is lent to be written overlaps nothing else that is lent. Nothing is kept after the
+ * call.
  *
- * With an answer of 11 to 17 nothing that was lent is changed. Of several answers that apply
- * the lowest is given. An array that is longer than what is handed out keeps its rest.
+ * With an answer of 11 to 17, or of 31, nothing that was lent is changed. Of several answers that
+ * apply the lowest is given, but LFSCK_BAD_LINK before all others. An array that is longer than
+ * what is handed out keeps its rest.
  */
 #ifndef LFSCK_LAYOUT_H
 #define LFSCK_LAYOUT_H
@@ -29,11 +31,12 @@ enum {
     LFSCK_BAD_LAYOUT = 13,    /* a layout or a slot is against the rules */
     LFSCK_BAD_FID = 14,       /* a bad FID, object index or claim, or fresh without claim */
     LFSCK_FID_TWICE = 15,     /* a FID twice among used parents, or twice among used objects */
-    LFSCK_NO_POSITION = 16,   /* there is no such position or slot */
+    LFSCK_NO_POSITION = 16,   /* there is no such position, slot or record */
     LFSCK_NO_ROOM = 17,       /* too few places for what is handed out */
     LFSCK_NO_RESERVE = 21,    /* a slot is to be redirected: no usable FID in the reserve */
     LFSCK_NO_OBJECT_ROW = 22, /* an object is to be made: no unused object row */
-    LFSCK_NO_PARENT_ROW = 23  /* a file is to be made: no unused parent row */
+    LFSCK_NO_PARENT_ROW = 23, /* a file is to be made: no unused parent row */
+    LFSCK_BAD_LINK = 31       /* a linkEA or a record is against the rules */
 };
 
 /* Tables: bytes of a row or an entry, and the most of them. */
@@ -74,6 +77,14 @@ enum {
 #define LFSCK_PATTERN_PLAIN UINT64_C(0x00000001)
 #define LFSCK_PATTERN_HOLES UINT64_C(0x40000001)
 
+/* LinkEAs: the values of trusted.link. */
+#define LFSCK_LINK_MAGIC UINT64_C(0x11EAF1DF)
+enum {
+    LFSCK_LINK_HEADER = 24,   /* bytes before the records, and the place of the first one */
+    LFSCK_RECORD_BEFORE = 18, /* bytes of a record before its name */
+    LFSCK_NAME_BYTES = 65517  /* bytes of the longest name */
+};
+
 /* How many numbers describe a thing. */
 enum {
     LFSCK_READ_FIELDS = 8,      /* a header that was read */
@@ -81,7 +92,10 @@ enum {
     LFSCK_SLOT_NUMBERS = 5,     /* a slot */
     LFSCK_POSITION_NUMBERS = 3, /* a position: stage, row, part */
     LFSCK_CLASS_NUMBERS = 4,    /* a class and what it carries */
-    LFSCK_REPORT_NUMBERS = 9    /* the report of a run */
+    LFSCK_REPORT_NUMBERS = 9,   /* the report of a run */
+    LFSCK_LINK_FIELDS = 4,      /* the header of a linkEA */
+    LFSCK_RECORD_READ = 6,      /* a record of a linkEA that was read */
+    LFSCK_RECORD_WRITE = 5      /* a record of a linkEA to be written */
 };
 
 /* The numbers of a report: the steps done, and the repairs of each class among them. */
@@ -298,6 +312,69 @@ uint32_t lfsck_layout_write(const uint64_t *fields, size_t fields_count,
 uint32_t lfsck_slot_rewrite(uint8_t *layout, size_t layout_bytes,
                             uint64_t index,
                             const uint64_t *slot, size_t slot_count);
+
+/*
+ * The header of a linkEA is record count, total length, overflow time and padding, in this order.
+ *
+ * A record is five numbers: the parent's sequence, id and version, the place where the name starts
+ * and the name's length; one that was read ends with the next place. A place counts bytes from the
+ * start of the linkEA: the first record is at LFSCK_LINK_HEADER, and the place after the last one
+ * is the total length. The name of a record that was read is those bytes of the linkEA.
+ */
+
+/*
+ * Reads a linkEA's header, after a look at all of it.
+ *
+ *   link    the linkEA, exactly its bytes
+ *   fields  4 numbers, written
+ *
+ * LFSCK_OK        the header is in the first 4 fields
+ * LFSCK_BAD_LINK  the bytes are no linkEA
+ * LFSCK_NO_ROOM   fewer than 4 fields
+ */
+uint32_t lfsck_link_read(const uint8_t *link, size_t link_bytes,
+                         uint64_t *fields, size_t fields_count);
+
+/*
+ * Reads the record at a place of a linkEA.
+ *
+ *   link   the linkEA, exactly its bytes
+ *   place  LFSCK_LINK_HEADER, or a next place that was handed out
+ *   out    6 numbers, written
+ *
+ * LFSCK_OK           the record is in the first 6 numbers
+ * LFSCK_BAD_LINK     the bytes are no linkEA
+ * LFSCK_NO_POSITION  no record begins there; none does at the end
+ * LFSCK_NO_ROOM      fewer than 6 numbers
+ *
+ * LFSCK_BAD_LINK is of all of the linkEA, whatever the place. From LFSCK_LINK_HEADER on, each next
+ * place leads to a record until the total length is reached: as many as the header counts.
+ */
+uint32_t lfsck_link_record(const uint8_t *link, size_t link_bytes,
+                           uint64_t place,
+                           uint64_t *out, size_t out_count);
+
+/*
+ * Writes a linkEA.
+ *
+ *   fields       exactly 4 numbers, as they are read
+ *   records      5 numbers for each record, as many records as the count; a name starts at a
+ *                place of names
+ *   names        bytes in which the names lie: the linkEA that was read, or any others
+ *   destination  takes the linkEA; bytes past it stay
+ *   out          1 number, written: the bytes of the linkEA
+ *
+ * LFSCK_OK        the linkEA is in the destination and its length in out
+ * LFSCK_BAD_LINK  another amount of anything that is handed in, a count or total that is not
+ *                 that of the records, a number that does not fit its field, or a name that is
+ *                 empty, too long, not within names, or has a slash or a zero byte
+ * LFSCK_NO_ROOM   the destination is shorter than the linkEA, or out has no place
+ */
+uint32_t lfsck_link_write(const uint64_t *fields, size_t fields_count,
+                          const uint64_t *records, size_t records_count,
+                          const uint8_t *names, size_t names_bytes,
+                          uint8_t *destination, size_t destination_bytes,
+                          uint64_t *out, size_t out_count);
 
 #ifdef __cplusplus
 }

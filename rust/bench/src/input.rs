@@ -1,8 +1,8 @@
-//! Tables at full size.
+//! Tables at full size, and long linkEAs.
 
 use numbers::fid::{BYTES as FID, ID_AT, VERSION_AT};
 use numbers::layout::{HEADER_ONE, HOLES, LAST_OST, MAGIC_ONE, SLOT_OST_AT};
-use numbers::{layout, object, parent};
+use numbers::{call, layout, link, object, parent};
 
 /// The slots of a file; the last file of a table may have fewer.
 const SLOTS: usize = layout::MOST_SLOTS;
@@ -127,6 +127,34 @@ impl Tables {
                 // The slot is a hole, and the object an orphan.
                 _ => self.slot_mut(slot).fill(0),
             }
+        }
+    }
+}
+
+/// A linkEA as the writer takes it.
+pub struct Names {
+    /// The header's numbers.
+    pub fields: [u64; call::LINK_HEADER],
+    /// The records' numbers.
+    pub records: Vec<u64>,
+    /// The names, one after another.
+    pub names: Vec<u8>,
+}
+
+impl Names {
+    /// So many records, with names of so many bytes.
+    pub fn of(count: usize, bytes: usize) -> Names {
+        let total = link::HEADER + count * (link::NAME_AT + bytes);
+        let record = |number: usize| {
+            let (id, start) = (number as u64 + 1, (number * bytes) as u64);
+            [FILES, id, 0, start, bytes as u64]
+        };
+        Names {
+            fields: [count as u64, total as u64, 0, 0],
+            records: (0..count).flat_map(record).collect(),
+            names: (0..count * bytes)
+                .map(|at| b'a' + (at % 26) as u8)
+                .collect(),
         }
     }
 }

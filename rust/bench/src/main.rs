@@ -3,12 +3,12 @@
 use std::io::Write;
 use std::time::Duration;
 
-use bench::input::Tables;
+use bench::input::{Names, Tables};
 use bench::measure::{Timed, Times, side_by_side, timed};
 use bench::plain;
 use numbers::call::{self, END};
 use numbers::layout::MOST_SLOTS as SLOTS;
-use numbers::{object, parent, reserve};
+use numbers::{link, object, parent, reserve};
 
 /// The ratio that the library is to keep to.
 const MOST_RATIO: f64 = 1.3;
@@ -18,6 +18,13 @@ const ROUNDS: usize = 3;
 const POLICY: u64 = call::BOTH;
 /// The sizes between which the growth is measured.
 const SIZES: [usize; 5] = [10_000, 20_000, 40_000, 80_000, 160_000];
+
+/// The records of a linkEA that is written or whose header is read.
+const RECORDS: usize = 1_000_000;
+/// The records of one that is walked, each of which is a look at all of it.
+const WALKED: usize = 2_000;
+/// The bytes of a name.
+const NAME: usize = 16;
 
 /// Answer, position, report and tables after a run.
 type Ran = (u32, [u64; call::POSITION], [u64; call::REPORT], Tables);
@@ -32,6 +39,7 @@ fn main() {
     let classes = measure_growth(rounds);
     measure_run(rounds);
     measure_listing(rounds);
+    measure_link(rounds);
     let [least, most] = [SIZES[0], SIZES[SIZES.len() - 1]];
     println!(
         "\nFrom {} to {} slots, {} times as many, the classes grow by{}.",
@@ -224,6 +232,108 @@ fn repaired(run: Timed<Ran>) -> Timed<Ran> {
     let all = [multiple, dangling, blank, unmatched, owner, orphan];
     assert!(all.iter().all(|&count| count > 100), "{report:?}");
     run
+}
+
+/// A long linkEA written and its header read, and a shorter one read record by record.
+fn measure_link(rounds: usize) {
+    let given = Names::of(RECORDS, NAME);
+    let link = write(&given, lfsck_link_write).result;
+    let times = side_by_side(
+        rounds,
+        || write(&given, lfsck_link_write),
+        || write(&given, plain::link_write),
+    );
+    print_link("written", RECORDS, times);
+    let times = side_by_side(
+        rounds,
+        || read(&link, lfsck_link_read),
+        || read(&link, plain::link_read),
+    );
+    print_link("header read", RECORDS, times);
+    let link = write(&Names::of(WALKED, NAME), lfsck_link_write).result;
+    let times = side_by_side(
+        rounds,
+        || walk(&link, lfsck_link_record),
+        || walk(&link, plain::link_record),
+    );
+    print_link("walked record by record", WALKED, times);
+}
+
+fn print_link(what: &str, records: usize, times: Times) {
+    let records = grouped(records);
+    let what = format!("linkEA {what}: {records} records, names of {NAME} bytes");
+    print_line(&what, times, "");
+}
+
+/// A linkEA written by either side.
+type WriteCall = fn(&[u64; call::LINK_HEADER], &[u64], &[u8], &mut [u8], &mut u64) -> u32;
+
+/// The library's writer.
+fn lfsck_link_write(
+    fields: &[u64; call::LINK_HEADER],
+    records: &[u64],
+    names: &[u8],
+    destination: &mut [u8],
+    out: &mut u64,
+) -> u32 {
+    let out = std::slice::from_mut(out);
+    lfsck_sys::link_write(fields, records, names, destination, out)
+}
+
+/// The library's reader of a header.
+fn lfsck_link_read(link: &[u8], fields: &mut [u64; call::LINK_HEADER]) -> u32 {
+    lfsck_sys::link_read(link, fields)
+}
+
+/// The library's reader of a record.
+fn lfsck_link_record(link: &[u8], place: u64, out: &mut [u64; call::LINK_READ]) -> u32 {
+    lfsck_sys::link_record(link, place, out)
+}
+
+/// Times the writing of a linkEA, which must not be refused.
+fn write(given: &Names, call: WriteCall) -> Timed<Vec<u8>> {
+    let total = given.fields[1];
+    let (mut bytes, mut length) = (vec![0; total as usize], 0);
+    let (fields, records, names) = (&given.fields, &given.records, &given.names);
+    let Timed { result, took } = timed(|| call(fields, records, names, &mut bytes, &mut length));
+    assert_eq!((result, length), (0, total));
+    Timed {
+        result: bytes,
+        took,
+    }
+}
+
+/// Times the reading of a header.
+fn read(
+    link: &[u8],
+    call: fn(&[u8], &mut [u64; call::LINK_HEADER]) -> u32,
+) -> Timed<[u64; call::LINK_HEADER]> {
+    let mut fields = [0; call::LINK_HEADER];
+    let Timed { result, took } = timed(|| call(link, &mut fields));
+    assert_eq!((result, fields[0]), (0, RECORDS as u64));
+    Timed {
+        result: fields,
+        took,
+    }
+}
+
+/// Times a walk from the first record to the end.
+fn walk(
+    link: &[u8],
+    call: fn(&[u8], u64, &mut [u64; call::LINK_READ]) -> u32,
+) -> Timed<Vec<[u64; call::LINK_READ]>> {
+    timed(|| {
+        let mut records = Vec::new();
+        let mut place = link::HEADER as u64;
+        while place < link.len() as u64 {
+            let mut record = [0; call::LINK_READ];
+            assert_eq!(call(link, place, &mut record), 0);
+            place = record[5];
+            records.push(record);
+        }
+        assert_eq!(records.len(), WALKED);
+        records
+    })
 }
 
 fn print_line(what: &str, times: Times, growth: &str) {

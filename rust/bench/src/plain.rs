@@ -9,6 +9,7 @@ mod bytes;
 mod check;
 mod class;
 mod layout;
+mod link;
 mod listing;
 mod position;
 mod repair;
@@ -16,5 +17,6 @@ mod run;
 mod search;
 
 pub use check::check;
+pub use link::{link_read, link_record, link_write};
 pub use listing::classes;
 pub use run::run;

@@ -1,8 +1,8 @@
 //! The plain algorithm does what the library does, so the comparison is a fair one.
 
 use bench::plain;
-use difftest::Random;
 use difftest::tables::{OBJECTS, Shape, random_tables, to_bytes};
+use difftest::{Coverage, Random};
 
 const SHAPE: Shape = Shape {
     parents: 5,
@@ -106,4 +106,74 @@ fn the_check_is_that_of_the_library() {
             lfsck_sys::check(&parents, &objects, &reserve, policy, position)
         );
     }
+}
+
+/// The numbers of a linkEA of a few records, and bytes for their names.
+fn random_names(random: &mut Random) -> ([u64; 4], Vec<u64>, Vec<u8>) {
+    let names: Vec<u8> = (0..20).map(|_| 1 + random.below(40) as u8).collect();
+    let count = random.below(4);
+    let mut records = Vec::new();
+    let mut total = 24;
+    for _ in 0..count {
+        let (start, length) = (random.below(18) as u64, 1 + random.below(2) as u64);
+        let [id, version] = [random.any() as u32, random.any() as u32].map(u64::from);
+        records.extend([random.any(), id, version, start, length]);
+        total += 18 + length;
+    }
+    (
+        [count as u64, total, random.any() as u32 as u64, 7],
+        records,
+        names,
+    )
+}
+
+#[test]
+fn linkeas_are_those_of_the_library() {
+    let mut random = Random::for_test("plain linkEAs");
+    let mut written = Coverage::of("plain linkEAs written", [0, 17, 31]);
+    let mut read = Coverage::of("plain linkEAs read", [0, 31]);
+    let mut found = Coverage::of("plain records read", [0, 16, 31]);
+    for _ in 0..50_000 {
+        let (mut fields, mut records, names) = random_names(&mut random);
+        if random.one_in(4) {
+            fields[random.below(4)] ^= 1 << random.below(64);
+        } else if random.one_in(4) && !records.is_empty() {
+            let at = random.below(records.len());
+            records[at] ^= 1 << random.below(64);
+        }
+        let room = random.pick(&[100, 100, 60, 24]);
+        let (mut bytes, mut length) = (vec![0xab; room], [0]);
+        let (mut plain_bytes, mut plain_length) = (bytes.clone(), 0);
+        let answer = lfsck_sys::link_write(&fields, &records, &names, &mut bytes, &mut length);
+        let to = &mut plain_bytes;
+        let plain_answer = plain::link_write(&fields, &records, &names, to, &mut plain_length);
+        assert_eq!((plain_answer, plain_length), (answer, length[0]));
+        assert_eq!(plain_bytes, bytes);
+        written.met(answer);
+
+        bytes.truncate(if answer == 0 {
+            length[0] as usize
+        } else {
+            room
+        });
+        if random.one_in(2) {
+            let at = random.below(bytes.len());
+            bytes[at] ^= 1 << random.below(8);
+        }
+        let (mut fields, mut plain_fields) = ([1; 4], [1; 4]);
+        let answer = lfsck_sys::link_read(&bytes, &mut fields);
+        assert_eq!(plain::link_read(&bytes, &mut plain_fields), answer);
+        assert_eq!(plain_fields, fields);
+        read.met(answer);
+        for place in [24, 43, 44, random.below(100) as u64] {
+            let (mut record, mut plain_record) = ([1; 6], [1; 6]);
+            let answer = lfsck_sys::link_record(&bytes, place, &mut record);
+            assert_eq!(plain::link_record(&bytes, place, &mut plain_record), answer);
+            assert_eq!(plain_record, record);
+            found.met(answer);
+        }
+    }
+    written.require(100);
+    read.require(100);
+    found.require(100);
 }

@@ -7,7 +7,7 @@ use crate::faults::{Fault, faults};
 use crate::outcome::Failure;
 use crate::tables::Tables;
 
-/// What a number of document 01 means.
+/// What a number of the library means.
 pub fn meaning(number: u32) -> &'static str {
     match number {
         answer::OK => "end reached",
@@ -22,6 +22,7 @@ pub fn meaning(number: u32) -> &'static str {
         answer::NO_RESERVE => "a slot is to be redirected, and no FID of the reserve can be used",
         answer::NO_OBJECT_ROW => "an object is to be made, and no object row is unused",
         answer::NO_PARENT_ROW => "a file is to be made, and no parent row is unused",
+        answer::BAD_LINK => "linkEA against the rules",
         _ => "an unknown answer",
     }
 }

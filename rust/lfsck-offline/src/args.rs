@@ -11,6 +11,7 @@ use crate::fid::{Fid, MdtFid, OstFid};
 use crate::filter::{Filter, OwnerPattern};
 use crate::help::Topic;
 use crate::outcome::Failure;
+use crate::source::{STANDARD, Source};
 
 /// What is asked for.
 #[derive(Debug, PartialEq, Eq)]
@@ -33,6 +34,8 @@ pub enum Command {
     Log(Option<Fid>),
     /// Take the last run back.
     Undo,
+    /// Print a linkEA.
+    Link(Source),
 }
 
 /// What to list, and how.
@@ -111,6 +114,7 @@ impl Call {
         match topic {
             Topic::All => Ok(Call::without_case(Command::Help(words.topic()?))),
             _ if words.help => Ok(Call::without_case(Command::Help(topic))),
+            Topic::Link => words.link(),
             _ => words.call(topic),
         }
     }
@@ -138,6 +142,7 @@ impl Words {
         while let Some(word) = words.next() {
             match word.to_str() {
                 Some("--") if !options_end => options_end = true,
+                Some(STANDARD) if topic == Topic::Link => sorted.places.push(word),
                 Some(option) if option.starts_with('-') && !options_end => {
                     sorted.add_option(option, topic, &mut words)?;
                 }
@@ -214,6 +219,18 @@ impl Words {
             .map_or(Ok(Topic::All), |name| topic_of(name))
     }
 
+    /// The call of `link`, whose place is a file.
+    fn link(mut self) -> Result<Call, Failure> {
+        self.expect_places(1)?;
+        let place = self.places.pop().filter(|place| !place.is_empty());
+        let missing = || Failure::usage("the file of the linkEA is missing");
+        let source = Source::of_word(place.ok_or_else(missing)?);
+        Ok(Call {
+            json: self.json,
+            ..Call::without_case(Command::Link(source))
+        })
+    }
+
     fn call(mut self, topic: Topic) -> Result<Call, Failure> {
         let takes_fid = matches!(topic, Topic::Show | Topic::Log);
         self.expect_places(if takes_fid { 2 } else { 1 })?;
@@ -234,7 +251,7 @@ impl Words {
             Topic::Log if self.places.is_empty() => Command::Log(None),
             Topic::Log => Command::Log(Some(self.shown()?)),
             Topic::Undo => Command::Undo,
-            Topic::All => Command::Help(topic),
+            Topic::All | Topic::Link => Command::Help(topic),
         };
         Ok(Call {
             command,
@@ -352,6 +369,28 @@ mod tests {
     }
 
     #[test]
+    fn a_linkea_is_in_a_file_or_in_standard_input() {
+        let file = |name: &str| Command::Link(Source::File(name.into()));
+        for (line, command) in [
+            ("link f", file("f")),
+            ("link --json f", file("f")),
+            ("link -- -f", file("-f")),
+            ("link ./-", file("./-")),
+            ("link -", Command::Link(Source::Standard)),
+            ("link - --json", Command::Link(Source::Standard)),
+            ("link -- -", Command::Link(Source::Standard)),
+        ] {
+            let call = call(line);
+            assert_eq!(call.command, command, "{line}");
+            assert_eq!(call.json, line.contains("--json"));
+        }
+        let words = ["link", ""].map(OsString::from);
+        let failure = Call::parse(words).expect_err("no file");
+        assert_eq!(failure.status, Status::Usage);
+        assert!(failure.message.contains("the file"), "{failure:?}");
+    }
+
+    #[test]
     fn filters_may_be_given_several_times() {
         let Command::Classes(options) = call(
             "classes d --only multiple --only=OWNER --file 0x200000401:1 --object 0x240000400:2 \
@@ -388,6 +427,9 @@ mod tests {
             ("run --help", Topic::Run),
             ("show -h", Topic::Show),
             ("help classes", Topic::Classes),
+            ("link --help", Topic::Link),
+            ("link - -h", Topic::Link),
+            ("help link", Topic::Link),
             ("help help", Topic::All),
         ] {
             assert_eq!(call(line).command, Command::Help(topic));
@@ -441,6 +483,12 @@ mod tests {
             "log d 1:2 e",
             "undo d e",
             "undo d --steps 1",
+            "check -",
+            "link",
+            "link f g",
+            "link - -",
+            "link --only CLEAN f",
+            "link -x",
         ] {
             let failure = parse(line).expect_err(line);
             assert_eq!(failure.status, Status::Usage);

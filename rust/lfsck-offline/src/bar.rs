@@ -48,6 +48,11 @@ impl Bar {
         }
     }
 
+    /// No bar.
+    pub fn none() -> Bar {
+        Bar { drawer: None }
+    }
+
     fn drawer(work: Work) -> Option<(Arc<Shared>, JoinHandle<()>)> {
         let shared = Arc::new(Shared {
             state: Mutex::new(State {

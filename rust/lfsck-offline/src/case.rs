@@ -12,7 +12,7 @@ use crate::journal::{Change, Edit};
 use crate::lock::{Share, lock};
 use crate::outcome::Failure;
 use crate::permissions::{Access, Permissions};
-use crate::save::{self, MOST_LOG, SAVED};
+use crate::save::{self, MOST_LOG, SAMPLE_LINK, SAVED};
 use crate::saved::{self, POSITION, Saved};
 use crate::slices::Run;
 use crate::tables::{Table, Tables};
@@ -64,21 +64,26 @@ impl Case {
         })
     }
 
-    /// Makes a case with these tables in a directory that has none of the files yet.
-    pub fn make(directory: &Path, tables: &Tables) -> Result<(), Failure> {
+    /// Makes a case with these tables, and a linkEA beside them, in a directory that has none of
+    /// the files yet.
+    pub fn make(directory: &Path, tables: &Tables, link: &[u8]) -> Result<(), Failure> {
         fs::create_dir_all(directory).map_err(|error| trouble(directory, &error))?;
         let case = Case::open_alone(directory)?;
-        if let Some(name) = SAVED.iter().find(|name| case.disk.has(name)) {
+        let mut names = SAVED.iter().chain([&SAMPLE_LINK]);
+        if let Some(name) = names.find(|name| case.disk.has(name)) {
             let path = case.disk.path(name);
             let message = format!("{}: this is already there", path.display());
             return Err(Failure::files(message));
         }
-        let change = |table: Table| Change {
-            name: table.file().to_string(),
+        let change = |name: &str, bytes: &[u8]| Change {
+            name: name.to_string(),
             before: None,
-            edit: Edit::Put(tables.of(table).to_vec()),
+            edit: Edit::Put(bytes.to_vec()),
         };
-        save::save(&case.disk, &Table::ALL.map(change), Access::Own)
+        let tables = Table::ALL.map(|table| change(table.file(), tables.of(table)));
+        let link = change(SAMPLE_LINK, link);
+        let changes: Vec<Change> = tables.into_iter().chain([link]).collect();
+        save::save(&case.disk, &changes, Access::Own)
     }
 
     /// The bytes of a file, one more than `most` where it is longer; none where there is none.
@@ -289,7 +294,7 @@ mod tests {
             objects: vec![0; 46],
             reserve: vec![1; 16],
         };
-        Case::make(&directory, &tables).expect("a new case");
+        Case::make(&directory, &tables, b"").expect("a new case");
         let case = Case::open_alone(&directory).expect("the case");
         (case, tables, directory)
     }

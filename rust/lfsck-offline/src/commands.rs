@@ -2,6 +2,7 @@
 
 mod check;
 mod classes;
+mod link;
 mod log;
 mod run;
 mod sample;
@@ -19,7 +20,11 @@ const VERSION: &str = env!("CARGO_PKG_VERSION");
 /// Does what is asked. The bar is gone before anything is printed.
 pub fn execute(call: &Call) -> Result<Outcome, Failure> {
     let (directory, json) = (&call.directory, call.json);
-    let bar = Bar::start(Work::Unmeasured("reading the tables"));
+    let bar = match call.command {
+        // Its input may be typed, and a bar would stand in between.
+        Command::Link(_) => Bar::none(),
+        _ => Bar::start(Work::Unmeasured("reading the tables")),
+    };
     match &call.command {
         Command::Help(topic) => Ok(Outcome::done(topic.text().to_string())),
         Command::Version => Ok(Outcome::done(version(json))),
@@ -31,6 +36,7 @@ pub fn execute(call: &Call) -> Result<Outcome, Failure> {
         Command::Log(None) => log::log(directory, json),
         Command::Log(Some(fid)) => log::story(directory, *fid, json),
         Command::Undo => undo::undo(directory, json),
+        Command::Link(source) => link::link(source, json),
     }
 }
 

@@ -21,6 +21,8 @@ pub enum Topic {
     Log,
     /// `undo`.
     Undo,
+    /// `link`.
+    Link,
 }
 
 impl Topic {
@@ -35,6 +37,7 @@ impl Topic {
             "show" => Topic::Show,
             "log" => Topic::Log,
             "undo" => Topic::Undo,
+            "link" => Topic::Link,
             _ => return None,
         })
     }
@@ -50,12 +53,14 @@ impl Topic {
             Topic::Show => SHOW,
             Topic::Log => LOG,
             Topic::Undo => UNDO,
+            Topic::Link => LINK,
         }
     }
 }
 
 const ALL: &str = "\
 Usage: lfsck-offline COMMAND DIR [OPTIONS]
+       lfsck-offline link FILE [OPTIONS]
 
 Checks and repairs the striping layouts of a site from table files. DIR is the
 case: the directory with parents.tbl, objects.tbl and reserve.tbl.
@@ -67,6 +72,7 @@ case: the directory with parents.tbl, objects.tbl and reserve.tbl.
   show DIR FID   tell everything about one file or object
   log DIR [FID]  tell what the runs changed, and when; of FID, also why
   undo DIR       take the last run back
+  link FILE      print a linkEA: under which names a file stands in directories
 
   help COMMAND   tell how a command is used
   --version      tell which version this is
@@ -84,8 +90,8 @@ const SAMPLE: &str = "\
 Usage: lfsck-offline sample DIR [--json]
 
 Makes a small case with every class in it: parents.tbl, objects.tbl and
-reserve.tbl in DIR, which is made where it is missing. Files that are already
-there are not overwritten.
+reserve.tbl in DIR, which is made where it is missing; and link.hex, a linkEA to
+print with link. Files that are already there are not overwritten.
 ";
 
 const CHECK: &str = "\
@@ -183,4 +189,26 @@ is written into the log, and is not taken back itself.
 
 Exit status: 2 where there is no run to take back, or the tables were changed
 since.
+";
+
+const LINK: &str = "\
+Usage: lfsck-offline link FILE [--json]
+
+Prints a linkEA, the value of trusted.link: record count, total length, overflow
+time and padding, and each record with its place, the FID of the parent
+directory and the name. With - for FILE it is read from standard input.
+
+FILE holds the linkEA's bytes, or 0x and hexadecimal digits of either case, as
+    getfattr -e hex -n trusted.link PATH
+prints them: on one line, also after 'trusted.link=', with empty lines, comments
+(#) and other attributes round it. What begins with the bytes df f1 ea 11 is
+taken as it is; else digits are looked for; what is neither is taken as it is.
+FILE has at most 262,144 bytes.
+
+Names are in quotes. Bytes other than printable ASCII are \\x and two digits, a
+quote and a backslash have a backslash before them. In JSON a name that is UTF-8
+is a text, else null, and all are in hexadecimal digits too.
+
+Exit status: 2 where it is no linkEA (31); the line says which rule is broken,
+and at which place.
 ";

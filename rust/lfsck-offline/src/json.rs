@@ -81,13 +81,21 @@ fn write_text(text: &str, out: &mut String) {
         match letter {
             '"' => out.push_str("\\\""),
             '\\' => out.push_str("\\\\"),
-            letter if (letter as u32) < 0x20 => {
+            letter if steers(letter) => {
                 let _ = write!(out, "\\u{:04x}", letter as u32);
             }
             letter => out.push(letter),
         }
     }
     out.push('"');
+}
+
+/// Whether a letter does something to a terminal: controls, and what turns the direction of
+/// writing or cannot be seen.
+fn steers(letter: char) -> bool {
+    letter.is_control()
+        || matches!(letter, '\u{61c}' | '\u{200b}'..='\u{200f}' | '\u{2028}'..='\u{202e}')
+        || matches!(letter, '\u{2060}'..='\u{206f}' | '\u{feff}')
 }
 
 #[cfg(test)]
@@ -103,5 +111,12 @@ mod tests {
         ]);
         let line = "{\"none\":null,\"list\":[1,false],\"text\":\"a \\\"b\\\" \\\\ \\u000a\"}\n";
         assert_eq!(value.line(), line);
+    }
+
+    #[test]
+    fn no_letter_steers_a_terminal() {
+        let text = "\u{1b}[2J\u{7f}\u{9b}\u{202e}\u{feff}é";
+        let line = "\"\\u001b[2J\\u007f\\u009b\\u202e\\ufeffé\"\n";
+        assert_eq!(Json::text(text).line(), line);
     }
 }

@@ -1,4 +1,5 @@
-//! The command `lfsck-offline`: checks, classes and repairs the tables of a site.
+//! The command `lfsck-offline`: checks, classes and repairs the tables of a site, and prints
+//! linkEAs.
 //!
 //! Everything that decides or changes is the verified library's. This tool reads and writes
 //! files and prints.
@@ -27,19 +28,24 @@ mod history;
 mod hook;
 mod journal;
 mod json;
+mod link;
+mod link_fault;
 mod lock;
 mod moments;
 mod outcome;
 mod pace;
+mod pasted;
 mod permissions;
 mod plain;
 mod position;
+mod quoted;
 mod reader;
 mod rows;
 mod save;
 mod saved;
 mod site;
 mod slices;
+mod source;
 mod story;
 mod tables;
 mod values;

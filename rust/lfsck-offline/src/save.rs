@@ -17,6 +17,8 @@ use crate::tables::Table;
 pub const JOURNAL: &str = "lfsck-offline.journal";
 /// The files that a save may change.
 pub const SAVED: [&str; 5] = [LOG, "parents.tbl", "objects.tbl", "reserve.tbl", POSITION];
+/// A linkEA beside the tables of a sample, which is made with them and belongs to no case.
+pub const SAMPLE_LINK: &str = "link.hex";
 /// What the names of the tool's own files begin with.
 const OWN: &str = "lfsck-offline.";
 /// More than a table, or a journal of them all and of an entry of the log, can have.
@@ -84,7 +86,7 @@ pub fn require_ours(disk: &Disk, name: &str, permissions: Permissions) -> Result
 
 /// Clears away what a save that was cut off before its journal was in place has left.
 pub fn clear(disk: &Disk) -> Result<(), Failure> {
-    for name in SAVED.iter().chain([&JOURNAL]) {
+    for name in SAVED.iter().chain([&JOURNAL, &SAMPLE_LINK]) {
         disk.clear(&unfinished(name))?;
     }
     Ok(())
@@ -141,7 +143,7 @@ pub fn complete(disk: &Disk, changes: &[Change]) -> Result<(), Failure> {
     let strictest = strictest(disk, changes, &stands)?;
     for (change, stand) in changes.iter().zip(&stands) {
         let access = match stand {
-            _ if !is_table(&change.name) => strictest,
+            _ if !is_table(&change.name) && change.name != SAMPLE_LINK => strictest,
             Some(permissions) => Access::Like(*permissions),
             None => Access::Usual,
         };
@@ -182,7 +184,8 @@ fn put(disk: &Disk, name: &str, bytes: &[u8], access: Access) -> Result<(), Fail
 fn known(disk: &Disk, change: &Change) -> Result<Option<Permissions>, Failure> {
     let name = change.name.as_str();
     let changed = || spoilt(disk, name, "changed since a save was cut off");
-    if !SAVED.contains(&name) || matches!(change.edit, Edit::Append { .. }) != (name == LOG) {
+    let ours = SAVED.contains(&name) || (name == SAMPLE_LINK && change.before.is_none());
+    if !ours || matches!(change.edit, Edit::Append { .. }) != (name == LOG) {
         return Err(changed());
     }
     let after = match &change.edit {

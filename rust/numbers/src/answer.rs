@@ -14,7 +14,7 @@ pub const BAD_LAYOUT: u32 = 13;
 pub const BAD_FID: u32 = 14;
 /// A FID twice among used parents, or twice among used objects.
 pub const FID_TWICE: u32 = 15;
-/// There is no such position.
+/// There is no such position or record.
 pub const NO_POSITION: u32 = 16;
 /// Too few places for what is handed out.
 pub const NO_ROOM: u32 = 17;
@@ -24,3 +24,5 @@ pub const NO_RESERVE: u32 = 21;
 pub const NO_OBJECT_ROW: u32 = 22;
 /// A file is to be made, and no parent row is unused.
 pub const NO_PARENT_ROW: u32 = 23;
+/// A linkEA or a record is against the rules.
+pub const BAD_LINK: u32 = 31;

@@ -32,3 +32,10 @@ pub const HEADER_READ: usize = 8;
 pub const HEADER_WRITTEN: usize = HEADER_READ - 1;
 /// The numbers of a slot.
 pub const SLOT: usize = 5;
+/// The numbers of the header of a linkEA: record count, total length, overflow time, padding.
+pub const LINK_HEADER: usize = 4;
+/// The numbers of a record that is read: the parent's sequence, id and version, where the name
+/// starts, its length, and the next place.
+pub const LINK_READ: usize = 6;
+/// The numbers of a record that is written.
+pub const LINK_WRITTEN: usize = LINK_READ - 1;

@@ -1,6 +1,6 @@
 //! The numbers are those of the C header.
 
-use numbers::{answer, call, layout, object, parent, reserve};
+use numbers::{answer, call, layout, link, object, parent, reserve};
 
 const HEADER: &str = include_str!("../../../include/lfsck_layout.h");
 
@@ -8,19 +8,14 @@ const HEADER: &str = include_str!("../../../include/lfsck_layout.h");
 fn number_of(name: &str) -> u64 {
     let words: Vec<&str> = HEADER.split_whitespace().collect();
     let value = words.windows(3).find_map(|three| match three {
-        [found, "=", value] if *found == name => Some(value.trim_end_matches(',')),
+        [found, "=", value] if *found == name => Some((value.trim_end_matches(','), 10)),
         ["#define", found, value] if *found == name => value
             .strip_prefix("UINT64_C(0x")
-            .map(|value| value.trim_end_matches(')')),
+            .map(|value| (value.trim_end_matches(')'), 16)),
         _ => None,
     });
-    let value = value.unwrap_or_else(|| panic!("{name} is not in the header"));
-    let radix = if name.starts_with("LFSCK_PATTERN") {
-        16
-    } else {
-        10
-    };
-    u64::from_str_radix(value, radix).expect(name)
+    let (digits, radix) = value.unwrap_or_else(|| panic!("{name} is not in the header"));
+    u64::from_str_radix(digits, radix).expect(name)
 }
 
 #[test]
@@ -41,6 +36,10 @@ fn sizes_and_limits() {
         ("LFSCK_LAYOUT_BYTES", layout::MOST_BYTES),
         ("LFSCK_PATTERN_PLAIN", layout::PLAIN as usize),
         ("LFSCK_PATTERN_HOLES", layout::HOLES as usize),
+        ("LFSCK_LINK_MAGIC", link::MAGIC as usize),
+        ("LFSCK_LINK_HEADER", link::HEADER),
+        ("LFSCK_RECORD_BEFORE", link::NAME_AT),
+        ("LFSCK_NAME_BYTES", link::MOST_NAME),
     ] {
         assert_eq!(number as u64, number_of(name), "{name}");
     }
@@ -55,6 +54,9 @@ fn what_calls_are_handed() {
         ("LFSCK_POSITION_NUMBERS", call::POSITION),
         ("LFSCK_CLASS_NUMBERS", call::CLASS),
         ("LFSCK_REPORT_NUMBERS", call::REPORT),
+        ("LFSCK_LINK_FIELDS", call::LINK_HEADER),
+        ("LFSCK_RECORD_READ", call::LINK_READ),
+        ("LFSCK_RECORD_WRITE", call::LINK_WRITTEN),
         // The last of each.
         ("LFSCK_UNUSED", call::CLASSES - 1),
         ("LFSCK_REPORT_ORPHAN", call::COUNTED),
@@ -87,6 +89,7 @@ fn answers() {
         ("LFSCK_NO_RESERVE", answer::NO_RESERVE),
         ("LFSCK_NO_OBJECT_ROW", answer::NO_OBJECT_ROW),
         ("LFSCK_NO_PARENT_ROW", answer::NO_PARENT_ROW),
+        ("LFSCK_BAD_LINK", answer::BAD_LINK),
     ] {
         assert_eq!(u64::from(number), number_of(name), "{name}");
     }

@@ -5,6 +5,7 @@
 mod check;
 mod class;
 mod layout;
+mod link;
 mod run;
 
 pub use check::{check, start, steps};
@@ -13,6 +14,7 @@ pub use layout::{
     layout_of_numbers, layout_read, layout_slot, layout_write, numbers_of_slot, slot_of_numbers,
     slot_rewrite,
 };
+pub use link::{LinkFault, LinkFaults, link_of_numbers, link_read, link_record, link_write};
 pub use run::run;
 
 use crate::answer::{DONE, NO_ROOM};

@@ -10,6 +10,7 @@ pub mod class;
 pub mod fid;
 pub mod interface;
 pub mod layout;
+pub mod link;
 pub mod position;
 pub mod run;
 pub mod site;

@@ -1,13 +1,16 @@
-//! `sample`: a small case with every class in it.
+//! `sample`: a small case with every class in it, and a linkEA.
 
 use std::path::Path;
 
+use numbers::link::{HEADER, NAME_AT};
 use numbers::{call, layout, object, parent};
 
 use crate::case::Case;
 use crate::fid::Fid;
+use crate::hex;
 use crate::json::Json;
 use crate::outcome::{Failure, Outcome};
+use crate::save::SAMPLE_LINK;
 use crate::tables::{Table, Tables};
 
 const ALICE: [u32; 2] = [1001, 100];
@@ -16,7 +19,7 @@ const ROOT: [u32; 2] = [0, 0];
 /// Makes the case.
 pub fn sample(directory: &Path, json: bool) -> Result<Outcome, Failure> {
     let tables = tables();
-    Case::make(directory, &tables)?;
+    Case::make(directory, &tables, dump().as_bytes())?;
     let rows = |table| tables.rows(table).count();
     let (parents, objects, reserve) = (
         rows(Table::Parents),
@@ -29,12 +32,13 @@ pub fn sample(directory: &Path, json: bool) -> Result<Outcome, Failure> {
             ("parent_rows", Json::Number(parents as u64)),
             ("object_rows", Json::Number(objects as u64)),
             ("reserve_fids", Json::Number(reserve as u64)),
+            ("link", Json::text(SAMPLE_LINK)),
         ])
         .line()
     } else {
         format!(
             "A sample case is in {}: {parents} parent rows, {objects} object rows, \
-             {reserve} FIDs in reserve.\n",
+             {reserve} FIDs in reserve; and a linkEA, {SAMPLE_LINK}.\n",
             directory.display()
         )
     };
@@ -202,4 +206,34 @@ fn add_object(
     objects.extend(owner[1].to_le_bytes());
     objects.extend(claim.to_bytes());
     objects.push(fresh.into());
+}
+
+/// The names of the sample's file 1, each with the id of its directory; the last name would clear
+/// the screen.
+const NAMES: [(u32, &[u8]); 3] = [
+    (0x100, b"report.txt"),
+    (0x101, b"a \"draft\".txt"),
+    (0x102, b"\x1b[2Jgone"),
+];
+
+/// A linkEA as getfattr prints it in hexadecimal digits.
+fn dump() -> String {
+    let digits = hex::encode(&link());
+    format!("# file: home/alice/report.txt\ntrusted.link=0x{digits}\n\n")
+}
+
+fn link() -> Vec<u8> {
+    let (mut records, mut names) = (Vec::new(), Vec::new());
+    for (id, name) in NAMES {
+        let parent = file(id);
+        let (start, length) = (names.len() as u64, name.len() as u64);
+        records.extend([parent.sequence, parent.id.into(), 0, start, length]);
+        names.extend(name);
+    }
+    let total = HEADER + NAME_AT * NAMES.len() + names.len();
+    let fields = [NAMES.len() as u64, total as u64, 0, 0];
+    let mut bytes = vec![0; total];
+    let answer = lfsck_sys::link_write(&fields, &records, &names, &mut bytes, &mut [0]);
+    assert_eq!(answer, 0, "the library writes the sample's linkEA");
+    bytes
 }

@@ -35,7 +35,9 @@ fn the_version_is_the_package_s() {
 
 #[test]
 fn help_may_be_asked_of_a_command() {
-    for command in ["sample", "check", "classes", "run", "show"] {
+    for command in [
+        "sample", "check", "classes", "run", "show", "log", "undo", "link",
+    ] {
         let told = tool(&["help", command]).expect(0);
         assert_eq!(told.out, tool(&[command, "--help"]).expect(0).out);
         assert!(told.out.lines().all(|line| line.len() <= 80), "{command}");
@@ -66,6 +68,9 @@ fn failures_are_json_for_machines() {
     expect_failure(tool(&["mend", "--json"]), 64, None);
     expect_failure(tool(&["check", "--json"]), 64, None);
     expect_failure(tool(&["check", "/nowhere", "--json"]), 74, None);
+    expect_failure(tool(&["link", "--json"]), 64, None);
+    expect_failure(tool(&["link", "/nowhere", "--json"]), 74, None);
+    expect_failure(tool(&["link", "/dev/null", "--json"]), 2, Some(31));
     expect_failure(case.run(&["run", "--steps", "x", "--json"]), 64, None);
     expect_failure(case.run(&["show", "1:1", "--json"]), 2, None);
     expect_failure(case.run(&["sample", "--json"]), 74, None);

@@ -439,9 +439,18 @@ fn there_is_help_for_every_command() {
         let told = help(words).expect(0);
         assert!(told.out.starts_with("Usage: lfsck-offline COMMAND"));
     }
-    for command in ["sample", "check", "classes", "run", "show"] {
+    for (command, place) in [
+        ("sample", "DIR"),
+        ("check", "DIR"),
+        ("classes", "DIR"),
+        ("run", "DIR"),
+        ("show", "DIR"),
+        ("log", "DIR"),
+        ("undo", "DIR"),
+        ("link", "FILE"),
+    ] {
         let told = help(&[command, "--help"]).expect(0);
-        let usage = format!("Usage: lfsck-offline {command} DIR");
+        let usage = format!("Usage: lfsck-offline {command} {place}");
         assert!(told.out.starts_with(&usage), "{told:?}");
         assert!(told.out.contains("--json"), "{told:?}");
     }
@@ -458,7 +467,9 @@ fn the_man_page_has_what_the_help_has() {
         options.map(str::to_string).collect()
     };
     let mut help = String::new();
-    for command in ["sample", "check", "classes", "run", "show"] {
+    for command in [
+        "sample", "check", "classes", "run", "show", "log", "undo", "link",
+    ] {
         let mut tool = std::process::Command::new(TOOL);
         let told: Told = tool.args([command, "--help"]).output().unwrap().into();
         help += &told.expect(0).out;

@@ -9,6 +9,7 @@ mod foresee;
 mod histories;
 mod json;
 mod limits;
+mod link;
 mod logs;
 mod oracle;
 mod refusals;

@@ -1,0 +1,65 @@
+//! Where the input of a command comes from: a file, or standard input.
+
+use std::ffi::OsString;
+use std::fmt;
+use std::fs::File;
+use std::io::{self, Read};
+use std::path::PathBuf;
+
+use crate::disk::trouble;
+use crate::outcome::Failure;
+
+/// The word that stands for standard input.
+pub const STANDARD: &str = "-";
+
+/// A file or standard input.
+#[derive(Clone, Debug, PartialEq, Eq)]
+pub enum Source {
+    /// Standard input.
+    Standard,
+    /// A file, of any kind that can be read.
+    File(PathBuf),
+}
+
+impl Source {
+    /// The source that a word of the command line stands for.
+    pub fn of_word(word: OsString) -> Source {
+        if word == STANDARD {
+            Source::Standard
+        } else {
+            Source::File(word.into())
+        }
+    }
+
+    /// All bytes, but one more than `most` where there are more.
+    pub fn read(&self, most: usize) -> Result<Vec<u8>, Failure> {
+        match self {
+            Source::Standard => up_to(io::stdin().lock(), most)
+                .map_err(|error| Failure::files(format!("{self}: {error}"))),
+            Source::File(path) => {
+                let bytes = File::open(path).and_then(|file| up_to(file, most));
+                bytes.map_err(|error| match error.kind() {
+                    io::ErrorKind::IsADirectory => {
+                        trouble(path, &io::Error::other("this is a directory"))
+                    }
+                    _ => trouble(path, &error),
+                })
+            }
+        }
+    }
+}
+
+fn up_to(from: impl Read, most: usize) -> io::Result<Vec<u8>> {
+    let mut bytes = Vec::new();
+    from.take(most as u64 + 1).read_to_end(&mut bytes)?;
+    Ok(bytes)
+}
+
+impl fmt::Display for Source {
+    fn fmt(&self, out: &mut fmt::Formatter<'_>) -> fmt::Result {
+        match self {
+            Source::Standard => out.write_str("standard input"),
+            Source::File(path) => path.display().fmt(out),
+        }
+    }
+}
