@@ -1,6 +1,6 @@
 // What C calls: thin exports over the functions on numbers and lent slices.
-pub mod checks;
 pub mod classes;
+pub mod input;
 pub mod layouts;
 pub mod links;
 pub mod runs;

@@ -43,7 +43,7 @@ fn show_run(parents: &mut [u8], objects: &mut [u8]) {
     let reserve = [0u8; 0];
     let mut position = [0u64; 3];
     let mut report = [0u64; 9];
-    let started = capi::checks::lfsck_start(parents, objects, &mut position);
+    let started = capi::input::lfsck_start(parents, objects, &mut position);
     let answer = capi::runs::lfsck_run(
         parents,
         objects,

@@ -1,7 +1,7 @@
 use Rattle.tables.specs.Positions.{place}
 use borrow.Author.Needs.{needs}
-use Rattle.capi.proofs.checks.lfsck_check.Statement.{statement}
-use Rattle.capi.proofs.checks.lfsck_check.Tie as tie
+use Rattle.capi.proofs.input.lfsck_check.Statement.{statement}
+use Rattle.capi.proofs.input.lfsck_check.Tie as tie
 
 returns : tie.Need-returns
 unfolding place
