@@ -49,23 +49,13 @@ object-stores a b c d e f g x n m h p q s1 s2 s3 s4 s5 s6 =
     let k5 : g ≡ sets a 0 (1 ∷ (F ++ O ++ W ++ C ++ M)) = rw (s6, k4, q) (sets-at (1 ∷ (F ++ O ++ W ++ C)) M a 0 45 (simp (length-append, length-encode, length-bytes, length-owner))) in
     k5 ∙ sets-whole (1 ∷ (F ++ O ++ W ++ C ++ M)) a (h ∙ sym (length-object x))
 
-pub zero-stores : (a b c d e f g h : List ℕ) → length a ≡ objectSize → b ≡ sets a 0 (bytes 8 0) → c ≡ sets b 8 (bytes 8 0) → d ≡ sets c 16 (bytes 8 0) →
-    e ≡ sets d 24 (bytes 8 0) → f ≡ sets e 32 (bytes 8 0) → g ≡ sets f 40 (bytes 4 0) → h ≡ sets g 44 (bytes 2 0) → h ≡ renderObject destroyed
-unfolding bytes renderObject destroyed renderRow
-zero-stores a b c d e f g h n s1 s2 s3 s4 s5 s6 s7 = rw (s7, s6, s5, s4, s3, s2, s1) (sets-whole (replicate 46 0) a n)
+pub zero-stores : (a b : List ℕ) → length a ≡ objectSize → b ≡ sets a 0 (replicate objectSize 0) → b ≡ renderObject destroyed
+unfolding renderObject destroyed renderRow
+zero-stores a b n e = e ∙ sets-whole (replicate objectSize 0) a n
 
 pub length-destroyed : length (renderObject destroyed) ≡ objectSize
 unfolding renderObject destroyed renderRow
 length-destroyed = refl
-
--- the same as runs of stores, one in the other
-pub object-nested : (a : List ℕ) (x : Object) → length a ≡ objectSize →
-    set (sets (sets (sets (sets (set a 0 1) 1 (encodeFid (x .fid .0))) 17 (bytes 4 (x .ost))) 21 (encodeOwner (x .owner))) 29 (encodeFid (claimFid (x .claim)))) 45 (mark (x .fresh)) ≡ renderObject (used x)
-object-nested a x h = object-stores a _ _ _ _ _ _ x _ _ h refl refl refl refl refl refl refl refl
-
-pub zero-nested : (a : List ℕ) → length a ≡ objectSize →
-    sets (sets (sets (sets (sets (sets (sets a 0 (bytes 8 0)) 8 (bytes 8 0)) 16 (bytes 8 0)) 24 (bytes 8 0)) 32 (bytes 8 0)) 40 (bytes 4 0)) 44 (bytes 2 0) ≡ renderObject destroyed
-zero-nested a h = zero-stores a _ _ _ _ _ _ _ h refl refl refl refl refl refl refl
 
 pub claim-none : (k : Claim) → k ≡ Unclaimed → _≡_ {A = Fid} (record { seq = 0; oid = 0; ver = 0 }) (claimFid k)
 unfolding claimFid zeroFid

@@ -66,13 +66,8 @@ pub fn zero_row(row: &mut [u8])
     requires { ⌜ length (now row) ≡ objectSize ⌝ }
     ensures { λ _. ⌜ now (row .exit) ≡ renderObject destroyed ⌝ }
 {
-    wire::put_le64(row, 0, 0);
-    wire::put_le64(row, 8, 0);
-    wire::put_le64(row, 16, 0);
-    wire::put_le64(row, 24, 0);
-    wire::put_le64(row, 32, 0);
-    wire::put_le32(row, 40, 0);
-    wire::put_le16(row, 44, 0);
+    let zeros = [0u8; OBJECT_SIZE];
+    wire::put_bytes(row, 0, &zeros);
 }
 
 // Writes object row o of the table.
