@@ -1,1 +1,2 @@
 pub mod LinkNumbers
+pub mod NumbersBack

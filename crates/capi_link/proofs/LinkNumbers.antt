@@ -1,9 +1,9 @@
 -- LinkEA values as numbers, case by case. Assumes nothing.
-use mathlib.Core.Path.{_≡_, refl, sym, _∙_}
+use mathlib.Core.Path.{_≡_, refl, _∙_}
 use mathlib.Core.List.{List, [], _∷_}
-use mathlib.Core.Bool.{Bool, true, false, cond, not, _&&_}
+use mathlib.Core.Bool.{Bool, true, false, cond, _&&_}
 use Prim.Native.Nat.{ℕ, _≤_, _<_}
-use borrow.Author.Tests.{eq-eqb, ne-eqb, le-leb, lt-leb, lt-ltb, le-ltb, eqb-true, leb-true}
+use borrow.Author.Tests.{eq-eqb, ne-eqb, le-leb, lt-leb, eqb-true, leb-true}
 use native.Mathlib.Omega.{arith}
 use lib.Dec.{eqb, leb, ltb}
 use lib.ListN.{length, getD, set}
@@ -15,6 +15,7 @@ use Rattle.linkea.specs.declared.LinkHeader.{LinkHeader}
 use Rattle.linkea.specs.declared.Found.{Found}
 use Rattle.linkea.specs.declared.Reading.the-variants.{Refused, Accepted}
 use Rattle.linkea.specs.declared.RecordRead.the-variants.{BadLink, NoRecord, RecordIs}
+use Rattle.linkea_write.specs.RoundTrip.{foundNumbers}
 use Rattle.linkea_write.specs.Writer.{refusedGiven, writeLink, writtenNumber, leftBy, writeLinkBytes}
 use Rattle.linkea_write.specs.declared.Written.the-variants.{BadRecords, TooShort, Bytes}
 use Rattle.capi_link.specs.declared.HeaderGiven.the-variants.{NotHeader, HeaderIs}
@@ -52,7 +53,7 @@ module _ (l out : List ℕ) where
 
 pub found-put : (l x y z : List ℕ) (f : Found) → x ≡ sets l 0 (f .parent .0 .seq ∷ f .parent .0 .oid ∷ f .parent .0 .ver ∷ f .start ∷ []) →
     y ≡ set x 4 (f .size) → z ≡ set y 5 (f .next) → z ≡ sets l 0 (foundFields f)
-unfolding foundFields
+unfolding foundFields foundNumbers
 found-put l x y z f p q r = rw (r, q, p)
 
 module _ (l : List ℕ) (p : ℕ) (out : List ℕ) where
@@ -82,11 +83,11 @@ module _ (l : List ℕ) (p : ℕ) (out : List ℕ) where
     record-fields = rw e
 
     pub record-short : length out < recordNumbers → RecordLeaves 17 out
-    unfolding foundFields
+    unfolding foundFields foundNumbers
     record-short k = out-short (recordNumber (readRecord l p)) (recordFields (readRecord l p)) out record-number (rw record-fields k)
 
     pub record-done : (y : List ℕ) → recordNumbers ≤ length out → y ≡ sets out 0 (foundFields x) → RecordLeaves 0 y
-    unfolding foundFields
+    unfolding foundFields foundNumbers
     record-done y k q = out-done (recordNumber (readRecord l p)) (recordFields (readRecord l p)) out y record-number (rw record-fields k) (rw record-fields q)
 
 -- ## The fields handed in

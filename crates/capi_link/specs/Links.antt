@@ -1,6 +1,6 @@
 -- LinkEA values as numbers: read, one record of them, and written. Document 02, 2026-01.
-use Prim.Native.Nat.{ℕ}
-use mathlib.Core.List.{List, [], _∷_}
+use Prim.Native.Nat.{ℕ, _+_}
+use mathlib.Core.List.{List, [], _∷_, _++_}
 use mathlib.Core.Bool.{Bool, cond, _&&_}
 use lib.Dec.{leb, eqb}
 use lib.ListN.{length, getD}
@@ -11,7 +11,8 @@ use Rattle.linkea.specs.declared.Reading.{Reading}
 use Rattle.linkea.specs.declared.Reading.the-variants.{Refused, Accepted}
 use Rattle.linkea.specs.declared.RecordRead.{RecordRead}
 use Rattle.linkea.specs.declared.RecordRead.the-variants.{BadLink, NoRecord, RecordIs}
-use Rattle.linkea_write.specs.Writer.{writeLink, writtenNumber, writeLinkBytes}
+use Rattle.linkea_write.specs.RoundTrip.{foundNumbers}
+use Rattle.linkea_write.specs.Writer.{linkNumbers, writeLink, writtenNumber, writeLinkBytes}
 use Rattle.capi_link.specs.declared.HeaderGiven.{HeaderGiven}
 use Rattle.capi_link.specs.declared.HeaderGiven.the-variants.{NotHeader, HeaderIs}
 use Rattle.capi_out.specs.Out.{outAnswer, outNumbers}
@@ -29,12 +30,12 @@ unfoldable pub readFields : Reading → List ℕ
 readFields Refused = []
 readFields (Accepted h) = headerFields h
 
--- "parent sequence, id, version, name start, name length, next place"
+-- "parent sequence, id, version, name start, name length, next place": the five that the writer takes, and one more
 abbrev pub recordNumbers : ℕ
-recordNumbers = 6
+recordNumbers = linkNumbers + 1
 
 unfoldable pub foundFields : Found → List ℕ
-foundFields x = x .parent .0 .seq ∷ x .parent .0 .oid ∷ x .parent .0 .ver ∷ x .start ∷ x .size ∷ x .next ∷ []
+foundFields x = foundNumbers x ++ (x .next ∷ [])
 
 unfoldable pub recordFields : RecordRead → List ℕ
 recordFields BadLink = []

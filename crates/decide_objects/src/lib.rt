@@ -1,6 +1,5 @@
 // The step of an object row, decided: EMPTY is destroyed, ORPHAN is put in its claimed place.
 use classify_places::places;
-use fid::MdtFid;
 use layout::Slot;
 use rules::ObjectClass;
 use rules::Repair;

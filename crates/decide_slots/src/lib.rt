@@ -21,7 +21,6 @@ ghost use lib.ListN.{length};
 ghost use Rattle.tables.specs.Bytes.{parentSize, parseReserve, parseParents};
 ghost use Rattle.tables.specs.Check.{Sound};
 ghost use Rattle.tables.specs.Positions.{rowAt};
-ghost use Rattle.tables.specs.declared.Claim.the-variants.{Claims};
 ghost use Rattle.rules.specs.Rows.{objectRow, freeObject, slotAt};
 ghost use Rattle.rules.specs.Classes.{headerClass, slotClass};
 ghost use Rattle.rules.specs.Repairs.{repairHeader, newObject, mended, mendAt, usable, redirect, redirectTo, makeObject, repairSlot};

@@ -1,10 +1,10 @@
 -- A linkEA of two records in full, read, walked and written back by computation. Assumes nothing.
 use mathlib.Core.Path.{_≡_, refl}
-use mathlib.Core.List.{List, [], _∷_, _++_}
+use mathlib.Core.List.{List, [], _∷_}
 use Prim.Native.Nat.{ℕ}
 use Rattle.wire.specs.Numbers.{le, bytes, number, numberBytes}
 use Rattle.fid.specs.Fid.{decodeFidIn, encodeFidIn}
-use Rattle.linkea.specs.Link.{LinkEA, decodeLinkHeader, encodeLinkHeader, linkLength, decodeLink, encodeLink, encodeLinks, lengthAt, shortRecord, placesFrom, places, linkAt, decodeLinkEA, headerOf, encodeLinkEA}
+use Rattle.linkea.specs.Link.{decodeLinkHeader, encodeLinkHeader, linkLength, decodeLink, encodeLink, encodeLinks, lengthAt, shortRecord, placesFrom, places, linkAt, decodeLinkEA, headerOf, encodeLinkEA}
 use Rattle.linkea.specs.Conditions.{some, shortHeader, otherMagic, pastEnd, countDisagrees, totalDisagrees, badByte, badName, refusedLink}
 use Rattle.linkea.specs.Answers.{readLink, readRecord, foundAt}
 use Rattle.linkea.specs.declared.Reading.the-variants.{Accepted}

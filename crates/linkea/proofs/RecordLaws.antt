@@ -1,18 +1,17 @@
 -- What is asked of one record and of the whole, case by case. Assumes nothing.
-use mathlib.Core.Path.{_≡_, refl, sym, ap, _∙_}
+use mathlib.Core.Path.{_≡_, refl, sym, _∙_}
 use mathlib.Core.List.{List, [], _∷_}
-use mathlib.Core.Bool.{Bool, true, false, cond, not, _&&_, _||_}
-use Prim.Native.Nat.{ℕ, zero, suc, _+_, _-_, _≤_, _<_}
+use mathlib.Core.Bool.{Bool, true, false, not, _&&_, _||_}
+use Prim.Native.Nat.{ℕ, _+_, _-_, _≤_, _<_}
 use borrow.Author.Tests.{ltb-true, ltb-false, lt-ltb, le-ltb, le-leb, lt-leb, eqb-true, eq-eqb, ne-eqb, not-false}
 use native.Mathlib.Numerals.{add-one}
 use native.Mathlib.Omega.{arith}
-use lib.Dec.{ltb, leb, eqb}
+use lib.Dec.{ltb, eqb}
 use lib.ListN.{length, take, drop, getD, drop-of-length-le}
 use lib.Seq.{drop-drop, drop-cons}
 use Rattle.wire.specs.Numbers.{le, big, number}
 use Rattle.fid.specs.Fid.{decodeFidIn}
 use Rattle.fid.specs.declared.Fid.{Fid}
-use Rattle.fid.specs.declared.MdtFid.{MdtFid}
 use Rattle.linkea.specs.Link.{linkMagic, linkHeader, parentAt, nameAt, shortestRecord, decodeLinkHeader, linkLength, decodeLink, lengthAt, linkAt, shortRecord, places}
 use Rattle.linkea.specs.Conditions.{some, badByte, slash, shortHeader, otherMagic, pastEnd, countDisagrees, totalDisagrees, badName, badRecord, refusedLink}
 use Rattle.linkea.specs.Answers.{readLink, foundAt, stepAt, readRecord}
@@ -20,7 +19,7 @@ use Rattle.linkea.specs.declared.Found.{Found}
 use Rattle.linkea.specs.declared.Reading.the-variants.{Refused, Accepted}
 use Rattle.linkea.specs.declared.Step.the-variants.{Bad, End, Record}
 use Rattle.linkea.specs.declared.RecordRead.the-variants.{BadLink, NoRecord, RecordIs}
-use Rattle.linkea.proofs.PlaceLaws.{or-first, or-second, none-meets, from, places-from, AllGood, goodFrom}
+use Rattle.linkea.proofs.PlaceLaws.{or-first, or-second, none-meets, places-from, AllGood, goodFrom}
 
 -- ## Bytes of a name
 

@@ -1,8 +1,8 @@
 -- The walk by the cursor over a linkEA that is not refused. Assumes nothing.
 use mathlib.Core.Path.{_≡_, refl, sym, ap, _∙_}
-use mathlib.Core.List.{List, [], _∷_, _++_, map}
+use mathlib.Core.List.{List, _∷_, map}
 use mathlib.Core.Bool.{Bool, true, false}
-use Prim.Native.Nat.{ℕ, zero, suc, _+_, _-_, _≤_, _<_}
+use Prim.Native.Nat.{ℕ, zero, suc, _+_, _≤_, _<_}
 use borrow.Author.Tests.{ltb-true, ltb-false}
 use native.Mathlib.Omega.{arith}
 use lib.Dec.{ltb}
@@ -11,10 +11,10 @@ use lib.Seq.{drop-drop}
 use Rattle.linkea.specs.Link.{Link, linkHeader, nameAt, decodeLinkHeader, decodeLinkEA, decodeLink, lengthAt, linkAt, places}
 use Rattle.linkea.specs.Conditions.{refusedLink}
 use Rattle.linkea.specs.Answers.{foundAt, stepAt}
-use Rattle.linkea.specs.Walk.{onward, placeAfter, nameGiven, linksGiven, walked, GoodWalk, EveryWalk}
+use Rattle.linkea.specs.Walk.{openingOf, onward, placeAfter, nameGiven, linksGiven, walked, GoodWalk, BadWalk, EveryWalk}
 use Rattle.linkea.specs.declared.Step.the-variants.{Bad, End, Record}
 use Rattle.linkea.proofs.PlaceLaws.{from, places-from, from-end, from-step, AllGood, good-here, good-on, good-record}
-use Rattle.linkea.proofs.RecordLaws.{step-end, step-record, good-link}
+use Rattle.linkea.proofs.RecordLaws.{step-header, step-end, step-record, good-link}
 
 module _ (l : List ℕ) (p : ℕ) where
   from-none : length l ≤ p → length (from l p) ≡ 0
@@ -80,16 +80,40 @@ walks-well (suc m) l p k g e = go (ltb p (length l)) refl (λ q. walks-well m l 
         on (p + lengthAt l p) (omega arith) (good-on l p h g) (rw (step-good l p k h g) at e)
     go false t on = on p k g (rw (← step-end l p k (ltb-false p (length l) t)) at e)
 
-pub every-walk : EveryWalk
-unfolding EveryWalk decodeLinkEA
-every-walk l h =
+module _ (l : List ℕ) where
+  opens : refusedLink l ≡ false → openingOf l ≡ linkHeader
+  unfolding openingOf
+  opens h = rw h
+
+  opens-not : refusedLink l ≡ true → openingOf l ≡ 0
+  unfolding openingOf
+  opens-not h = rw h
+
+-- a bad step leads nowhere
+stays-put : (n : ℕ) (l : List ℕ) (p : ℕ) → stepAt l p ≡ Bad → placeAfter n l p ≡ p
+unfolding placeAfter onward
+stays-put zero l p e = refl
+stays-put (suc n) l p e = rw e (stays-put n l p e)
+
+good-walk : (l : List ℕ) → refusedLink l ≡ false → GoodWalk l
+unfolding decodeLinkEA
+good-walk l h =
     let g = good-link l h in
+    let o = opens l h in
     let e : length (from l linkHeader) ≡ decodeLinkHeader l .count = rw (← places-from l) (sym (g .counted)) in
     let w = walks (decodeLinkHeader l .count) l linkHeader (omega arith) (g .header) (g .records) e in
     record {
-      never-bad = λ n. walks-well n l linkHeader (omega arith) (g .records);
-      records = w .0 ∙ rw (places-from l);
+      never-bad = λ n. rw o (walks-well n l linkHeader (omega arith) (g .records));
+      records = rw o (w .0 ∙ rw (places-from l));
       counted = length-map (places l) (linkAt l) ∙ sym (g .counted);
-      ends = w .1 ∙ sym (g .total);
+      ends = rw o (w .1 ∙ sym (g .total));
       over = rw (g .total) (sym (step-end l (length l) (g .header) (omega arith)));
     }
+
+bad-walk : (l : List ℕ) → refusedLink l ≡ true → BadWalk l
+bad-walk l h =
+    let b : stepAt l (openingOf l) ≡ Bad = rw (opens-not l h) (sym (step-header l 0 (omega arith))) in
+    record { stays = λ n. stays-put n l (openingOf l) b; bad = b }
+
+pub every-walk : (l : List ℕ) → EveryWalk l
+every-walk l = record { accepted = good-walk l; refused = bad-walk l }

@@ -2,7 +2,7 @@
 use Prim.Native.Nat.{ℕ, _+_, _-_}
 use mathlib.Core.List.{List}
 use mathlib.Core.Bool.{cond}
-use lib.ListN.{length, drop}
+use lib.ListN.{length}
 use lib.Dec.{ltb, leb, eqb}
 use Rattle.linkea.specs.Link.{linkHeader, nameAt, decodeLinkHeader, lengthAt, linkAt, places}
 use Rattle.linkea.specs.Conditions.{some, badRecord, refusedLink}

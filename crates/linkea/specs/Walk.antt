@@ -3,12 +3,11 @@
 use Prim.Native.Nat.{ℕ, zero, suc}
 use mathlib.Core.Path.{_≡_}
 use mathlib.Core.List.{List, [], _∷_, _++_}
-use mathlib.Core.Bool.{false, cond}
+use mathlib.Core.Bool.{true, false, cond}
 use lib.ListN.{length, take, drop}
 use Rattle.linkea.specs.Link.{Link, linkHeader, decodeLinkHeader, decodeLinkEA}
 use Rattle.linkea.specs.Conditions.{refusedLink}
 use Rattle.linkea.specs.Answers.{stepAt}
-use Rattle.linkea.specs.declared.Found.{Found}
 use Rattle.linkea.specs.declared.Step.{Step}
 use Rattle.linkea.specs.declared.Step.the-variants.{Bad, End, Record}
 
@@ -47,14 +46,20 @@ walked (suc n) l p = linksGiven l (stepAt l p) ++ walked n l (onward p (stepAt l
 -- after a good opening
 pub record GoodWalk (l : List ℕ) : Type 0 where
   -- "a walk never meets 31", however far it goes
-  pub never-bad : (n : ℕ) → stepAt l (placeAfter n l linkHeader) ≡ Bad → ⊥
+  pub never-bad : (n : ℕ) → stepAt l (placeAfter n l (openingOf l)) ≡ Bad → ⊥
   -- it visits exactly the count of records: as many steps give the records of the linkEA, in order
-  pub records : walked (decodeLinkHeader l .count) l linkHeader ≡ decodeLinkEA l .links
+  pub records : walked (decodeLinkHeader l .count) l (openingOf l) ≡ decodeLinkEA l .links
   -- each of them gives one
   pub counted : length (decodeLinkEA l .links) ≡ decodeLinkHeader l .count
   -- and they end at the total, where the walk is over
-  pub ends : placeAfter (decodeLinkHeader l .count) l linkHeader ≡ decodeLinkHeader l .total
+  pub ends : placeAfter (decodeLinkHeader l .count) l (openingOf l) ≡ decodeLinkHeader l .total
   pub over : stepAt l (decodeLinkHeader l .total) ≡ End
 
-unfoldable pub EveryWalk : Type 0
-EveryWalk = (l : List ℕ) → refusedLink l ≡ false → GoodWalk l
+-- of a linkEA that is refused every step is bad, and none leads on
+pub record BadWalk (l : List ℕ) : Type 0 where
+  pub stays : (n : ℕ) → placeAfter n l (openingOf l) ≡ openingOf l
+  pub bad : stepAt l (openingOf l) ≡ Bad
+
+pub record EveryWalk (l : List ℕ) : Type 0 where
+  pub accepted : refusedLink l ≡ false → GoodWalk l
+  pub refused : refusedLink l ≡ true → BadWalk l

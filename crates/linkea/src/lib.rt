@@ -2,11 +2,11 @@
 use fid::FID_SIZE;
 use fid::MdtFid;
 ghost use mathlib.Core.Path.{_≡_};
-ghost use mathlib.Core.Bool.{true, false, not, _&&_};
-ghost use Prim.Native.Nat.{_+_, _≤_, _<_};
+ghost use mathlib.Core.Bool.{false, not, _&&_};
+ghost use Prim.Native.Nat.{_≤_, _<_};
 ghost use lib.ListN.{length};
 ghost use lib.Dec.{eqb};
-ghost use Rattle.linkea.specs.Link.{linkHeader, decodeLinkHeader, lengthAt, places};
+ghost use Rattle.linkea.specs.Link.{linkHeader, decodeLinkHeader, places};
 ghost use Rattle.linkea.specs.Conditions.{some, badByte, badRecord, refusedLink};
 ghost use Rattle.linkea.specs.Answers.{readLink, foundAt, stepAt, readRecord};
 
@@ -30,7 +30,7 @@ pub const PARENT_AT: usize = 2;
 pub const NAME_AT: usize = PARENT_AT + FID_SIZE;
 
 // The bytes of the shortest record, whose name is one byte.
-pub const SHORTEST_RECORD: usize = NAME_AT + 1;
+const SHORTEST_RECORD: usize = NAME_AT + 1;
 
 const SLASH: u8 = 47;
 

@@ -12,7 +12,7 @@ use Rattle.fid.proofs.FidLaws.{Fits}
 use Rattle.linkea.specs.Link.{LinkEA, linkHeader, linkAt, places, decodeLinkHeader, decodeLinkEA, headerOf, encodeLinkEA}
 use Rattle.linkea.specs.Conditions.{some, badRecord, refusedLink}
 use Rattle.linkea.specs.Answers.{readLink}
-use Rattle.linkea.specs.Walk.{walked, EveryWalk}
+use Rattle.linkea.specs.Walk.{openingOf, walked}
 use Rattle.linkea.specs.declared.LinkHeader.{LinkHeader}
 use Rattle.linkea.specs.declared.Reading.the-variants.{Refused, Accepted}
 use Rattle.linkea.proofs.PlaceLaws.{or-first, or-second, places-from, AllGood}
@@ -107,14 +107,13 @@ fit-givens numbers names (suc n) j d h =
 
 -- the bytes of a linkEA whose records and header fit, read back
 encoded-read : (e : LinkEA) → FitLinks (e .links) → FitHeader (headerOf e) →
-    (readLink (encodeLinkEA e) ≡ Accepted (headerOf e)) × (walked (headerOf e .count) (encodeLinkEA e) linkHeader ≡ e .links)
-unfolding EveryWalk
+    (readLink (encodeLinkEA e) ≡ Accepted (headerOf e)) × (walked (headerOf e .count) (encodeLinkEA e) (openingOf (encodeLinkEA e)) ≡ e .links)
 encoded-read e f w =
     let l : List ℕ = encodeLinkEA e in
     let a = encoded-accepted e f w in
     let h : decodeLinkHeader l ≡ headerOf e = header-of-back e f w in (
       sym (read-accepted l a) ∙ ap (λ (g : LinkHeader). Accepted g) h,
-      ap (λ (g : LinkHeader). walked (g .count) l linkHeader) (sym h) ∙ every-walk l a .records ∙ links-back e f w,
+      ap (λ (g : LinkHeader). walked (g .count) l (openingOf l)) (sym h) ∙ every-walk l .accepted a .records ∙ links-back e f w,
     )
 
 pub every-write-back : EveryWriteBack
@@ -132,5 +131,5 @@ every-write-back h numbers names dest b d e =
     let r = encoded-read x g w in
     record {
       header = rw q (r .0 ∙ ap (λ (y : LinkHeader). Accepted y) (f .header));
-      records = rw q (ap (λ (y : LinkHeader). walked (y .count) l linkHeader) (sym (f .header)) ∙ r .1);
+      records = rw q (ap (λ (y : LinkHeader). walked (y .count) l (openingOf l)) (sym (f .header)) ∙ r .1);
     }

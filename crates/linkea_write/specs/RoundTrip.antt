@@ -7,7 +7,7 @@ use lib.ListN.{length, take, drop, getD}
 use Rattle.wire.specs.Numbers.{Bytes}
 use Rattle.linkea.specs.Link.{linkHeader}
 use Rattle.linkea.specs.Answers.{readLink, readRecord}
-use Rattle.linkea.specs.Walk.{walked}
+use Rattle.linkea.specs.Walk.{openingOf, walked}
 use Rattle.linkea.specs.declared.LinkHeader.{LinkHeader}
 use Rattle.linkea.specs.declared.Found.{Found}
 use Rattle.linkea.specs.declared.Reading.the-variants.{Accepted}
@@ -62,7 +62,7 @@ pub record DeclaredWidths (h : LinkHeader) (numbers names : List ℕ) : Type 0 w
 -- the bytes that were written read back as given: the header, and each record's parent and name, in order
 pub record ReadsBack (h : LinkHeader) (numbers names written : List ℕ) : Type 0 where
   pub header : readLink written ≡ Accepted h
-  pub records : walked (h .count) written linkHeader ≡ linkEAGiven h numbers names .links
+  pub records : walked (h .count) written (openingOf written) ≡ linkEAGiven h numbers names .links
 
 -- of everything that the writer takes
 unfoldable pub EveryWriteBack : Type 0

@@ -5,7 +5,7 @@ use tables::rows::OBJECT_SIZE;
 use tables::rows::PARENT_SIZE;
 ghost use mathlib.Core.Path.{_≡_};
 ghost use mathlib.Core.Bool.{true};
-ghost use Prim.Native.Nat.{_+_, _/_, _≤_, _<_};
+ghost use Prim.Native.Nat.{_/_, _≤_, _<_};
 ghost use lib.ListN.{length};
 ghost use Rattle.tables.specs.Bytes.{parentSize, objectSize, parseParent, parse, parseParents, parseObjects};
 ghost use Rattle.tables.specs.Positions.{slotsOf, width, inStageOne, inStageTwo, isEnd, isPosition, place, fromObject, fromParent, start, afterPart, next, rowSteps, countSteps};

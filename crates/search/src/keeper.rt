@@ -1,6 +1,5 @@
 // The keeper of an object: one slot that names it.
 use super::naming;
-use super::objects;
 use super::parents;
 use super::slots;
 use fid::OstFid;
@@ -19,7 +18,7 @@ ghost use Rattle.tables.specs.declared.Claim.the-variants.{Claims};
 ghost use Rattle.tables.specs.Check.{goodLayouts, noneTwice};
 ghost use Rattle.rules.specs.Search.{slotFrom, orElse};
 ghost use Rattle.rules.specs.Rows.{namesAt, scan};
-ghost use Rattle.rules.specs.Keeper.{claimIn, keeperBy, keeper};
+ghost use Rattle.rules.specs.Keeper.{claimIn, keeperBy};
 
 // What an object claims: nothing where it is absent.
 pub fn claim_in(found: Lookup) -> Claim

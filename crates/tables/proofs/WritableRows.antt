@@ -2,7 +2,7 @@
 use mathlib.Core.Path.{_≡_, refl, sym, ap, _∙_}
 use mathlib.Core.List.{List, [], _∷_, _++_, append-assoc, append-nil}
 use mathlib.Core.Bool.{Bool, true, false}
-use Prim.Native.Nat.{ℕ, _+_, _-_, _≤_, _<_, _^_}
+use Prim.Native.Nat.{ℕ, _+_, _≤_, _<_, _^_}
 use native.Mathlib.Nat.{mod-eq-of-lt}
 use native.Mathlib.Omega.{arith}
 use borrow.Author.Tests.{eqb-true, ne-eqb}
@@ -18,7 +18,7 @@ use Rattle.fid.proofs.FidLaws.{Fits, length-encode, decode-encode, good-positiv
 use Rattle.layout.specs.Slot.{maxIndex}
 use Rattle.layout.specs.Layout.{decodeLayout, encodeLayout}
 use Rattle.layout.proofs.LayoutLaws.{Writable, read-back}
-use Rattle.tables.specs.Records.{Parent, ParentRow, used, ObjectRow}
+use Rattle.tables.specs.Records.{Parent, ParentRow, ObjectRow}
 use Rattle.tables.specs.Bytes.{parentSize, objectSize, layoutRoom, decodeOwner, encodeOwner, layoutLength, layoutBytes, decodeParent, encodeParent, parseParent, renderParent, claimFrom, claimFid, decodeObject, mark, encodeObject, parseObject, renderObject, selfFid, claimedFid, ostAt, freshAt}
 use Rattle.tables.specs.declared.Owner.{Owner}
 use Rattle.tables.specs.declared.Claim.{Claim}

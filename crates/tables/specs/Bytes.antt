@@ -1,5 +1,5 @@
 -- The tables as bytes and back: `parse` and `render`. Document 01: "Rows are bytes, their fields packed in the order named here".
-use Prim.Native.Nat.{ℕ, _+_, _-_, _/_}
+use Prim.Native.Nat.{ℕ, _+_, _/_}
 use mathlib.Core.List.{List, [], _∷_, _++_, map}
 use mathlib.Core.Bool.{Bool, cond}
 use lib.ListN.{length, getD, take, drop}

@@ -1,5 +1,4 @@
 use mathlib.Core.Path.{sym, _∙_}
-use denote.Ref.{now}
 use Rattle.capi_link.proofs.LinkNumbers.{read-bad, read-short, read-done}
 use borrow.Author.Needs.{needs}
 use Rattle.capi_link.proofs.link_read.Statement.{statement}

@@ -1,12 +1,10 @@
 use native.Mathlib.Omega.{arith}
-use borrow.Author.Needs.{needs}
 use mathlib.Core.Path.{_≡_, sym, ap, subst, _∙_}
 use mathlib.Core.List.{List}
-use Prim.Native.Nat.{ℕ, _+_, _-_, _≤_}
+use Prim.Native.Nat.{ℕ, _+_, _-_}
 use denote.Ref.{now}
 use lib.Dec.{eqb}
-use lib.ListN.{length}
-use Rattle.linkea.specs.Link.{linkHeader, places}
+use Rattle.linkea.specs.Link.{places}
 use Rattle.linkea.specs.Conditions.{some}
 use Rattle.linkea.proofs.PlaceLaws.{from, places-from, no-place, AllGood, GoodRecord, good-record, good-here, good-on, pass-by, arrive}
 use Rattle.linkea.proofs.RecordLaws.{length-read, good-link}

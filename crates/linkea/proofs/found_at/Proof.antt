@@ -1,6 +1,5 @@
 use native.Mathlib.Omega.{arith}
 use borrow.Author.Needs.{needs}
-use mathlib.Core.Path.{_∙_}
 use denote.Ref.{now}
 use Rattle.linkea.proofs.PlaceLaws.{good-record}
 use Rattle.linkea.proofs.RecordLaws.{length-read, found-is}

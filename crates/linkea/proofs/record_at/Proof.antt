@@ -1,13 +1,11 @@
 use borrow.Author.Needs.{needs}
 use borrow.Author.Tests.{not-true, not-false}
-use mathlib.Core.Path.{_≡_, sym, ap, _∙_}
-use mathlib.Core.Bool.{false}
+use mathlib.Core.Path.{sym, ap, _∙_}
 use denote.Ref.{now}
-use Rattle.linkea.specs.Conditions.{badRecord}
 use Rattle.linkea.specs.declared.Found.{Found}
 use Rattle.linkea.specs.declared.RecordRead.the-variants.{RecordIs}
-use Rattle.linkea.proofs.PlaceLaws.{none-meets, places-from, place-before-end}
-use Rattle.linkea.proofs.RecordLaws.{good-link, place-good, record-refused, record-none, record-is}
+use Rattle.linkea.proofs.PlaceLaws.{place-before-end}
+use Rattle.linkea.proofs.RecordLaws.{place-good, record-refused, record-none, record-is}
 use Rattle.linkea.proofs.record_at.Statement.{statement}
 use Rattle.linkea.proofs.record_at.Tie as tie
 

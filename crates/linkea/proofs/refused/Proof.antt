@@ -1,10 +1,9 @@
 use native.Mathlib.Omega.{arith}
 use borrow.Author.Needs.{needs}
-use mathlib.Core.Path.{_≡_, sym, ap, _∙_}
+use mathlib.Core.Path.{sym, ap, _∙_}
 use mathlib.Core.Bool.{Bool, not}
 use denote.Ref.{now}
-use lib.ListN.{length}
-use Rattle.linkea.specs.Link.{linkHeader, decodeLinkHeader}
+use Rattle.linkea.specs.Link.{linkHeader}
 use Rattle.linkea.specs.declared.LinkHeader.{LinkHeader}
 use Rattle.linkea.proofs.PlaceLaws.{good-start, goodFrom}
 use Rattle.linkea.proofs.RecordLaws.{refused-short, refused-magic, refused-total, refused-records}
