@@ -78,6 +78,8 @@ fn of_input(content: &[u8], words: &[&str]) -> Told {
 fn three_records_are_printed_from_raw_bytes_and_from_digits() {
     let case = Case::empty("link-forms");
     let dump = format!("# file: a/b\ntrusted.link=0x{THREE}\n\n");
+    // A path and attributes in Latin-1, which are no UTF-8.
+    let latin = format!("# file: caf\u{e9}\nuser.\u{e9}=\"\u{e9}\"\ntrusted.link=0x{THREE}\n");
     for content in [
         three(),
         format!("0x{THREE}").into_bytes(),
@@ -86,6 +88,7 @@ fn three_records_are_printed_from_raw_bytes_and_from_digits() {
         format!("trusted.link=0x{THREE}\n").into_bytes(),
         dump.into_bytes(),
         format!("# file: a\ntrusted.fid=0x00\ntrusted.link=0x{THREE}\nuser.x=\"y\"\n").into_bytes(),
+        latin.chars().map(|letter| letter as u8).collect(),
     ] {
         for told in [
             of_file(&case, &content, &[]),
