@@ -144,37 +144,44 @@ fn one_record_and_none_are_printed() {
     assert_eq!(one.out.lines().count(), 3);
 }
 
-/// Names of every byte, and of letters that steer terminals or turn the direction of writing.
+fn is_printable(letter: char) -> bool {
+    letter == '\n' || (' '..='~').contains(&letter)
+}
+
+/// Names of every byte, and of characters that steer terminals, turn the direction of writing or
+/// cannot be seen.
 #[test]
 fn no_name_steers_a_terminal() {
     let every: Vec<u8> = (1..=255).filter(|&byte| byte != b'/').collect();
-    let bidi = "a\u{202e}b\u{9b}31mc\u{2066}\u{200b}\u{feff}d";
     let names = [
         &every[..],
         b"\x1b]0;title\x07\x1b[2J",
         b"line\nlfsck-offline: line\r",
         "größe\u{1f600}".as_bytes(),
-        bidi.as_bytes(),
+        "a\u{202e}b\u{9b}31mc\u{2066}\u{200b}\u{feff}d".as_bytes(),
+        "\u{ad}\u{180e}\u{3164}\u{fe0f}\u{ffff}\u{e0041}\u{10ffff}".as_bytes(),
         b"\xc3\x28",
         b"a\"b\\c",
     ];
     let bytes = named(&names);
     let told = of_input(&bytes, &["-"]).expect(0);
     assert_eq!(told.out.lines().count(), 2 + names.len());
-    let printable = |letter: char| letter == '\n' || (' '..='~').contains(&letter);
-    assert!(told.out.chars().all(printable), "{told:?}");
+    assert!(told.out.chars().all(is_printable), "{told:?}");
     let last: Vec<&str> = told.out.lines().skip(3).collect();
     assert!(last[0].ends_with(r#" "\x1b]0;title\x07\x1b[2J""#));
     assert!(last[1].ends_with(r#" "line\x0alfsck-offline: line\x0d""#));
     assert!(last[2].ends_with(r#" "gr\xc3\xb6\xc3\x9fe\xf0\x9f\x98\x80""#));
-    assert!(last[4].ends_with(r#" "\xc3(""#));
-    assert!(last[5].ends_with(r#" "a\"b\\c""#));
+    assert!(last[5].ends_with(r#" "\xc3(""#));
+    assert!(last[6].ends_with(r#" "a\"b\\c""#));
+    expect_json_of(&bytes, &names);
+}
 
-    let told = of_input(&bytes, &["-", "--json"]).expect(0);
-    let steers = |letter: char| letter.is_control() && letter != '\n';
-    assert!(!told.out.contains(steers), "{told:?}");
-    assert!(!told.out.contains(['\u{202e}', '\u{2066}', '\u{200b}']));
+/// In JSON the names stand as text, where they are UTF-8, and in digits.
+fn expect_json_of(bytes: &[u8], names: &[&[u8]]) {
+    let told = of_input(bytes, &["-", "--json"]).expect(0);
+    assert!(told.out.chars().all(is_printable), "{told:?}");
     let json = parse(&told.out);
+    assert_eq!(json.list("records").len(), names.len());
     for (record, name) in json.list("records").iter().zip(names) {
         let digits: String = name.iter().map(|byte| format!("{byte:02x}")).collect();
         assert_eq!(record.text("name_hex"), digits);
