@@ -66,6 +66,14 @@ static void mark(uint64_t *numbers, size_t count)
         numbers[i] = MARK;
 }
 
+static int all_are(uint8_t value, const uint8_t *bytes, size_t count)
+{
+    for (size_t i = 0; i < count; i++)
+        if (bytes[i] != value)
+            return 0;
+    return 1;
+}
+
 static void test_read(void)
 {
     uint64_t out[5];
@@ -330,11 +338,12 @@ static void test_bad_names(void)
     uint64_t record[5] = {0, 0, 0, 0, 65518};
 
     memset(names, 'n', sizeof names);
+    memset(room, 0xab, sizeof room);
     clear();
     check("a name of 65,518 bytes",
           lfsck_link_write(header, 4, record, 5, names, sizeof names, room, sizeof room, length, 2)
               == LFSCK_BAD_LINK);
-    check("it is not written", all_marked(length, 2) && room[0] == 0);
+    check("it is not written", all_marked(length, 2) && all_are(0xab, room, sizeof room));
     header[1] = 42 + 65517;
     record[3] = 1;
     record[4] = LFSCK_NAME_BYTES;
