@@ -66,6 +66,14 @@ static void mark(uint64_t *numbers, size_t count)
         numbers[i] = MARK;
 }
 
+static int all_are(uint8_t value, const uint8_t *bytes, size_t count)
+{
+    for (size_t i = 0; i < count; i++)
+        if (bytes[i] != value)
+            return 0;
+    return 1;
+}
+
 static void test_read(void)
 {
     uint64_t out[5];
@@ -150,7 +158,8 @@ static void check_byte(const char *name, size_t at, uint8_t value)
     check_bad(name, bytes, BYTES);
 }
 
-static void test_bad_bytes(void)
+/* Bytes cut off or added, also where the header says as much. */
+static void test_bad_lengths(void)
 {
     uint8_t bytes[BYTES + 2] = {0};
 
@@ -177,7 +186,10 @@ static void test_bad_bytes(void)
     bytes[8] = 42;
     bytes[25] = 18;
     check_bad("a record of 18 bytes, without a name", bytes, 42);
+}
 
+static void test_bad_bytes(void)
+{
     check_byte("another magic", 0, 0xde);
     check_byte("another magic in its last byte", 3, 0x10);
     check_byte("a count too small", 4, 2);
@@ -322,7 +334,7 @@ static void test_bad_numbers(void)
     check_number("an empty name", 4, 0);
 }
 
-static void test_bad_names(void)
+static void test_long_names(void)
 {
     static uint8_t names[65518];
     static uint8_t room[65600];
@@ -330,11 +342,12 @@ static void test_bad_names(void)
     uint64_t record[5] = {0, 0, 0, 0, 65518};
 
     memset(names, 'n', sizeof names);
+    memset(room, 0xab, sizeof room);
     clear();
     check("a name of 65,518 bytes",
           lfsck_link_write(header, 4, record, 5, names, sizeof names, room, sizeof room, length, 2)
               == LFSCK_BAD_LINK);
-    check("it is not written", all_marked(length, 2) && room[0] == 0);
+    check("it is not written", all_marked(length, 2) && all_are(0xab, room, sizeof room));
     header[1] = 42 + 65517;
     record[3] = 1;
     record[4] = LFSCK_NAME_BYTES;
@@ -343,10 +356,15 @@ static void test_bad_names(void)
               == LFSCK_OK);
     check("its record is as long as can be", room[24] == 0xff && room[25] == 0xff && length[0] == 65559);
     check("it is read again", lfsck_link_read(room, 65559, header, 4) == LFSCK_OK);
+}
 
-    header[1] = 44;
-    record[3] = 7;
-    record[4] = 2;
+static void test_bad_names(void)
+{
+    uint8_t names[20];
+    const uint64_t header[4] = {1, 44, 0, 0};
+    const uint64_t record[5] = {0, 0, 0, 7, 2};
+
+    memset(names, 'n', sizeof names);
     names[8] = '/';
     check_bad_write("a name with a slash", header, 4, record, 5, names, 20);
     names[8] = 0;
@@ -362,10 +380,12 @@ int main(void)
     test_read();
     test_walk();
     test_places();
+    test_bad_lengths();
     test_bad_bytes();
     test_any_bytes();
     test_write();
     test_bad_numbers();
+    test_long_names();
     test_bad_names();
     return report_all();
 }

@@ -209,6 +209,6 @@ Names are in quotes. Bytes other than printable ASCII are \\x and two digits, a
 quote and a backslash have a backslash before them. In JSON a name that is UTF-8
 is a text, else null, and all are in hexadecimal digits too.
 
-Exit status: 2 where it is no linkEA (31); the line says which rule is broken,
-and at which place.
+Exit status: 2 where FILE is too long, or no linkEA (31); then the line says
+which rule is broken, and at which place.
 ";

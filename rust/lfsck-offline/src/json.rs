@@ -75,27 +75,24 @@ fn write_all<Item>(
     out.push(close);
 }
 
+/// A text in quotes, everything but printable ASCII escaped, so that it cannot steer a terminal.
 fn write_text(text: &str, out: &mut String) {
     out.push('"');
     for letter in text.chars() {
         match letter {
-            '"' => out.push_str("\\\""),
-            '\\' => out.push_str("\\\\"),
-            letter if steers(letter) => {
-                let _ = write!(out, "\\u{:04x}", letter as u32);
-            }
-            letter => out.push(letter),
+            '"' | '\\' => out.extend(['\\', letter]),
+            ' '..='~' => out.push(letter),
+            letter => write_escaped(letter, out),
         }
     }
     out.push('"');
 }
 
-/// Whether a letter does something to a terminal: controls, and what turns the direction of
-/// writing or cannot be seen.
-fn steers(letter: char) -> bool {
-    letter.is_control()
-        || matches!(letter, '\u{61c}' | '\u{200b}'..='\u{200f}' | '\u{2028}'..='\u{202e}')
-        || matches!(letter, '\u{2060}'..='\u{206f}' | '\u{feff}')
+/// Four digits, or a pair of four for a character above U+FFFF.
+fn write_escaped(letter: char, out: &mut String) {
+    for unit in letter.encode_utf16(&mut [0; 2]) {
+        let _ = write!(out, "\\u{unit:04x}");
+    }
 }
 
 #[cfg(test)]
@@ -114,9 +111,15 @@ mod tests {
     }
 
     #[test]
-    fn no_letter_steers_a_terminal() {
-        let text = "\u{1b}[2J\u{7f}\u{9b}\u{202e}\u{feff}é";
-        let line = "\"\\u001b[2J\\u007f\\u009b\\u202e\\ufeffé\"\n";
+    fn all_but_printable_ascii_is_escaped() {
+        let text = "\u{1b}[2J\u{7f}\u{9b}\u{ad}é\u{180e}\u{202e}\u{3164}\u{fe0f}\u{feff}\u{ffff} ~";
+        let line = concat!(
+            r#""\u001b[2J\u007f\u009b\u00ad\u00e9\u180e\u202e\u3164\ufe0f\ufeff\uffff ~""#,
+            "\n"
+        );
         assert_eq!(Json::text(text).line(), line);
+        let pairs = "\"\\ud800\\udc00\\ud83d\\ude00\\udb40\\udc41\\udbff\\udfff\"\n";
+        let text = "\u{10000}\u{1f600}\u{e0041}\u{10ffff}";
+        assert_eq!(Json::text(text).line(), pairs);
     }
 }

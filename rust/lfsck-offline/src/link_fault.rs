@@ -23,35 +23,12 @@ pub enum Fault {
         /// How many there are.
         found: usize,
     },
-    /// The record at a place says a length below the least.
-    RecordShort {
-        /// The place.
+    /// A record is broken.
+    Record {
+        /// Its place.
         place: usize,
-        /// What it says.
-        length: usize,
-    },
-    /// The record at a place says a length with which it goes past the end.
-    RecordPastEnd {
-        /// The place.
-        place: usize,
-        /// What it says; nothing where only a byte of the length is there.
-        length: Option<usize>,
-        /// The end.
-        end: usize,
-    },
-    /// The name of the record at a place has a slash.
-    Slash {
-        /// The place of the record.
-        place: usize,
-        /// The place of the slash.
-        at: usize,
-    },
-    /// The name of the record at a place has a zero byte.
-    Zero {
-        /// The place of the record.
-        place: usize,
-        /// The place of the byte.
-        at: usize,
+        /// How.
+        fault: RecordFault,
     },
     /// The header counts other records than there are.
     Count {
@@ -60,6 +37,24 @@ pub enum Fault {
         /// How many there are.
         found: usize,
     },
+}
+
+/// A broken rule of a record.
+#[derive(Clone, Copy, Debug, PartialEq, Eq)]
+pub enum RecordFault {
+    /// It says this length, below the least.
+    Short(usize),
+    /// It says a length with which it goes past the end.
+    PastEnd {
+        /// What it says; nothing where only a byte of the length is there.
+        length: Option<usize>,
+        /// The end.
+        end: usize,
+    },
+    /// Its name has a slash at a place.
+    Slash(usize),
+    /// Its name has a zero byte at a place.
+    Zero(usize),
 }
 
 /// The first broken rule: of the header, then of each record, then of their count.
@@ -89,21 +84,22 @@ pub fn fault(bytes: &[u8]) -> Option<Fault> {
 fn walk(bytes: &[u8]) -> Result<usize, Fault> {
     let (mut place, mut found) = (HEADER, 0);
     while place < bytes.len() {
-        place += record(bytes, place)?;
+        let length = record(bytes, place);
+        place += length.map_err(|fault| Fault::Record { place, fault })?;
         found += 1;
     }
     Ok(found)
 }
 
 /// The length of the record at a place.
-fn record(bytes: &[u8], place: usize) -> Result<usize, Fault> {
+fn record(bytes: &[u8], place: usize) -> Result<usize, RecordFault> {
     let end = bytes.len();
     let length = bytes[place..].first_chunk().copied();
     let length = length.map(|length| usize::from(u16::from_be_bytes(length)));
-    let past = Fault::RecordPastEnd { place, length, end };
+    let past = RecordFault::PastEnd { length, end };
     let length = length.ok_or(past)?;
     if length < LEAST_RECORD {
-        return Err(Fault::RecordShort { place, length });
+        return Err(RecordFault::Short(length));
     }
     let record = bytes.get(place..place + length).ok_or(past)?;
     let bad = |byte: &u8| *byte == b'/' || *byte == 0;
@@ -112,8 +108,8 @@ fn record(bytes: &[u8], place: usize) -> Result<usize, Fault> {
         Some(letter) => {
             let at = place + NAME_AT + letter;
             Err(match bytes[at] {
-                0 => Fault::Zero { place, at },
-                _ => Fault::Slash { place, at },
+                0 => RecordFault::Zero(at),
+                _ => RecordFault::Slash(at),
             })
         }
     }
@@ -132,36 +128,27 @@ impl fmt::Display for Fault {
                     "header, total length: {said}, and there are {found} bytes"
                 )
             }
-            Fault::RecordShort { place, length } => {
-                write!(
-                    out,
-                    "record at {place}, length: {length}, below {LEAST_RECORD}"
-                )
-            }
-            Fault::RecordPastEnd {
-                place,
-                length: Some(length),
-                end,
-            } => write!(
-                out,
-                "record at {place}, length: {length}, past the end at {end}"
-            ),
-            Fault::RecordPastEnd { place, end, .. } => {
-                write!(
-                    out,
-                    "record at {place}, length: cut off by the end at {end}"
-                )
-            }
-            Fault::Slash { place, at } => write!(out, "record at {place}, name: a slash at {at}"),
-            Fault::Zero { place, at } => {
-                write!(out, "record at {place}, name: a zero byte at {at}")
-            }
+            Fault::Record { place, fault } => write!(out, "record at {place}, {fault}"),
             Fault::Count { said, found } => {
                 write!(
                     out,
                     "header, record count: {said}, and there are {found} records"
                 )
             }
+        }
+    }
+}
+
+impl fmt::Display for RecordFault {
+    fn fmt(&self, out: &mut fmt::Formatter<'_>) -> fmt::Result {
+        match *self {
+            RecordFault::Short(length) => write!(out, "length: {length}, below {LEAST_RECORD}"),
+            RecordFault::PastEnd { length, end } => match length {
+                Some(length) => write!(out, "length: {length}, past the end at {end}"),
+                None => write!(out, "length: cut off by the end at {end}"),
+            },
+            RecordFault::Slash(at) => write!(out, "name: a slash at {at}"),
+            RecordFault::Zero(at) => write!(out, "name: a zero byte at {at}"),
         }
     }
 }
@@ -181,10 +168,12 @@ mod tests {
                 Fault::ShortHeader(_) => Rule::ShortHeader,
                 Fault::Magic(_) => Rule::Magic,
                 Fault::Total { .. } => Rule::Total,
-                Fault::RecordShort { .. } => Rule::RecordShort,
-                Fault::RecordPastEnd { .. } => Rule::RecordPastEnd,
-                Fault::Slash { .. } => Rule::Slash,
-                Fault::Zero { .. } => Rule::Zero,
+                Fault::Record { fault, .. } => match fault {
+                    RecordFault::Short(_) => Rule::RecordShort,
+                    RecordFault::PastEnd { .. } => Rule::RecordPastEnd,
+                    RecordFault::Slash(_) => Rule::Slash,
+                    RecordFault::Zero(_) => Rule::Zero,
+                },
                 Fault::Count { said, found } if (said as usize) < found => Rule::CountTooSmall,
                 Fault::Count { .. } => Rule::CountTooLarge,
             }
@@ -267,65 +256,52 @@ mod tests {
         met.require(100);
     }
 
+    /// What is told of bytes.
+    fn told(bytes: &[u8]) -> String {
+        fault(bytes).map_or(String::new(), |fault| fault.to_string())
+    }
+
+    /// What is told of them with another byte at a place.
+    fn told_with(bytes: &[u8], at: usize, byte: u8) -> String {
+        let mut bytes = bytes.to_vec();
+        bytes[at] = byte;
+        told(&bytes)
+    }
+
     #[test]
-    fn the_place_is_told() {
+    fn the_field_of_the_header_is_told() {
+        let bytes = sound(&mut Random::new(1));
+        let end = bytes.len();
+        let words = "header, magic: 0x11eaf100, not 0x11eaf1df";
+        assert_eq!(told_with(&bytes, 0, 0), words);
+        let words = "header, record count: 5, and there are 4 records";
+        assert_eq!(told_with(&bytes, 4, 5), words);
+        let other = end | 256;
+        let words = format!("header, total length: {other}, and there are {end} bytes");
+        assert_eq!(told_with(&bytes, 9, 1), words);
+        let words = "header: only 5 of its 24 bytes are there";
+        assert_eq!(told(&bytes[..5]), words);
+        assert_eq!(fault(&[]), Some(Fault::ShortHeader(0)));
+    }
+
+    #[test]
+    fn the_place_of_the_record_is_told() {
         let bytes = sound(&mut Random::new(1));
         let link = Link::parse(&bytes).unwrap();
         let (third, record) = link.placed().nth(2).unwrap();
         let name = third + 18 + record.name.len() - 1;
-        let told = |at: usize, byte: u8| {
-            let mut bytes = bytes.clone();
-            bytes[at] = byte;
-            fault(&bytes).map(|fault| fault.to_string())
-        };
-        let end = bytes.len();
+        let (long, end) = (256 + record.length(), bytes.len());
         for (at, byte, words) in [
-            (
-                0,
-                0,
-                "header, magic: 0x11eaf100, not 0x11eaf1df".to_string(),
-            ),
-            (
-                4,
-                5,
-                "header, record count: 5, and there are 4 records".to_string(),
-            ),
-            (
-                9,
-                1,
-                format!(
-                    "header, total length: {}, and there are {end} bytes",
-                    end | 256
-                ),
-            ),
-            (
-                third + 1,
-                18,
-                format!("record at {third}, length: 18, below 19"),
-            ),
-            (third, 1, {
-                let length = 256 + record.length();
-                format!("record at {third}, length: {length}, past the end at {end}")
-            }),
-            (
-                name,
-                b'/',
-                format!("record at {third}, name: a slash at {name}"),
-            ),
-            (
-                name,
-                0,
-                format!("record at {third}, name: a zero byte at {name}"),
-            ),
+            (third + 1, 18, "length: 18, below 19".to_string()),
+            (third, 1, format!("length: {long}, past the end at {end}")),
+            (name, b'/', format!("name: a slash at {name}")),
+            (name, 0, format!("name: a zero byte at {name}")),
         ] {
-            assert_eq!(told(at, byte), Some(words));
+            let words = format!("record at {third}, {words}");
+            assert_eq!(told_with(&bytes, at, byte), words);
         }
-        let short = fault(&bytes[..5]).unwrap().to_string();
-        assert_eq!(short, "header: only 5 of its 24 bytes are there");
-        let mut half = [&bytes[..8], &25_u64.to_le_bytes(), &[0; 9]].concat();
+        let half = [&bytes[..8], &25_u64.to_le_bytes(), &[0; 9]].concat();
         let words = "record at 24, length: cut off by the end at 25";
-        assert_eq!(fault(&half).unwrap().to_string(), words);
-        half.clear();
-        assert_eq!(fault(&half), Some(Fault::ShortHeader(0)));
+        assert_eq!(told(&half), words);
     }
 }

@@ -5,7 +5,7 @@ use numbers::link::MAGIC;
 use crate::hex;
 
 /// The attribute whose value a linkEA is.
-const ATTRIBUTE: &str = "trusted.link";
+const ATTRIBUTE: &[u8] = b"trusted.link";
 
 /// How the bytes of a linkEA were given.
 #[derive(Clone, Copy, Debug, PartialEq, Eq)]
@@ -24,30 +24,31 @@ pub fn bytes_of(input: Vec<u8>) -> (Vec<u8>, Form) {
     if input.starts_with(&MAGIC.to_le_bytes()) {
         return (input, Form::Raw);
     }
-    match str::from_utf8(&input).ok().and_then(digits) {
+    match digits(&input) {
         Some(bytes) => (bytes, Form::Digits),
         None => (input, Form::Unknown),
     }
 }
 
-/// The bytes of the one line with digits; empty lines, comments and other attributes may stand
-/// round it.
-fn digits(text: &str) -> Option<Vec<u8>> {
-    let lines = text.lines().map(str::trim_ascii);
+/// The bytes of the one line with digits; empty lines, comments and other attributes, of any
+/// bytes, may stand round it.
+fn digits(input: &[u8]) -> Option<Vec<u8>> {
+    let lines = input.split(|&byte| byte == b'\n').map(<[u8]>::trim_ascii);
     let mut values = lines.filter_map(value);
     let value = values.next().filter(|_| values.next().is_none())?;
-    let digits = value.strip_prefix("0x").or(value.strip_prefix("0X"))?;
-    hex::decode(digits)
+    let digits = value.strip_prefix(b"0x").or(value.strip_prefix(b"0X"))?;
+    hex::decode(str::from_utf8(digits).ok()?)
 }
 
 /// What a line gives for a linkEA, if anything: all of it, or the value of the attribute.
-fn value(line: &str) -> Option<&str> {
-    if line.is_empty() || line.starts_with('#') {
+fn value(line: &[u8]) -> Option<&[u8]> {
+    if line.is_empty() || line.starts_with(b"#") {
         return None;
     }
-    match line.split_once('=') {
-        Some((ATTRIBUTE, value)) => Some(value),
-        Some((name, _)) if name.contains('.') => None,
+    let mut parts = line.splitn(2, |&byte| byte == b'=');
+    match (parts.next(), parts.next()) {
+        (Some(ATTRIBUTE), Some(value)) => Some(value),
+        (Some(name), Some(_)) if name.contains(&b'.') => None,
         _ => Some(line),
     }
 }
@@ -115,7 +116,29 @@ mod tests {
             let bytes = text.as_bytes().to_vec();
             assert_eq!(given(text.as_bytes()), (bytes, Form::Unknown), "{text:?}");
         }
-        let bytes = b"\xffx".to_vec();
-        assert_eq!(given(&bytes), (bytes, Form::Unknown));
+    }
+
+    #[test]
+    fn lines_round_the_digits_may_have_any_bytes() {
+        for input in [
+            &b"# file: caf\xe9\ntrusted.link=0xdff1ea1100\n"[..],
+            b"user.x=\"caf\xe9\"\ntrusted.link=0xdff1ea1100\n",
+            b"trusted.link=0xdff1ea1100\nuser.caf\xe9=0x00\n",
+        ] {
+            let bytes = vec![0xdf, 0xf1, 0xea, 0x11, 0x00];
+            assert_eq!(given(input), (bytes, Form::Digits), "{input:02x?}");
+        }
+        for input in [
+            &b"\xffx"[..],
+            b"0x\xff\xff",
+            b"0x0\xe9",
+            b"\xe90x00",
+            b"trusted.link=0x00\xe9\n",
+            b"trusted.link=0x00\ncaf\xe9\n",
+            b"# file: caf\xe9\n",
+        ] {
+            let bytes = input.to_vec();
+            assert_eq!(given(input), (bytes, Form::Unknown), "{input:02x?}");
+        }
     }
 }

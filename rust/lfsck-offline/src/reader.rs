@@ -130,12 +130,26 @@ fn text(rest: &mut Rest) -> Option<String> {
 fn escaped(rest: &mut Rest) -> Option<char> {
     match rest.next()? {
         letter @ ('"' | '\\') => Some(letter),
-        'u' => {
-            let digits: String = rest.by_ref().take(4).collect();
-            char::from_u32(u32::from_str_radix(&digits, 16).ok()?)
-        }
+        'u' => numbered(rest),
         _ => None,
     }
+}
+
+/// The character of four digits, or of a pair of four.
+fn numbered(rest: &mut Rest) -> Option<char> {
+    let first = unit(rest)?;
+    let mut units = vec![first];
+    if (0xd800..0xdc00).contains(&first) {
+        take(rest, '\\')?;
+        take(rest, 'u')?;
+        units.push(unit(rest)?);
+    }
+    char::decode_utf16(units).next()?.ok()
+}
+
+fn unit(rest: &mut Rest) -> Option<u16> {
+    let digits: String = rest.by_ref().take(4).collect();
+    u16::from_str_radix(&digits, 16).ok()
 }
 
 fn members(
@@ -162,19 +176,21 @@ mod tests {
     use super::*;
     use crate::json::Json;
 
+    const TEXT: &str = "a \"b\" \\ \n é \u{ffff}\u{10000}\u{1f600}\u{10ffff}";
+
     #[test]
     fn what_is_printed_is_read() {
         let printed = Json::Object(vec![
             ("none", Json::Null),
             ("list", Json::List(vec![Json::Number(17), Json::Bool(true)])),
-            ("text", Json::text("a \"b\" \\ \n é")),
+            ("text", Json::text(TEXT)),
             ("empty", Json::Object(Vec::new())),
         ]);
         let value = Value::parse(printed.line().trim_end()).expect("a value");
         assert_eq!(value.get("none"), Some(&Value::Null));
         let list = [Value::Number(17), Value::Bool(true)];
         assert_eq!(value.list("list"), Some(&list[..]));
-        assert_eq!(value.text("text"), Some("a \"b\" \\ \n é"));
+        assert_eq!(value.text("text"), Some(TEXT));
         assert_eq!(value.get("empty"), Some(&Value::Object(Vec::new())));
         assert_eq!(value.get("other"), None);
     }
@@ -199,6 +215,12 @@ mod tests {
             "18446744073709551616",
             "\"\\u12\"",
             "\"\\ud800\"",
+            "\"\\ud800x\"",
+            "\"\\ud800\\n\"",
+            "\"\\ud800\\u0041\"",
+            "\"\\ud800\\ud800\"",
+            "\"\\udc00\"",
+            "\"\\udc00\\ud800\"",
             &deep,
         ] {
             assert_eq!(Value::parse(text), None, "{:.20}", text);

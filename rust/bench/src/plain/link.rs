@@ -62,40 +62,52 @@ pub fn link_write(
     if !rest.is_empty() || records.len() as u64 != count || wide {
         return BAD_LINK;
     }
-    let mut bytes = HEADER as u64;
-    for record in records {
-        let Some(name) = name_of(record, names).filter(|_| fits(record[1]) && fits(record[2]))
-        else {
-            return BAD_LINK;
-        };
-        bytes += (NAME_AT + name.len()) as u64;
-    }
-    if bytes != total {
+    if total_of(records, names) != Some(total) {
         return BAD_LINK;
     }
     if (destination.len() as u64) < total {
         return NO_ROOM;
     }
-    destination[MAGIC_AT..COUNT_AT].copy_from_slice(&MAGIC.to_le_bytes());
-    destination[COUNT_AT..TOTAL_AT].copy_from_slice(&(count as u32).to_le_bytes());
-    destination[TOTAL_AT..TIME_AT].copy_from_slice(&total.to_le_bytes());
-    destination[TIME_AT..PADDING_AT].copy_from_slice(&(time as u32).to_le_bytes());
-    destination[PADDING_AT..HEADER].copy_from_slice(&(padding as u32).to_le_bytes());
+    put_header(fields, destination);
     let mut at = HEADER;
-    for &[sequence, id, version, start, length] in records {
-        let name = &names[start as usize..][..length as usize];
-        let to = &mut destination[at..at + NAME_AT + name.len()];
-        at += to.len();
-        let length = to.len() as u16;
-        to[..PARENT_AT].copy_from_slice(&length.to_be_bytes());
-        let (parent, rest) = to[PARENT_AT..].split_at_mut(NAME_AT - PARENT_AT);
-        parent[..ID_AT].copy_from_slice(&sequence.to_be_bytes());
-        parent[ID_AT..VERSION_AT].copy_from_slice(&(id as u32).to_be_bytes());
-        parent[VERSION_AT..].copy_from_slice(&(version as u32).to_be_bytes());
-        rest.copy_from_slice(name);
+    for record in records {
+        at += put_record(record, names, &mut destination[at..]);
     }
     *out = total;
     OK
+}
+
+/// The bytes of a linkEA of these records, if they are good.
+fn total_of(records: &[[u64; LINK_WRITTEN]], names: &[u8]) -> Option<u64> {
+    let mut bytes = HEADER as u64;
+    for record in records {
+        let name = name_of(record, names).filter(|_| fits(record[1]) && fits(record[2]))?;
+        bytes += (NAME_AT + name.len()) as u64;
+    }
+    Some(bytes)
+}
+
+fn put_header(&[count, total, time, padding]: &[u64; LINK_HEADER], to: &mut [u8]) {
+    to[MAGIC_AT..COUNT_AT].copy_from_slice(&MAGIC.to_le_bytes());
+    to[COUNT_AT..TOTAL_AT].copy_from_slice(&(count as u32).to_le_bytes());
+    to[TOTAL_AT..TIME_AT].copy_from_slice(&total.to_le_bytes());
+    to[TIME_AT..PADDING_AT].copy_from_slice(&(time as u32).to_le_bytes());
+    to[PADDING_AT..HEADER].copy_from_slice(&(padding as u32).to_le_bytes());
+}
+
+/// Writes a good record, and gives its length.
+fn put_record(record: &[u64; LINK_WRITTEN], names: &[u8], to: &mut [u8]) -> usize {
+    let &[sequence, id, version, start, length] = record;
+    let name = &names[start as usize..][..length as usize];
+    let to = &mut to[..NAME_AT + name.len()];
+    let length = to.len() as u16;
+    to[..PARENT_AT].copy_from_slice(&length.to_be_bytes());
+    let (parent, rest) = to[PARENT_AT..].split_at_mut(NAME_AT - PARENT_AT);
+    parent[..ID_AT].copy_from_slice(&sequence.to_be_bytes());
+    parent[ID_AT..VERSION_AT].copy_from_slice(&(id as u32).to_be_bytes());
+    parent[VERSION_AT..].copy_from_slice(&(version as u32).to_be_bytes());
+    rest.copy_from_slice(name);
+    length.into()
 }
 
 /// Whether bytes are a linkEA: header, then each record and its name, then the count.

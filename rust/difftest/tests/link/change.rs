@@ -1,7 +1,7 @@
 //! Changes to the bytes of a linkEA.
 
 use difftest::Random;
-use reference::link::Link;
+use reference::link::{Link, Record};
 
 /// What is done to the bytes. Those that end in `Agreed` bring total or count along, so that one
 /// condition is broken and no other.
@@ -70,40 +70,16 @@ impl Change {
         let mut bytes = link.encode();
         match self {
             Change::None => (),
-            Change::Cut => bytes.truncate(random.below(bytes.len())),
-            Change::CutShort => bytes.truncate(bytes.len() - 1 - random.below(20)),
-            Change::CutAgreed => {
-                bytes.truncate(24 + random.below(bytes.len() - 23));
-                agree(&mut bytes);
-            }
-            Change::CutHeader => bytes.truncate(random.below(24)),
-            Change::CutHeaderAgreed => {
-                bytes.truncate(24);
-                let left = random.below(24);
-                put(&mut bytes, 4, &0_u32.to_le_bytes());
-                put(&mut bytes, 8, &(left as u64).to_le_bytes());
-                bytes.truncate(left);
-            }
-            Change::Stretched | Change::StretchedAgreed => {
-                let mut more = vec![0; 1 + random.below(30)];
-                let from = random.pick(&[0, 1, 2]).min(more.len());
-                random.fill(&mut more[from..]);
-                bytes.extend(more);
-                if self == Change::StretchedAgreed {
-                    agree(&mut bytes);
-                }
-            }
-            Change::StretchedByRecord | Change::StretchedByRecordAgreed => {
-                bytes.extend(last_record(link));
-                if self == Change::StretchedByRecordAgreed {
-                    agree(&mut bytes);
-                }
-            }
-            Change::HalfLengthAgreed => {
-                bytes.push(random.pick(&[0, 1, 19, 255]));
-                agree(&mut bytes);
-                add_to_count(&mut bytes, 1);
-            }
+            Change::Cut
+            | Change::CutShort
+            | Change::CutAgreed
+            | Change::CutHeader
+            | Change::CutHeaderAgreed => self.cut(&mut bytes, random),
+            Change::Stretched
+            | Change::StretchedAgreed
+            | Change::StretchedByRecord
+            | Change::StretchedByRecordAgreed
+            | Change::HalfLengthAgreed => self.stretch(link, &mut bytes, random),
             Change::AnyByte => {
                 let at = random.below(bytes.len());
                 bytes[at] ^= 1 << random.below(8);
@@ -114,6 +90,48 @@ impl Change {
             _ => self.make_in_record(link, &mut bytes, random),
         }
         bytes
+    }
+
+    fn cut(self, bytes: &mut Vec<u8>, random: &mut Random) {
+        match self {
+            Change::Cut => bytes.truncate(random.below(bytes.len())),
+            Change::CutShort => bytes.truncate(bytes.len() - 1 - random.below(20)),
+            Change::CutAgreed => {
+                bytes.truncate(24 + random.below(bytes.len() - 23));
+                agree(bytes);
+            }
+            Change::CutHeader => bytes.truncate(random.below(24)),
+            Change::CutHeaderAgreed => {
+                bytes.truncate(24);
+                let left = random.below(24);
+                put(bytes, 4, &0_u32.to_le_bytes());
+                put(bytes, 8, &(left as u64).to_le_bytes());
+                bytes.truncate(left);
+            }
+            _ => unreachable!("{self:?} cuts nothing off"),
+        }
+    }
+
+    fn stretch(self, link: &Link, bytes: &mut Vec<u8>, random: &mut Random) {
+        match self {
+            Change::Stretched | Change::StretchedAgreed => {
+                let mut more = vec![0; 1 + random.below(30)];
+                let from = random.pick(&[0, 1, 2]).min(more.len());
+                random.fill(&mut more[from..]);
+                bytes.extend(more);
+            }
+            Change::StretchedByRecord | Change::StretchedByRecordAgreed => {
+                bytes.extend(last_record(link));
+            }
+            Change::HalfLengthAgreed => {
+                bytes.push(random.pick(&[0, 1, 19, 255]));
+                add_to_count(bytes, 1);
+            }
+            _ => unreachable!("{self:?} adds nothing"),
+        }
+        if !matches!(self, Change::Stretched | Change::StretchedByRecord) {
+            agree(bytes);
+        }
     }
 
     fn make_in_header(self, bytes: &mut [u8], random: &mut Random) {
@@ -155,43 +173,32 @@ impl Change {
         }
     }
 
-    /// A change to one record, if there is any.
-    fn make_in_record(self, link: &Link, bytes: &mut Vec<u8>, random: &mut Random) {
-        let count = link.records.len();
-        if count == 0 {
-            return;
-        }
+    /// The place of the record to be changed and the record, if there is any.
+    fn record_of<'link>(
+        self,
+        link: &'link Link,
+        random: &mut Random,
+    ) -> Option<(usize, &'link Record)> {
         let last = matches!(
             self,
             Change::LastLengthShort | Change::LastLengthLong | Change::LastShortAgreed
         );
-        let which = if last { count - 1 } else { random.below(count) };
-        let Some((at, record)) = link.placed().nth(which) else {
+        match link.records.len() {
+            0 => None,
+            count if last => link.placed().nth(count - 1),
+            count => link.placed().nth(random.below(count)),
+        }
+    }
+
+    /// A change to one record, if there is any.
+    fn make_in_record(self, link: &Link, bytes: &mut Vec<u8>, random: &mut Random) {
+        let Some((at, record)) = self.record_of(link, random) else {
             return;
         };
         let (length, name) = (record.length() as u16, at + 18..at + record.length());
         match self {
-            Change::RecordLength => {
-                let other = random.pick(&[
-                    0,
-                    1,
-                    2,
-                    18,
-                    19,
-                    20,
-                    length.wrapping_sub(1),
-                    length.wrapping_add(1),
-                    length.swap_bytes(),
-                    u16::MAX,
-                ]);
-                put(bytes, at, &other.to_be_bytes());
-            }
-            Change::LastLengthShort => {
-                put(bytes, at, &(random.below(19) as u16).to_be_bytes());
-            }
-            Change::LastLengthLong => {
-                let more = random.pick(&[1, 2, 256, u16::MAX - length]);
-                put(bytes, at, &length.saturating_add(more).to_be_bytes());
+            Change::RecordLength | Change::LastLengthShort | Change::LastLengthLong => {
+                put(bytes, at, &self.other_length(length, random).to_be_bytes());
             }
             Change::LastShortAgreed => {
                 let short = random.pick(&[2_u16, 10, 17, 18, 18, 18]);
@@ -208,6 +215,32 @@ impl Change {
             Change::Slash => bytes[random.pick_in(name)] = b'/',
             Change::Zero => bytes[random.pick_in(name)] = 0,
             _ => unreachable!("{self:?} is no change to a record"),
+        }
+    }
+
+    /// Another length of a record, too short or too long where the change says so.
+    fn other_length(self, length: u16, random: &mut Random) -> u16 {
+        match self {
+            Change::LastLengthShort => random.below(19) as u16,
+            Change::LastLengthLong => {
+                length.saturating_add(random.pick(&[1, 2, 256, u16::MAX - length]))
+            }
+            _ => {
+                let less = length.wrapping_sub(1);
+                let more = length.wrapping_add(1);
+                random.pick(&[
+                    0,
+                    1,
+                    2,
+                    18,
+                    19,
+                    20,
+                    less,
+                    more,
+                    length.swap_bytes(),
+                    u16::MAX,
+                ])
+            }
         }
     }
 }

@@ -10,7 +10,7 @@ use crate::pasted::{self, Form};
 use crate::quoted::quoted;
 use crate::source::Source;
 
-/// The most bytes of an input. Linux has no attribute of more than 65,536, which is twice as many
+/// The most bytes of an input. Linux has no attribute of more than 65,536 bytes, which are 131,072
 /// digits; and for each record the library looks at the whole linkEA.
 const MOST_BYTES: usize = 1 << 18;
 /// The least width of a FID.

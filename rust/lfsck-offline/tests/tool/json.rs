@@ -104,7 +104,7 @@ fn text(rest: &mut Rest) -> String {
             '"' => return text,
             '\\' => text.push(escaped(rest)),
             letter => {
-                assert!(letter >= ' ', "a bare control letter");
+                assert!((' '..='~').contains(&letter), "a bare {letter:?}");
                 text.push(letter);
             }
         }
@@ -114,13 +114,28 @@ fn text(rest: &mut Rest) -> String {
 fn escaped(rest: &mut Rest) -> char {
     match rest.next().expect("an escape") {
         letter @ ('"' | '\\' | '/') => letter,
-        'u' => {
-            let digits: String = rest.by_ref().take(4).collect();
-            let code = u32::from_str_radix(&digits, 16).expect("four digits");
-            char::from_u32(code).expect("a letter")
-        }
+        'u' => numbered(rest),
         other => panic!("escape {other}"),
     }
+}
+
+/// The character of four digits, or of a pair of four.
+fn numbered(rest: &mut Rest) -> char {
+    let first = unit(rest);
+    let mut units = vec![first];
+    if (0xd800..0xdc00).contains(&first) {
+        take(rest, '\\');
+        take(rest, 'u');
+        units.push(unit(rest));
+    }
+    let text = String::from_utf16(&units).expect("a character");
+    text.chars().next().expect("a character")
+}
+
+fn unit(rest: &mut Rest) -> u16 {
+    let digits: String = rest.by_ref().take(4).collect();
+    assert!(digits.len() == 4 && !digits.starts_with('+'), "{digits}");
+    u16::from_str_radix(&digits, 16).expect("four digits")
 }
 
 fn list(rest: &mut Rest) -> Value {
