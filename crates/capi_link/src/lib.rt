@@ -130,10 +130,10 @@ fn write_given(
     ensures dest { λ _. ⌜ now (dest .exit) ≡ givenDest h (now (records .entry)) (now (names .entry)) (now (dest .entry)) (now (out .entry)) ⌝ }
     ensures out { λ _. ⌜ now (out .exit) ≡ givenOut h (now (records .entry)) (now (names .entry)) (now (dest .entry)) (now (out .entry)) ⌝ }
 {
-    if linkea_write::refused_given(h, records, names) {
-        return 31;
-    }
     if out.len() < 1 {
+        if linkea_write::refused_given(h, records, names) {
+            return 31;
+        }
         return 17;
     }
     let written = linkea_write::write(h, records, names, dest);

@@ -8,10 +8,10 @@ refused-given-requires : tie.Need-refused-given-requires
 refused-given-requires c κs = search needs
 
 returns : tie.Need-returns
-returns c = write-refused _ _ _ _ _ (sym (c .before .refused-given .ensures) ∙ c .if1 .taken)
+returns c = write-refused _ _ _ _ _ (sym (c .before .refused-given .ensures) ∙ c .if2 .taken)
 
 returns-2 : tie.Need-returns-2
-returns-2 c = write-unplaced _ _ _ _ _ (sym (c .before .before .refused-given .ensures) ∙ c .before .if1 .left) (c .if2 .taken)
+returns-2 c = write-unplaced _ _ _ _ _ (sym (c .before .refused-given .ensures) ∙ c .if2 .left) (c .before .before .if1 .taken)
 
 write-requires : tie.Need-write-requires
 write-requires c κs = search needs
@@ -47,7 +47,7 @@ same-length-4 : tie.Need-same-length-4
 same-length-4 c = search needs
 
 returns-5 : tie.Need-returns-5
-returns-5 c = write-done _ _ _ _ _ (c .before .before .before .before .before .written .given .0 .0) _ _ (sym (c .before .before .before .before .before .before .before .before .before .write .ensures .0) ∙ c .before .before .before .before .before .written .given .1) (c .before .before .before .before .before .before .before .before .before .before .before .if2 .left) (c .before .before .before .before .before .before .before .before .before .write .ensures .1) (c .before .before .put .ensures)
+returns-5 c = write-done _ _ _ _ _ (c .before .before .before .before .before .written .given .0 .0) _ _ (sym (c .before .before .before .before .before .before .before .before .before .write .ensures .0) ∙ c .before .before .before .before .before .written .given .1) (c .before .before .before .before .before .before .before .before .before .before .before .if1 .left) (c .before .before .before .before .before .before .before .before .before .write .ensures .1) (c .before .before .put .ensures)
 
 pub write-given-spec : {M : Type 1} → statement M
 write-given-spec =
