@@ -6,7 +6,7 @@ use mathlib.Core.List.{List, [], _∷_}
 use lib.Dec.{eqb, ltb}
 use lib.ListN.{length}
 use Rattle.theorems.specs.Calls.{Lent, RunCall, call, number, Accepted, ran, leaves, after}
-use Rattle.capi_run.specs.Runs.{Called, unwritten, called}
+use Rattle.capi_run.specs.Runs.{reportSize, Called, unwritten, called}
 use Rattle.capi_tables.specs.Tables.{positionGiven}
 
 -- what a call of `lfsck_run` is lent beside the tables, and its numbers
@@ -35,7 +35,7 @@ asked c = call (c .policy) (c .reserve) (c .steps) (positionGiven (c .position))
 
 -- "17 (after 11 to 16) where the report has fewer than 9"
 unfoldable pub short : NumberCall → Bool
-short c = ltb (length (c .report)) 9
+short c = ltb (length (c .report)) reportSize
 
 -- the run calls of a list: those that have room for the report
 unfoldable pub runCalls : List NumberCall → List RunCall

@@ -1,16 +1,20 @@
 -- A run for C: the position in and out, the report as nine numbers.
-use Prim.Native.Nat.{ℕ}
+use Prim.Native.Nat.{ℕ, _+_}
 use mathlib.Core.List.{List, _∷_}
 use mathlib.Core.Bool.{cond}
 use lib.Dec.{eqb, ltb}
 use lib.ListN.{length}
 use lib.Seq.{sets}
 use Rattle.tables.specs.Check.{checkNumber}
+use Rattle.rules.specs.Runs.{repairKinds}
 use Rattle.rules.specs.declared.Report.{Report}
 use Rattle.engine.specs.RunBytes.{Ran, runBytes}
 use Rattle.capi_tables.specs.Tables.{positionNumbers, positionGiven}
 
 -- "steps done, then the repairs of SELF, MULTIPLE, DANGLING, BLANK, UNMATCHED, OWNER, EMPTY, ORPHAN"
+abbrev pub reportSize : ℕ
+reportSize = 1 + repairKinds
+
 unfoldable pub reportNumbers : Report → List ℕ
 reportNumbers r = r .steps ∷ r .counts .of
 
@@ -41,7 +45,7 @@ handedOut x position report =
 unfoldable pub called : List ℕ → List ℕ → List ℕ → ℕ → ℕ → List ℕ → List ℕ → Called
 called parents objects reserve policy most position report =
     cond (eqb (checkNumber parents objects reserve policy (positionGiven position)) 0)
-    (cond (ltb (length report) 9)
+    (cond (ltb (length report) reportSize)
     (unwritten 17 parents objects position report)
     (handedOut (runBytes parents objects reserve policy most (positionGiven position)) position report))
     (unwritten (checkNumber parents objects reserve policy (positionGiven position)) parents objects position report)

@@ -6,14 +6,14 @@ ghost use mathlib.Core.Path.{_≡_};
 ghost use Prim.Native.Nat.{_≤_};
 ghost use lib.ListN.{length};
 ghost use lib.Seq.{sets};
-ghost use Rattle.capi_run.specs.Runs.{reportNumbers, called};
+ghost use Rattle.capi_run.specs.Runs.{reportSize, reportNumbers, called};
 
 // The numbers of a report: the steps, and the repairs of each class.
 const REPORT_SIZE: usize = 1 + REPAIRS;
 
 // Stores the repairs by class.
 fn put_counts(out: &mut [u64], c: Counts)
-    requires { ⌜ 9 ≤ length (now out) ⌝ }
+    requires { ⌜ reportSize ≤ length (now out) ⌝ }
     ensures { λ _. ⌜ now (out .exit) ≡ sets (now (out .entry)) 1 (c .of) ⌝ }
 {
     let of = c.of;
@@ -24,7 +24,7 @@ fn put_counts(out: &mut [u64], c: Counts)
 
 // Stores the nine numbers of a report.
 fn put_report(out: &mut [u64], r: Report)
-    requires { ⌜ 9 ≤ length (now out) ⌝ }
+    requires { ⌜ reportSize ≤ length (now out) ⌝ }
     ensures { λ _. ⌜ now (out .exit) ≡ sets (now (out .entry)) 0 (reportNumbers r) ⌝ }
 {
     capi_out::put(out, 0, r.steps);

@@ -2,6 +2,8 @@
 use super::pieces;
 use fid::MdtFid;
 use layout::Header;
+use layout::PLAIN_HEADER;
+use layout::SLOT_SIZE;
 use layout::Slot;
 use tables::Owner;
 use tables::rows;
@@ -66,15 +68,18 @@ pub fn grow(row: &mut [u8], i: usize, s: Slot)
     let h = layout::read_header(l);
     let start = layout::slot_start(l);
     let n = layout::stripe_count(l) as usize;
-    let size = start + 24 * (i + 1);
+    let size = start + SLOT_SIZE * (i + 1);
     wire::put_le16(row, LENGTH_AT, size as u16);
     pieces::put_header(row, ROOM_AT, h, (i + 1) as u16);
-    pieces::put_holes(row, ROOM_AT + start + 24 * n, i + 1 - n);
-    pieces::put_slot(row, ROOM_AT + start + 24 * i, s);
+    pieces::put_holes(row, ROOM_AT + start + SLOT_SIZE * n, i + 1 - n);
+    pieces::put_slot(row, ROOM_AT + start + SLOT_SIZE * i, s);
 }
 
+// The stripe size of a parent that is made.
+const MADE_STRIPE: u32 = 1048576;
+
 // Where the slots of a layout of version 1 stand in its row.
-const SLOTS_AT: usize = ROOM_AT + 32;
+const SLOTS_AT: usize = ROOM_AT + PLAIN_HEADER;
 
 // The header of a parent that is made.
 fn made_header(f: MdtFid) -> Header
@@ -86,7 +91,7 @@ fn made_header(f: MdtFid) -> Header
         pattern: layout::HOLE_PATTERN,
         oid: own.oid as u64,
         seq: own.seq,
-        stripe: 1048576,
+        stripe: MADE_STRIPE,
         generation: 0,
     }
 }
@@ -108,9 +113,9 @@ pub fn make(row: &mut [u8], f: MdtFid, i: usize, w: Owner, s: Slot)
     requires { ⌜ (length (now row) ≡ parentSize) × (i < maxSlots) ⌝ }
     ensures { λ _. ⌜ now (row .exit) ≡ renderParent (withSlot (made f i w (drop 1 (now (row .entry)))) i s) ⌝ }
 {
-    let size = 32 + 24 * (i + 1);
+    let size = PLAIN_HEADER + SLOT_SIZE * (i + 1);
     put_front(row, f, w, size as u16);
     pieces::put_header(row, ROOM_AT, made_header(f), (i + 1) as u16);
     pieces::put_holes(row, SLOTS_AT, i + 1);
-    pieces::put_slot(row, SLOTS_AT + 24 * i, s);
+    pieces::put_slot(row, SLOTS_AT + SLOT_SIZE * i, s);
 }
