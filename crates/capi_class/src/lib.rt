@@ -67,6 +67,7 @@ fn slot_numbers(c: SlotClass) -> ClassNumbers
             }
         }
         SlotClass::OWNER => bare(7),
+        SlotClass::WRONGOST => bare(14),
     }
 }
 

@@ -1,4 +1,4 @@
--- A run for C: the position in and out, the report as nine numbers.
+-- A run for C: the position in and out, the report as numbers.
 use Prim.Native.Nat.{ℕ, _+_}
 use mathlib.Core.List.{List, _∷_}
 use mathlib.Core.Bool.{cond}
@@ -11,7 +11,7 @@ use Rattle.rules.specs.declared.Report.{Report}
 use Rattle.engine.specs.RunBytes.{Ran, runBytes}
 use Rattle.capi_tables.specs.Tables.{positionNumbers, positionGiven}
 
--- "steps done, then the repairs of SELF, MULTIPLE, DANGLING, BLANK, UNMATCHED, OWNER, EMPTY, ORPHAN"
+-- "steps done, then the repairs of SELF, MULTIPLE, DANGLING, BLANK, UNMATCHED, OWNER, EMPTY, ORPHAN", then of WRONG-OST
 abbrev pub reportSize : ℕ
 reportSize = 1 + repairKinds
 

@@ -22,7 +22,7 @@ fn put_counts(out: &mut [u64], c: Counts)
     }
 }
 
-// Stores the nine numbers of a report.
+// Stores the numbers of a report.
 fn put_report(out: &mut [u64], r: Report)
     requires { ⌜ reportSize ≤ length (now out) ⌝ }
     ensures { λ _. ⌜ now (out .exit) ≡ sets (now (out .entry)) 0 (reportNumbers r) ⌝ }

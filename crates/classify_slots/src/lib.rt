@@ -18,7 +18,7 @@ ghost use Rattle.tables.specs.Bytes.{parentSize, parse};
 ghost use Rattle.tables.specs.Check.{Sound};
 ghost use Rattle.rules.specs.Rows.{sameOwner};
 ghost use Rattle.rules.specs.Keeper.{isPlace};
-ghost use Rattle.rules.specs.Classes.{claimClass, keeperClass, slotClass};
+ghost use Rattle.rules.specs.Classes.{claimedClass, claimClass, keeperClass, slotClass};
 ghost use Rattle.rules.specs.Places.{placeAt};
 
 // Whether what a search found is slot j of row r.
@@ -46,9 +46,23 @@ pub fn same_owner(a: Owner, b: Owner) -> bool
     a.gid == b.gid
 }
 
-// The class of slot j of this file, the keeper of an object with this claim: BLANK, UNMATCHED, OWNER, CLEAN.
-fn claim_class(file: MdtFid, j: usize, owned: bool, claim: Claim) -> SlotClass
-    ensures { λ c. ⌜ c ≡ claimClass (placeAt file j) owned claim ⌝ }
+// The class of a keeper whose object claims it, by whether the object is on the slot's OST and has the file's owner: WRONG-OST,
+// then OWNER, then CLEAN.
+fn claimed_class(there: bool, owned: bool) -> SlotClass
+    ensures { λ c. ⌜ c ≡ claimedClass there owned ⌝ }
+{
+    if !there {
+        return SlotClass::WRONGOST;
+    }
+    if !owned {
+        return SlotClass::OWNER;
+    }
+    SlotClass::CLEAN
+}
+
+// The class of slot j of this file, the keeper of an object with this claim: BLANK, then UNMATCHED, then what its claim leaves.
+fn claim_class(file: MdtFid, j: usize, there: bool, owned: bool, claim: Claim) -> SlotClass
+    ensures { λ c. ⌜ c ≡ claimClass (placeAt file j) there owned claim ⌝ }
 {
     match claim {
         Claim::Unclaimed => SlotClass::BLANK,
@@ -57,25 +71,22 @@ fn claim_class(file: MdtFid, j: usize, owned: bool, claim: Claim) -> SlotClass
                 let f = place.file;
                 return SlotClass::UNMATCHED(f, place.index);
             }
-            if owned {
-                SlotClass::CLEAN
-            } else {
-                SlotClass::OWNER
-            }
+            claimed_class(there, owned)
         }
     }
 }
 
-// The class of slot j of this file, with this owner, the keeper of what was found: DANGLING where it is absent.
-fn keeper_class(file: MdtFid, owner: Owner, j: usize, found: Lookup) -> SlotClass
-    ensures { λ c. ⌜ c ≡ keeperClass (placeAt file j) owner found ⌝ }
+// The class of slot j of this file, with this owner, the keeper of what was found, which it names on this OST: DANGLING where
+// it is absent.
+fn keeper_class(file: MdtFid, owner: Owner, j: usize, ost: u32, found: Lookup) -> SlotClass
+    ensures { λ c. ⌜ c ≡ keeperClass (placeAt file j) ost owner found ⌝ }
 {
     match found {
         Lookup::Missing => SlotClass::DANGLING,
         Lookup::Present(x) => {
             let theirs = x.owner;
             let claim = x.claim;
-            claim_class(file, j, same_owner(theirs, owner), claim)
+            claim_class(file, j, x.ost == ost, same_owner(theirs, owner), claim)
         }
     }
 }
@@ -88,14 +99,14 @@ pub fn slot_class(parents: &[u8], objects: &[u8], r: usize, j: usize) -> SlotCla
     let slot = search::slots::slot_of(parents, r, j);
     match slot {
         Slot::Hole => SlotClass::HOLE,
-        Slot::Names(f, _, _) => {
+        Slot::Names(f, _, ost) => {
             let found = objects::lookup(objects, f);
             let keeper = keeper::keeper_by(parents, f, keeper::claim_in(found));
             if !is_place(keeper, r, j) {
                 return SlotClass::MULTIPLE;
             }
             let row = rows::row_at(parents, PARENT_SIZE, r);
-            keeper_class(rows::self_of(row), rows::owner_of(row), j, found)
+            keeper_class(rows::self_of(row), rows::owner_of(row), j, ost, found)
         }
     }
 }

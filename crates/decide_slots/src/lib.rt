@@ -1,5 +1,6 @@
 // The step of a header or a slot, decided.
 use classify_places::headers;
+use classify_places::places;
 use fid::OstFid;
 use layout::Slot;
 use rules::HeaderClass;
@@ -23,7 +24,7 @@ ghost use Rattle.tables.specs.Check.{Sound};
 ghost use Rattle.tables.specs.Positions.{rowAt};
 ghost use Rattle.rules.specs.Rows.{objectRow, freeObject, slotAt};
 ghost use Rattle.rules.specs.Classes.{headerClass, slotClass};
-ghost use Rattle.rules.specs.Repairs.{repairHeader, newObject, mended, mendAt, usable, redirect, redirectTo, makeObject, repairSlot};
+ghost use Rattle.rules.specs.Repairs.{repairHeader, newObject, mended, mendWrite, indexWrite, mendAt, usable, redirect, redirectTo, makeObject, repairSlot};
 ghost use Rattle.rules.specs.Steps.{slotStep};
 ghost use Rattle.stores.specs.UsedRow.{UsedAt};
 ghost use Rattle.writes.specs.Plan.{Decides};
@@ -146,18 +147,46 @@ fn mended(parents: &[u8], r: usize, j: u32, x: Object) -> Object
     }
 }
 
-// BLANK, UNMATCHED and OWNER: claim and owner are written in the object's row.
-fn mend(parents: &[u8], objects: &[u8], class: Repair, r: usize, j: u32, f: OstFid) -> Step
+// The keeper's object in row o, mended: no write where its claim and its owner are right already.
+fn mend_write(parents: &[u8], r: usize, j: u32, o: usize, x: Object) -> Write
+    requires { ⌜ UsedAt (now parents) r ⌝ }
+    ensures { λ w. ⌜ w ≡ mendWrite (parseParents (now (parents .entry))) r j o x ⌝ }
+{
+    let row = rows::row_at(parents, PARENT_SIZE, r);
+    let claim = x.claim;
+    let owner = x.owner;
+    if places::claim_is(claim, rows::self_of(row), j as usize) {
+        if classify_slots::same_owner(owner, rows::owner_of(row)) {
+            return Write::Nothing;
+        }
+    }
+    Write::Object(o, mended(parents, r, j, x))
+}
+
+// Slot j of row r, which names object f with this generation, with the object's index: no write where it has that index already.
+fn index_write(r: usize, j: u32, f: OstFid, generation: u32, ost: u32, index: u32) -> Write
+    ensures { λ w. ⌜ w ≡ indexWrite r j f generation ost index ⌝ }
+{
+    if index == ost {
+        return Write::Nothing;
+    }
+    Write::Slot(r, j as usize, Slot::Names(f, generation, index))
+}
+
+// BLANK, UNMATCHED, WRONG-OST and OWNER: claim and owner are written in the object's row, then its index in the slot.
+fn mend(parents: &[u8], objects: &[u8], class: Repair, r: usize, j: u32, f: OstFid, generation: u32, ost: u32) -> Step
     requires { ⌜ SlotReady (now parents) (now objects) r j ⌝ }
-    ensures { λ d. ⌜ Decides (now (parents .entry)) (now (objects .entry)) d (λ T. mendAt T class r j (objectRow (T .objects) f)) ⌝ }
+    ensures { λ d. ⌜ Decides (now (parents .entry)) (now (objects .entry)) d (λ T. mendAt T class r j f generation ost (objectRow (T .objects) f)) ⌝ }
 {
     let found = search::objects::object_row(objects, f);
     match found {
         Row::NoRow => Step::Rests,
         Row::RowIs(o) => {
             let x = rows::decode_object(rows::row_at(objects, OBJECT_SIZE, o));
-            let y = mended(parents, r, j, x);
-            Step::Repairs(class, Write::Object(o, y), Write::Nothing, Write::Nothing)
+            let index = x.ost;
+            let object = mend_write(parents, r, j, o, x);
+            let layout = index_write(r, j, f, generation, ost, index);
+            Step::Repairs(class, object, layout, Write::Nothing)
         }
     }
 }
@@ -169,7 +198,7 @@ fn creates(policy: u64) -> bool
     policy % 2 == 1
 }
 
-// Slot j of row r, which names object f on an OST, by its class.
+// Slot j of row r, which names object f with a generation on an OST, by its class.
 fn named_slot(
     parents: &[u8],
     objects: &[u8],
@@ -178,10 +207,11 @@ fn named_slot(
     r: usize,
     j: u32,
     f: OstFid,
+    generation: u32,
     ost: u32,
 ) -> Step
     requires { ⌜ SlotReady (now parents) (now objects) r j ⌝ }
-    ensures { λ d. ⌜ Decides (now (parents .entry)) (now (objects .entry)) d (λ T. repairSlot (settingsOf policy (now (reserve .entry))) T r j f ost (slotClass T r j)) ⌝ }
+    ensures { λ d. ⌜ Decides (now (parents .entry)) (now (objects .entry)) d (λ T. repairSlot (settingsOf policy (now (reserve .entry))) T r j f generation ost (slotClass T r j)) ⌝ }
 {
     let class = classify_slots::slot_class(parents, objects, r, j as usize);
     match class {
@@ -199,9 +229,10 @@ fn named_slot(
             }
             make_object(parents, objects, r, j, ost, f)
         }
-        SlotClass::BLANK => mend(parents, objects, Repair::OfBlank, r, j, f),
-        SlotClass::UNMATCHED(_, _i) => mend(parents, objects, Repair::OfUnmatched, r, j, f),
-        SlotClass::OWNER => mend(parents, objects, Repair::OfOwner, r, j, f),
+        SlotClass::BLANK => mend(parents, objects, Repair::OfBlank, r, j, f, generation, ost),
+        SlotClass::UNMATCHED(_, _i) => mend(parents, objects, Repair::OfUnmatched, r, j, f, generation, ost),
+        SlotClass::WRONGOST => mend(parents, objects, Repair::OfWrongOst, r, j, f, generation, ost),
+        SlotClass::OWNER => mend(parents, objects, Repair::OfOwner, r, j, f, generation, ost),
     }
 }
 
@@ -213,7 +244,7 @@ pub fn slot(parents: &[u8], objects: &[u8], reserve: &[u8], policy: u64, r: usiz
     let slot = search::slots::slot_of(parents, r, j);
     match slot {
         Slot::Hole => Step::Rests,
-        Slot::Names(f, _, ost) => named_slot(
+        Slot::Names(f, generation, ost) => named_slot(
             parents,
             objects,
             reserve,
@@ -221,6 +252,7 @@ pub fn slot(parents: &[u8], objects: &[u8], reserve: &[u8], policy: u64, r: usiz
             r,
             j as u32,
             f,
+            generation,
             ost,
         ),
     }
