@@ -11,12 +11,12 @@ use Rattle.tables.specs.declared.Claim.{Claim}
 use Rattle.tables.specs.declared.Claim.the-variants.{Claims}
 use Rattle.rules.specs.Rows.{sameOwner}
 use Rattle.rules.specs.Keeper.{isPlace}
-use Rattle.rules.specs.Classes.{claimClass, keeperClass}
+use Rattle.rules.specs.Classes.{claimedClass, claimClass, keeperClass}
 use Rattle.rules.specs.declared.Found.the-variants.{At}
 use Rattle.rules.specs.declared.Lookup.{Lookup}
 use Rattle.rules.specs.declared.Lookup.the-variants.{Present}
 use Rattle.rules.specs.declared.SlotClass.{SlotClass}
-use Rattle.rules.specs.declared.SlotClass.the-variants.{UNMATCHED, OWNER, CLEAN}
+use Rattle.rules.specs.declared.SlotClass.the-variants.{UNMATCHED, WRONGOST as WRONG-OST, OWNER, CLEAN}
 use Rattle.tables.specs.declared.Place.{Place}
 use Rattle.rules.specs.Places.{claims, samePlace}
 
@@ -47,21 +47,31 @@ module _ (q home : Place) where
   unfolding claims samePlace
   claim-index h = rw h
 
--- "the first row that applies is the class": of a keeper at home whose object claims q
-module _ (home : Place) (owned : Bool) (claim : Claim) (q : Place) (e : claim ≡ Claims q) where
-  pub class-unmatched : claims (Claims q) home ≡ false → UNMATCHED (q .file) (q .index) ≡ claimClass home owned claim
+-- "the first row that applies is the class": of a keeper whose object claims it
+module _ (there owned : Bool) where
+  pub class-wrong-ost : there ≡ false → WRONG-OST ≡ claimedClass there owned
+  unfolding claimedClass
+  class-wrong-ost t = rw t
+
+  pub class-owner : there ≡ true → owned ≡ false → OWNER ≡ claimedClass there owned
+  unfolding claimedClass
+  class-owner t k = rw (t, k)
+
+  pub class-clean : there ≡ true → owned ≡ true → CLEAN ≡ claimedClass there owned
+  unfolding claimedClass
+  class-clean t k = rw (t, k)
+
+-- of a keeper at home whose object claims q
+module _ (home : Place) (there owned : Bool) (claim : Claim) (q : Place) (e : claim ≡ Claims q) where
+  pub class-unmatched : claims (Claims q) home ≡ false → UNMATCHED (q .file) (q .index) ≡ claimClass home there owned claim
   unfolding claimClass
   class-unmatched t = rw (e, t)
 
-  pub class-clean : claims (Claims q) home ≡ true → owned ≡ true → CLEAN ≡ claimClass home owned claim
+  pub class-claimed : claims (Claims q) home ≡ true → (c : SlotClass) → c ≡ claimedClass there owned → c ≡ claimClass home there owned claim
   unfolding claimClass
-  class-clean t k = rw (e, t, k)
+  class-claimed t c h = rw (e, t) h
 
-  pub class-owner : claims (Claims q) home ≡ true → owned ≡ false → OWNER ≡ claimClass home owned claim
-  unfolding claimClass
-  class-owner t k = rw (e, t, k)
-
-pub class-present : (home : Place) (owner : Owner) (found : Lookup) (x : Object) (b : Bool) (c : SlotClass) → found ≡ Present x →
-    b ≡ sameOwner (x .owner) owner → c ≡ claimClass home b (x .claim) → c ≡ keeperClass home owner found
+pub class-present : (home : Place) (ost : ℕ) (owner : Owner) (found : Lookup) (x : Object) (b : Bool) (c : SlotClass) → found ≡ Present x →
+    b ≡ sameOwner (x .owner) owner → c ≡ claimClass home (eqb (x .ost) ost) b (x .claim) → c ≡ keeperClass home ost owner found
 unfolding keeperClass
-class-present home owner found x b c e t q = rw (e, ← t) q
+class-present home ost owner found x b c e t q = rw (e, ← t) q

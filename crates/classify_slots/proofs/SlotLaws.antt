@@ -58,7 +58,7 @@ module _ (p o : List ℕ) (r j : ℕ) (s : Slot) (e : s ≡ slotAt (parseParents
 
     pub class-keeper : b ≡ true → (row : List ℕ) (own : MdtFid) (owner : Owner) (a : SlotClass) → r < length p / parentSize →
         row ≡ take parentSize (drop (parentSize * r) p) → own ≡ decodeParent row .self → owner ≡ decodeParent row .owner →
-        a ≡ keeperClass (placeAt own j) owner found → a ≡ slotClass (parse p o) r j
+        a ≡ keeperClass (placeAt own j) i owner found → a ≡ slotClass (parse p o) r j
     unfolding slotClass slotClassOf selfOf ownerOf
     class-keeper z row own owner a l at x y w =
         let u : isUsed row ≡ true = names-used p row r j f n i l at (sym h ∙ e) in

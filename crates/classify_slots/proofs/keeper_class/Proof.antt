@@ -11,8 +11,8 @@ returns c = cc
 
 returns-2 : tie.Need-returns-2
 returns-2 c =
-    let a = c .before .before .before .before .before .before .args in
-    class-present (placeAt (a .file) (a .j)) (a .owner) (a .found) (c .before .before .before .before .found .given .0 .0) _ _ (cc) (c .before .same-owner .ensures) (c .claim-class .ensures)
+    let a = c .before .before .before .before .before .before .before .args in
+    class-present (placeAt (a .file) (a .j)) (a .ost) (a .owner) (a .found) (c .before .before .before .before .before .found .given .0 .0) _ _ (cc) (c .before .same-owner .ensures) (c .claim-class .ensures)
 
 pub keeper-class-spec : {M : Type 1} → statement M
 keeper-class-spec = tie.close (tie.spec (λ c. search needs) (λ c. search needs) (λ c κs. search needs) (λ c κs. search needs) returns returns-2)
