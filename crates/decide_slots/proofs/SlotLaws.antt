@@ -3,6 +3,7 @@ use mathlib.Core.Path.{_≡_, sym, ap, _∙_}
 use mathlib.Core.List.{List}
 use mathlib.Core.Bool.{true, false}
 use Prim.Native.Nat.{ℕ, _*_, _/_, _<_}
+use borrow.Author.Tests.{eq-eqb, ne-eqb}
 use lib.ListN.{length, take, drop}
 use Rattle.fid.specs.declared.MdtFid.{MdtFid}
 use Rattle.fid.specs.declared.OstFid.{OstFid}
@@ -15,16 +16,16 @@ use Rattle.tables.specs.Check.{Sound}
 use Rattle.tables.specs.declared.Object.{Object}
 use Rattle.tables.specs.declared.Owner.{Owner}
 use Rattle.tables.specs.declared.Claim.the-variants.{Claims}
-use Rattle.rules.specs.Rows.{selfOf, ownerOf, slotAt, objectRow, objectAt, freeObject}
+use Rattle.rules.specs.Rows.{selfOf, ownerOf, slotAt, objectRow, objectAt, freeObject, sameOwner}
 use Rattle.rules.specs.Classes.{headerClass, slotClass}
-use Rattle.rules.specs.Repairs.{repairHeader, newObject, withClaim, usable, redirect, redirectTo, makeObject, repairSlot, mendAt, mended, mendObject}
+use Rattle.rules.specs.Repairs.{repairHeader, newObject, withClaim, usable, redirect, redirectTo, makeObject, repairSlot, mendAt, mended, mendWrite, indexWrite, mendObject}
 use Rattle.rules.specs.Steps.{slotStep}
 use Rattle.rules.specs.declared.HeaderClass.{HeaderClass}
 use Rattle.rules.specs.declared.HeaderClass.the-variants.{UNUSED, SELF, CLEAN as CLEAN-HEADER}
 use Rattle.rules.specs.declared.SlotClass.{SlotClass}
-use Rattle.rules.specs.declared.SlotClass.the-variants.{HOLE, MULTIPLE, DANGLING, BLANK, UNMATCHED, OWNER, CLEAN}
+use Rattle.rules.specs.declared.SlotClass.the-variants.{HOLE, MULTIPLE, DANGLING, BLANK, UNMATCHED, WRONGOST as WRONG-OST, OWNER, CLEAN}
 use Rattle.rules.specs.declared.Repair.{Repair}
-use Rattle.rules.specs.declared.Repair.the-variants.{OfSelf, OfMultiple, OfDangling, OfBlank, OfUnmatched, OfOwner}
+use Rattle.rules.specs.declared.Repair.the-variants.{OfSelf, OfMultiple, OfDangling, OfBlank, OfUnmatched, OfOwner, OfWrongOst}
 use Rattle.rules.specs.declared.Row.the-variants.{RowIs, NoRow}
 use Rattle.rules.specs.declared.Usable.{Usable}
 use Rattle.rules.specs.declared.Usable.the-variants.{Takes, UsedUp}
@@ -32,10 +33,11 @@ use Rattle.search.proofs.ParsedRows.{object-used, parsed-object}
 use Rattle.search.proofs.FoundRows.{object-inside, found-used}
 use Rattle.stores.specs.UsedRow.{rowBytes, UsedAt}
 use Rattle.writes.specs.Plan.{Decides}
+use Rattle.rules.specs.declared.Write.{Write}
 use Rattle.rules.specs.declared.Write.the-variants.{Nothing, Object as PutObject, Own, Slot as PutSlot}
 use Rattle.rules.specs.declared.Step.the-variants.{Rests, Repairs, Stops}
 use Rattle.writes.proofs.RowLaws.{decides-rest, decides-stop, row-says}
-use Rattle.rules.specs.Places.{placeAt}
+use Rattle.rules.specs.Places.{claims, placeAt}
 use Rattle.rules.specs.Settings.{Settings, creates}
 
 -- ## Headers
@@ -82,21 +84,46 @@ module _ (p o res : List ℕ) (r j ost : ℕ) (v : Usable) (e : v ≡ usable (pa
   unfolding redirect
   reserve-empty q = decides-stop p o _ 21 (rw (← e, q))
 
--- ## BLANK, UNMATCHED and OWNER
+-- ## BLANK, UNMATCHED, WRONG-OST and OWNER
 
-module _ (p o : List ℕ) (f : OstFid) (class : Repair) (r j : ℕ) where
-  pub mend-absent : objectRow (parseObjects o) f ≡ NoRow → Decides p o Rests (λ T. mendAt T class r j (objectRow (T .objects) f))
+module _ (p o : List ℕ) (f : OstFid) (class : Repair) (r j n ost : ℕ) where
+  pub mend-absent : objectRow (parseObjects o) f ≡ NoRow → Decides p o Rests (λ T. mendAt T class r j f n ost (objectRow (T .objects) f))
   unfolding mendAt
   mend-absent e = decides-rest p o _ (rw e)
 
-  module _ (i : ℕ) (e : objectRow (parseObjects o) f ≡ RowIs i) (row : List ℕ) (at : row ≡ take objectSize (drop (objectSize * i) o)) (x : Object) (q : x ≡ decodeObject row) (y : Object) where
+  module _ (i : ℕ) (e : objectRow (parseObjects o) f ≡ RowIs i) (row : List ℕ) (at : row ≡ take objectSize (drop (objectSize * i) o)) (x : Object) (q : x ≡ decodeObject row) where
     object-is : objectAt (parseObjects o) i ≡ used x
     object-is =
         parsed-object o i (object-inside o f i e) ∙ ap parseObject (sym at) ∙ object-used row (found-used o f i row e at) ∙ ap (λ (v : Object). used v) (sym q)
 
-    pub mend-done : y ≡ mended (parseParents p) r j x → Decides p o (Repairs class (PutObject i y) Nothing Nothing) (λ T. mendAt T class r j (objectRow (T .objects) f))
-    unfolding mendAt mendObject mended Decides
-    mend-done g = rw (e, object-is, g)
+    pub mend-done : (a b : Write) → a ≡ mendWrite (parseParents p) r j i x → b ≡ indexWrite r j f n ost (x .ost) →
+        Decides p o (Repairs class a b Nothing) (λ T. mendAt T class r j f n ost (objectRow (T .objects) f))
+    unfolding mendAt mendObject Decides
+    mend-done a b g k = rw (e, object-is, g, k)
+
+module _ (r j : ℕ) (f : OstFid) (n ost index : ℕ) where
+  pub index-right : index ≡ ost → Nothing ≡ indexWrite r j f n ost index
+  unfolding indexWrite
+  index-right e = rw (eq-eqb index ost e)
+
+  pub index-wrong : (index ≡ ost → ⊥) → PutSlot r j (Names f n index) ≡ indexWrite r j f n ost index
+  unfolding indexWrite
+  index-wrong d = rw (ne-eqb index ost d)
+
+-- the object's write, by its claim on slot j of the file m and by its owner, of which the row says w
+module _ (p : List ℕ) (r : ℕ) (u : UsedAt p r) (row : List ℕ) (e : row ≡ rowBytes p r) (m : MdtFid) (k : m ≡ decodeParent row .self) (j o : ℕ) (x : Object) where
+  pub mend-claim : claims (x .claim) (placeAt m j) ≡ false → (y : Object) → y ≡ mended (parseParents p) r j x → PutObject o y ≡ mendWrite (parseParents p) r j o x
+  unfolding mendWrite selfOf
+  mend-claim t y q = rw (q, row-says p r u row e, ← k, t)
+
+  module _ (t : claims (x .claim) (placeAt m j) ≡ true) (w : Owner) (g : w ≡ decodeParent row .owner) where
+    pub mend-owner : sameOwner (x .owner) w ≡ false → (y : Object) → y ≡ mended (parseParents p) r j x → PutObject o y ≡ mendWrite (parseParents p) r j o x
+    unfolding mendWrite selfOf ownerOf
+    mend-owner s y q = rw (q, row-says p r u row e, ← k, ← g, t, s)
+
+    pub mend-none : sameOwner (x .owner) w ≡ true → Nothing ≡ mendWrite (parseParents p) r j o x
+    unfolding mendWrite selfOf ownerOf
+    mend-none s = rw (row-says p r u row e, ← k, ← g, t, s)
 
 -- ## Objects made
 
@@ -114,40 +141,44 @@ module _ (p : List ℕ) (r : ℕ) (u : UsedAt p r) (row : List ℕ) (e : row ≡
 
 -- ## A slot by its class
 
-module _ (p o : List ℕ) (settings : Settings) (r j : ℕ) (f : OstFid) (ost : ℕ) (c : SlotClass) (e : c ≡ slotClass (parse p o) r j) where
-  pub slot-hole : c ≡ HOLE → repairSlot settings (parse p o) r j f ost (slotClass (parse p o) r j) ≡ Rests
+module _ (p o : List ℕ) (settings : Settings) (r j : ℕ) (f : OstFid) (n ost : ℕ) (c : SlotClass) (e : c ≡ slotClass (parse p o) r j) where
+  pub slot-hole : c ≡ HOLE → repairSlot settings (parse p o) r j f n ost (slotClass (parse p o) r j) ≡ Rests
   unfolding repairSlot
   slot-hole q = rw (← e, q)
 
-  pub slot-clean : c ≡ CLEAN → repairSlot settings (parse p o) r j f ost (slotClass (parse p o) r j) ≡ Rests
+  pub slot-clean : c ≡ CLEAN → repairSlot settings (parse p o) r j f n ost (slotClass (parse p o) r j) ≡ Rests
   unfolding repairSlot
   slot-clean q = rw (← e, q)
 
-  pub slot-multiple-off : c ≡ MULTIPLE → creates (settings .policy) ≡ false → repairSlot settings (parse p o) r j f ost (slotClass (parse p o) r j) ≡ Rests
+  pub slot-multiple-off : c ≡ MULTIPLE → creates (settings .policy) ≡ false → repairSlot settings (parse p o) r j f n ost (slotClass (parse p o) r j) ≡ Rests
   unfolding repairSlot
   slot-multiple-off q t = rw (← e, q, t)
 
-  pub slot-dangling-off : c ≡ DANGLING → creates (settings .policy) ≡ false → repairSlot settings (parse p o) r j f ost (slotClass (parse p o) r j) ≡ Rests
+  pub slot-dangling-off : c ≡ DANGLING → creates (settings .policy) ≡ false → repairSlot settings (parse p o) r j f n ost (slotClass (parse p o) r j) ≡ Rests
   unfolding repairSlot
   slot-dangling-off q t = rw (← e, q, t)
 
-  pub slot-multiple : c ≡ MULTIPLE → creates (settings .policy) ≡ true → redirect (parse p o) r j ost (usable (parse p o) (settings .reserve)) ≡ repairSlot settings (parse p o) r j f ost (slotClass (parse p o) r j)
+  pub slot-multiple : c ≡ MULTIPLE → creates (settings .policy) ≡ true → redirect (parse p o) r j ost (usable (parse p o) (settings .reserve)) ≡ repairSlot settings (parse p o) r j f n ost (slotClass (parse p o) r j)
   unfolding repairSlot
   slot-multiple q t = rw (← e, q, t)
 
-  pub slot-dangling : c ≡ DANGLING → creates (settings .policy) ≡ true → makeObject (newObject (parseParents p) f r j ost) (freeObject (parseObjects o)) ≡ repairSlot settings (parse p o) r j f ost (slotClass (parse p o) r j)
+  pub slot-dangling : c ≡ DANGLING → creates (settings .policy) ≡ true → makeObject (newObject (parseParents p) f r j ost) (freeObject (parseObjects o)) ≡ repairSlot settings (parse p o) r j f n ost (slotClass (parse p o) r j)
   unfolding repairSlot
   slot-dangling q t = rw (← e, q, t)
 
-  pub slot-blank : c ≡ BLANK → mendAt (parse p o) OfBlank r j (objectRow (parseObjects o) f) ≡ repairSlot settings (parse p o) r j f ost (slotClass (parse p o) r j)
+  pub slot-blank : c ≡ BLANK → mendAt (parse p o) OfBlank r j f n ost (objectRow (parseObjects o) f) ≡ repairSlot settings (parse p o) r j f n ost (slotClass (parse p o) r j)
   unfolding repairSlot
   slot-blank q = rw (← e, q)
 
-  pub slot-unmatched : (g : MdtFid) (i : ℕ) → c ≡ UNMATCHED g i → mendAt (parse p o) OfUnmatched r j (objectRow (parseObjects o) f) ≡ repairSlot settings (parse p o) r j f ost (slotClass (parse p o) r j)
+  pub slot-unmatched : (g : MdtFid) (i : ℕ) → c ≡ UNMATCHED g i → mendAt (parse p o) OfUnmatched r j f n ost (objectRow (parseObjects o) f) ≡ repairSlot settings (parse p o) r j f n ost (slotClass (parse p o) r j)
   unfolding repairSlot
   slot-unmatched g i q = rw (← e, q)
 
-  pub slot-owner : c ≡ OWNER → mendAt (parse p o) OfOwner r j (objectRow (parseObjects o) f) ≡ repairSlot settings (parse p o) r j f ost (slotClass (parse p o) r j)
+  pub slot-wrong-ost : c ≡ WRONG-OST → mendAt (parse p o) OfWrongOst r j f n ost (objectRow (parseObjects o) f) ≡ repairSlot settings (parse p o) r j f n ost (slotClass (parse p o) r j)
+  unfolding repairSlot
+  slot-wrong-ost q = rw (← e, q)
+
+  pub slot-owner : c ≡ OWNER → mendAt (parse p o) OfOwner r j f n ost (objectRow (parseObjects o) f) ≡ repairSlot settings (parse p o) r j f n ost (slotClass (parse p o) r j)
   unfolding repairSlot
   slot-owner q = rw (← e, q)
 
@@ -157,6 +188,6 @@ module _ (p o : List ℕ) (settings : Settings) (r j : ℕ) (s : Slot) (e : s �
   step-hole q = rw (← e, q)
 
   pub step-names : (f : OstFid) (n i : ℕ) → s ≡ Names f n i →
-      repairSlot settings (parse p o) r j f i (slotClass (parse p o) r j) ≡ slotStep settings (parse p o) r j (slotAt (parseParents p) r j)
+      repairSlot settings (parse p o) r j f n i (slotClass (parse p o) r j) ≡ slotStep settings (parse p o) r j (slotAt (parseParents p) r j)
   unfolding slotStep
   step-names f n i q = rw (← e, q)

@@ -174,7 +174,16 @@ fn index_write(r: usize, j: u32, f: OstFid, generation: u32, ost: u32, index: u3
 }
 
 // BLANK, UNMATCHED, WRONG-OST and OWNER: claim and owner are written in the object's row, then its index in the slot.
-fn mend(parents: &[u8], objects: &[u8], class: Repair, r: usize, j: u32, f: OstFid, generation: u32, ost: u32) -> Step
+fn mend(
+    parents: &[u8],
+    objects: &[u8],
+    class: Repair,
+    r: usize,
+    j: u32,
+    f: OstFid,
+    generation: u32,
+    ost: u32,
+) -> Step
     requires { ⌜ SlotReady (now parents) (now objects) r j ⌝ }
     ensures { λ d. ⌜ Decides (now (parents .entry)) (now (objects .entry)) d (λ T. mendAt T class r j f generation ost (objectRow (T .objects) f)) ⌝ }
 {
@@ -198,7 +207,7 @@ fn creates(policy: u64) -> bool
     policy % 2 == 1
 }
 
-// Slot j of row r, which names object f with a generation on an OST, by its class.
+// Slot j of row r, which names object f with generation n on an OST, by its class.
 fn named_slot(
     parents: &[u8],
     objects: &[u8],
@@ -207,11 +216,11 @@ fn named_slot(
     r: usize,
     j: u32,
     f: OstFid,
-    generation: u32,
+    n: u32,
     ost: u32,
 ) -> Step
     requires { ⌜ SlotReady (now parents) (now objects) r j ⌝ }
-    ensures { λ d. ⌜ Decides (now (parents .entry)) (now (objects .entry)) d (λ T. repairSlot (settingsOf policy (now (reserve .entry))) T r j f generation ost (slotClass T r j)) ⌝ }
+    ensures { λ d. ⌜ Decides (now (parents .entry)) (now (objects .entry)) d (λ T. repairSlot (settingsOf policy (now (reserve .entry))) T r j f n ost (slotClass T r j)) ⌝ }
 {
     let class = classify_slots::slot_class(parents, objects, r, j as usize);
     match class {
@@ -229,10 +238,10 @@ fn named_slot(
             }
             make_object(parents, objects, r, j, ost, f)
         }
-        SlotClass::BLANK => mend(parents, objects, Repair::OfBlank, r, j, f, generation, ost),
-        SlotClass::UNMATCHED(_, _i) => mend(parents, objects, Repair::OfUnmatched, r, j, f, generation, ost),
-        SlotClass::WRONGOST => mend(parents, objects, Repair::OfWrongOst, r, j, f, generation, ost),
-        SlotClass::OWNER => mend(parents, objects, Repair::OfOwner, r, j, f, generation, ost),
+        SlotClass::BLANK => mend(parents, objects, Repair::OfBlank, r, j, f, n, ost),
+        SlotClass::UNMATCHED(_, _i) => mend(parents, objects, Repair::OfUnmatched, r, j, f, n, ost),
+        SlotClass::WRONGOST => mend(parents, objects, Repair::OfWrongOst, r, j, f, n, ost),
+        SlotClass::OWNER => mend(parents, objects, Repair::OfOwner, r, j, f, n, ost),
     }
 }
 
@@ -244,7 +253,7 @@ pub fn slot(parents: &[u8], objects: &[u8], reserve: &[u8], policy: u64, r: usiz
     let slot = search::slots::slot_of(parents, r, j);
     match slot {
         Slot::Hole => Step::Rests,
-        Slot::Names(f, generation, ost) => named_slot(
+        Slot::Names(f, n, ost) => named_slot(
             parents,
             objects,
             reserve,
@@ -252,7 +261,7 @@ pub fn slot(parents: &[u8], objects: &[u8], reserve: &[u8], policy: u64, r: usiz
             r,
             j as u32,
             f,
-            generation,
+            n,
             ost,
         ),
     }
