@@ -36,7 +36,11 @@ returns-8 : tie.Need-returns-8
 unfolding repairNumber
 returns-8 c = ap repairNumber (sym (c .enum-told8 .given .1))
 
+returns-9 : tie.Need-returns-9
+unfolding repairNumber
+returns-9 c = ap repairNumber (sym (c .enum-told9 .given .1))
+
 pub repair-number-spec : {M : Type 1} → statement M
 repair-number-spec =
     tie.close (tie.spec (λ c. search needs) (λ c. search needs) (λ c. search needs) (λ c. search needs) (λ c. search needs) (λ c. search needs)
-    (λ c. search needs) (λ c. search needs) returns returns-2 returns-3 returns-4 returns-5 returns-6 returns-7 returns-8)
+    (λ c. search needs) (λ c. search needs) (λ c. search needs) returns returns-2 returns-3 returns-4 returns-5 returns-6 returns-7 returns-8 returns-9)
