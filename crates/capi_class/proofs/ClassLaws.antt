@@ -18,7 +18,7 @@ use Rattle.rules.specs.declared.Class.the-variants.{Header as OfHeader, Slot as
 use Rattle.rules.specs.declared.HeaderClass.{HeaderClass}
 use Rattle.rules.specs.declared.HeaderClass.the-variants.{CLEAN as CLEAN-HEADER, SELF, UNUSED as UNUSED-PARENT}
 use Rattle.rules.specs.declared.SlotClass.{SlotClass}
-use Rattle.rules.specs.declared.SlotClass.the-variants.{CLEAN, HOLE, MULTIPLE, DANGLING, BLANK, UNMATCHED, OWNER}
+use Rattle.rules.specs.declared.SlotClass.the-variants.{CLEAN, HOLE, MULTIPLE, DANGLING, BLANK, UNMATCHED, OWNER, WRONGOST as WRONG-OST}
 use Rattle.rules.specs.declared.ObjectClass.{ObjectClass}
 use Rattle.rules.specs.declared.ObjectClass.the-variants.{SPARE, EMPTY, ORPHAN, CONFLICT, KEPT, UNUSED}
 use Rattle.classify.specs.Answer.{hasClass, classAnswer, classNumber}
@@ -59,6 +59,7 @@ slot-four DANGLING = refl
 slot-four BLANK = refl
 slot-four (UNMATCHED f i) = refl
 slot-four OWNER = refl
+slot-four WRONG-OST = refl
 
 object-four : (c : ObjectClass) → length (objectNumbers c) ≡ 4
 unfolding objectNumbers only

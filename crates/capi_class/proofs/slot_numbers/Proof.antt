@@ -33,9 +33,13 @@ returns-7 : tie.Need-returns-7
 unfolding slotNumbers
 returns-7 c = c .bare6 .ensures ∙ ap slotNumbers (sym (c .before .enum-told6 .given .1))
 
+returns-8 : tie.Need-returns-8
+unfolding slotNumbers
+returns-8 c = c .bare7 .ensures ∙ ap slotNumbers (sym (c .before .enum-told7 .given .1))
+
 pub slot-numbers-spec : {M : Type 1} → statement M
 slot-numbers-spec =
     tie.close (tie.spec (λ c. search needs) (λ c κs. search needs) (λ c. search needs) (λ c κs. search needs) (λ c. search needs)
     (λ c κs. search needs) (λ c. search needs) (λ c κs. search needs) (λ c. search needs) (λ c κs. search needs) (λ c. search needs)
-    (λ c. search needs) (λ c. search needs) (λ c. search needs) (λ c κs. search needs) returns returns-2 returns-3 returns-4 returns-5 returns-6
-    returns-7)
+    (λ c. search needs) (λ c. search needs) (λ c. search needs) (λ c κs. search needs) (λ c. search needs) (λ c κs. search needs) returns returns-2
+    returns-3 returns-4 returns-5 returns-6 returns-7 returns-8)
