@@ -2,7 +2,7 @@
 ghost use mathlib.Core.Path.{_≡_};
 ghost use Rattle.capi_run.specs.Runs.{called};
 
-// A run of at most so many steps: the position in and out, 9 numbers into report.
+// A run of at most so many steps: the position in and out, 10 numbers into report.
 #[no_mangle]
 pub extern "C" fn lfsck_run(
     parents: &mut [u8],

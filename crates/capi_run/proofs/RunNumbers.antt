@@ -12,7 +12,7 @@ use Rattle.rules.specs.declared.Report.{Report}
 use Rattle.engine.specs.RunBytes.{Ran, runBytes}
 use Rattle.engine.specs.Ready.{stepsBytes}
 use Rattle.capi_tables.specs.Tables.{positionNumbers, positionGiven}
-use Rattle.capi_run.specs.Runs.{reportNumbers, Called, unwritten, handedOut, called}
+use Rattle.capi_run.specs.Runs.{reportSize, reportNumbers, Called, unwritten, handedOut, called}
 
 -- ## The report
 
@@ -55,28 +55,28 @@ module _ (p o s : List ℕ) (policy most : ℕ) (q r : List ℕ) (n : ℕ) (at :
   unfolding unwritten
   call-refused z = five (is-refused z)
 
-  is-short : n ≡ 0 → length r < 9 → called p o s policy most q r ≡ unwritten 17 p o q r
+  is-short : n ≡ 0 → length r < reportSize → called p o s policy most q r ≡ unwritten 17 p o q r
   unfolding called
-  is-short z h = rw (← number-is, eq-eqb n 0 z, lt-ltb (length r) 9 h)
+  is-short z h = rw (← number-is, eq-eqb n 0 z, lt-ltb (length r) reportSize h)
 
-  pub call-short : n ≡ 0 → length r < 9 → Five (called p o s policy most q r) 17 p o q r
+  pub call-short : n ≡ 0 → length r < reportSize → Five (called p o s policy most q r) 17 p o q r
   unfolding unwritten
   call-short z h = five (is-short z h)
 
-  is-handed : n ≡ 0 → 9 ≤ length r → called p o s policy most q r ≡ handedOut (runBytes p o s policy most (positionGiven q)) q r
+  is-handed : n ≡ 0 → reportSize ≤ length r → called p o s policy most q r ≡ handedOut (runBytes p o s policy most (positionGiven q)) q r
   unfolding called
-  is-handed z h = rw (← number-is, eq-eqb n 0 z, le-ltb (length r) 9 h)
+  is-handed z h = rw (← number-is, eq-eqb n 0 z, le-ltb (length r) reportSize h)
 
   steps-are : n ≡ 0 → runBytes p o s policy most at ≡ stepsBytes p o s policy most at
   unfolding runBytes stepsBytes
   steps-are z = rw (← e, eq-eqb n 0 z)
 
-  is-done : n ≡ 0 → 9 ≤ length r → called p o s policy most q r ≡ handedOut (stepsBytes p o s policy most at) q r
+  is-done : n ≡ 0 → reportSize ≤ length r → called p o s policy most q r ≡ handedOut (stepsBytes p o s policy most at) q r
   is-done z h =
       is-handed z h ∙ ap (λ (a : Position). handedOut (runBytes p o s policy most a) q r) (sym g)
       ∙ ap (λ (x : Ran). handedOut x q r) (steps-are z)
 
-  pub call-done : n ≡ 0 → 9 ≤ length r → (x : Report) (p′ o′ q′ r′ : List ℕ) → x ≡ stepsBytes p o s policy most at .report →
+  pub call-done : n ≡ 0 → reportSize ≤ length r → (x : Report) (p′ o′ q′ r′ : List ℕ) → x ≡ stepsBytes p o s policy most at .report →
       p′ ≡ stepsBytes p o s policy most at .parents → o′ ≡ stepsBytes p o s policy most at .objects →
       q′ ≡ sets q 0 (positionNumbers (x .position)) → r′ ≡ sets r 0 (reportNumbers x) →
       Five (called p o s policy most q r) (x .answer) p′ o′ q′ r′

@@ -31,7 +31,7 @@ fn put_report(out: &mut [u64], r: Report)
     put_counts(out, r.counts);
 }
 
-// A run of at most so many steps: the position in and out, 9 numbers into report.
+// A run of at most so many steps: the position in and out, 10 numbers into report.
 pub fn run(
     parents: &mut [u8],
     objects: &mut [u8],

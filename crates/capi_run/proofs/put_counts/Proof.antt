@@ -4,6 +4,8 @@ use native.Mathlib.Omega.{arith}
 use denote.Ref.{now}
 use lib.ListN.{length, getD, drop, length-set}
 use lib.Seq.{sets}
+use Rattle.rules.specs.Runs.{repairKinds}
+use Rattle.capi_run.specs.Runs.{reportSize}
 use Rattle.capi_run.proofs.RunNumbers.{put-next, put-all}
 use borrow.Author.Needs.{needs}
 use Rattle.capi_run.proofs.put_counts.Statement.{statement}
@@ -11,10 +13,10 @@ use Rattle.capi_run.proofs.put_counts.Tie as tie
 
 abbrev Inv-loop : tie.InvT-loop
 Inv-loop out₀ of i₀ out i =
-    (i ≤ 8) × (length of ≡ 8) × (9 ≤ length out) × (length out ≡ length out₀) × (sets out₀ 1 of ≡ sets out (1 + i) (drop i of))
+    (i ≤ repairKinds) × (length of ≡ repairKinds) × (reportSize ≤ length out) × (length out ≡ length out₀) × (sets out₀ 1 of ≡ sets out (1 + i) (drop i of))
 
 abbrev μ-loop : tie.MeasureT-loop
-μ-loop out₀ of i₀ out i = 8 - i
+μ-loop out₀ of i₀ out i = repairKinds - i
 
 loop-holds : tie.Need-loop-holds Inv-loop μ-loop
 loop-holds c = (omega arith, search needs, omega arith, refl, refl)
