@@ -42,7 +42,7 @@ fn claim_on(index: u32) -> Fid {
 fn show_run(parents: &mut [u8], objects: &mut [u8]) {
     let reserve = [0u8; 0];
     let mut position = [0u64; 3];
-    let mut report = [0u64; 9];
+    let mut report = [0u64; 10];
     let started = capi::input::lfsck_start(parents, objects, &mut position);
     let answer = capi::runs::lfsck_run(
         parents,
