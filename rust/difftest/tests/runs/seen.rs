@@ -3,6 +3,8 @@
 use crate::demand::{Scenario, Uncut};
 use crate::side::{Outcome, State};
 use difftest::Coverage;
+use difftest::indices::Indexed;
+use numbers::call::COUNTED;
 use reference::check::{Faults, read_reserve, read_tables};
 use reference::class::{Class, Way, way_to};
 use reference::fid::Fid;
@@ -17,6 +19,8 @@ pub struct Seen {
     pub ends: Coverage<u32>,
     pub policies: Coverage<u64>,
     pub repairs: Coverage<&'static str>,
+    /// Repairs of slots with a present object, by the OST index and the owner of that.
+    pub mended: Coverage<Indexed>,
     pub ways: Coverage<Way>,
     /// Where calls were handed from.
     pub begins: Coverage<&'static str>,
@@ -29,7 +33,7 @@ pub struct Seen {
     pub turns: Coverage<&'static str>,
 }
 
-const REPAIRS: [&str; 8] = [
+const REPAIRS: [&str; COUNTED] = [
     "SELF",
     "MULTIPLE",
     "DANGLING",
@@ -38,6 +42,7 @@ const REPAIRS: [&str; 8] = [
     "OWNER",
     "EMPTY",
     "ORPHAN",
+    "WRONG-OST",
 ];
 
 impl Seen {
@@ -50,6 +55,7 @@ impl Seen {
             ends: Coverage::of("ends of uncut runs", [0, 21, 22, 23]),
             policies: Coverage::of("policies", 0..=3),
             repairs: Coverage::of("repairs in uncut runs", REPAIRS),
+            mended: Coverage::of("repairs by index and owner", Indexed::mended()),
             ways: Coverage::of(
                 "ways of adoption",
                 [Way::MakeParent, Way::FillHole, Way::Grow, Way::ReplaceFresh],
@@ -105,6 +111,7 @@ impl Seen {
         self.ends.require(100);
         self.policies.require(100);
         self.repairs.require(100);
+        self.mended.require(100);
         self.ways.require(100);
         self.begins.require(100);
         self.given.require(100);
@@ -135,14 +142,20 @@ impl Seen {
                 self.repairs.met(name);
             }
         }
-        let [.., multiple, _, _, _, _, _, orphan] = *outcome.repairs() else {
-            unreachable!("eight counts");
+        let repaired = |class: &str| {
+            let number = REPAIRS.iter().position(|name| *name == class);
+            outcome.repairs()[number.expect(class)] == 1
         };
-        if multiple == 1 {
+        if repaired("MULTIPLE") {
             self.note_redirect(scenario, site);
         }
-        if orphan == 1 {
+        if repaired("ORPHAN") {
             self.note_adoption(site, at);
+        }
+        let mended = ["BLANK", "UNMATCHED", "OWNER", "WRONG-OST"];
+        if mended.into_iter().any(repaired) {
+            let slot = Indexed::at(site, position_of(site, at));
+            self.mended.met(slot.expect("a slot with a present object"));
         }
         self.note_stop(scenario, site, at, outcome.answer);
     }
@@ -196,9 +209,12 @@ impl Seen {
 
 /// Whether the step at a position is to redirect its slot.
 fn is_redirect(site: &Site, at: &[u64]) -> bool {
+    Class::at(site, position_of(site, at)) == Some(Class::Multiple)
+}
+
+fn position_of(site: &Site, at: &[u64]) -> Position {
     let numbers = at.try_into().expect("three numbers");
-    let position = Position::of_numbers(numbers, site.tables()).expect("a position");
-    Class::at(site, position) == Some(Class::Multiple)
+    Position::of_numbers(numbers, site.tables()).expect("a position")
 }
 
 fn site_of(state: &State) -> Site {
