@@ -128,6 +128,9 @@ fn slot_words(old: Option<Stripe>, new: Option<Stripe>) -> String {
     match (old, new) {
         (None, _) => "slot names this object now, where there was none".to_string(),
         (Some(_), None) => "slot names no object now, it named this one".to_string(),
+        (Some(old), Some(new)) if (old.object, old.generation) == (new.object, new.generation) => {
+            format!("OST {} written into the slot, it was {}", new.ost, old.ost)
+        }
         (Some(old), Some(new)) if old.object == new.object => format!(
             "slot has generation {} and OST {} now, it had {} and {}",
             new.generation, new.ost, old.generation, old.ost

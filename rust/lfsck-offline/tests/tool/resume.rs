@@ -30,7 +30,7 @@ fn a_run_in_pieces_is_the_uncut_run() {
         let reserve: Vec<u8> = OBJECTS.iter().flat_map(|fid| fid.to_bytes()).collect();
         let case = Case::with(&format!("pieces-{round}"), &parents, &objects, &reserve);
         let uncut = oracle::run(&case.files(), 3, u64::MAX);
-        let mut sum = [0; 9];
+        let mut sum = [0; 10];
         loop {
             let steps = (1 + random.below(9)).to_string();
             let words = [&RUN[..], &["--steps", &steps]].concat();
@@ -50,6 +50,7 @@ fn a_run_in_pieces_is_the_uncut_run() {
                 "OWNER",
                 "EMPTY",
                 "ORPHAN",
+                "WRONG-OST",
             ]) {
                 *sum += repairs.number(class);
             }
@@ -147,7 +148,7 @@ fn no_steps_change_nothing() {
     let before = case.files();
     let told = case.json(&[&RUN[..], &["--steps", "0"]].concat(), 1);
     assert_eq!(told.number("steps_done"), 0);
-    assert_eq!(told.number("steps_left"), 46);
+    assert_eq!(told.number("steps_left"), 52);
     assert_eq!(case.files(), before);
     assert!(!before.contains_key(POSITION));
 }
