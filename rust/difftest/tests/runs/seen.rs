@@ -45,6 +45,39 @@ const REPAIRS: [&str; COUNTED] = [
     "WRONG-OST",
 ];
 
+const BEGINS: [&str; 4] = [
+    "the start",
+    "the start again",
+    "a passed position",
+    "the end",
+];
+
+const STOPS: [&str; 6] = [
+    "21 alone",
+    "21 before 22",
+    "22",
+    "22 of a redirect",
+    "23",
+    "1 before a stop",
+];
+
+const REDIRECTS: [&str; 4] = [
+    "first of the reserve",
+    "past an object's FID",
+    "past a named FID",
+    "past a repeat",
+];
+
+const TURNS: [&str; 7] = [
+    "a call after the end",
+    "a call after a stop",
+    "a refused call before another",
+    "retraced",
+    "a then b",
+    "a row made and destroyed in one call",
+    "steps used up at the end",
+];
+
 impl Seen {
     pub fn nothing() -> Seen {
         Seen {
@@ -60,49 +93,12 @@ impl Seen {
                 "ways of adoption",
                 [Way::MakeParent, Way::FillHole, Way::Grow, Way::ReplaceFresh],
             ),
-            begins: Coverage::of(
-                "calls handed",
-                [
-                    "the start",
-                    "the start again",
-                    "a passed position",
-                    "the end",
-                ],
-            ),
+            begins: Coverage::of("calls handed", BEGINS),
             given: Coverage::of("steps given", ["none", "some", "one too few", "enough"]),
-            stops: Coverage::of(
-                "stops",
-                [
-                    "21 alone",
-                    "21 before 22",
-                    "22",
-                    "22 of a redirect",
-                    "23",
-                    "1 before a stop",
-                ],
-            ),
-            reserve: Coverage::of(
-                "redirects",
-                [
-                    "first of the reserve",
-                    "past an object's FID",
-                    "past a named FID",
-                    "past a repeat",
-                ],
-            ),
+            stops: Coverage::of("stops", STOPS),
+            reserve: Coverage::of("redirects", REDIRECTS),
             refusals: Coverage::of("refused calls", crate::REFUSALS),
-            turns: Coverage::of(
-                "lists",
-                [
-                    "a call after the end",
-                    "a call after a stop",
-                    "a refused call before another",
-                    "retraced",
-                    "a then b",
-                    "a row made and destroyed in one call",
-                    "steps used up at the end",
-                ],
-            ),
+            turns: Coverage::of("lists", TURNS),
         }
     }
 

@@ -29,7 +29,8 @@ const CLASSES: [&str; 15] = [
     "WRONG-OST",
 ];
 
-const COUNTED: [&str; 9] = [
+/// The classes whose repairs are counted, in the order of the report.
+pub const COUNTED: [&str; 9] = [
     "SELF",
     "MULTIPLE",
     "DANGLING",

@@ -211,12 +211,6 @@ fn a_file_and_an_object_have_their_story() {
         (file(4), &[made]),
         (object(0x14), &[made]),
         (object(0x27), &[("EMPTY", "object_destroyed")]),
-        (file(10), &[("WRONG-OST", "slot")]),
-        (file(11), &[("WRONG-OST", "slot"), ("WRONG-OST", "owner")]),
-        (
-            object(0x29),
-            &[("WRONG-OST", "slot"), ("WRONG-OST", "owner")],
-        ),
         // The object that a slot named before is concerned as well.
         (object(0x11), &[("MULTIPLE", "slot")]),
         (object(0x10), &[]),

@@ -3,6 +3,7 @@
 use difftest::Random;
 use difftest::tables::{OBJECTS, Shape, random_tables, to_bytes};
 
+use crate::commands::COUNTED;
 use crate::json::Value;
 use crate::oracle;
 use crate::tool::{Case, POSITION};
@@ -41,17 +42,7 @@ fn a_run_in_pieces_is_the_uncut_run() {
             assert_eq!(resumed(&report), sum[0] > 0);
             sum[0] += report.number("steps_done");
             let repairs = report.get("repairs");
-            for (sum, class) in sum[1..].iter_mut().zip([
-                "SELF",
-                "MULTIPLE",
-                "DANGLING",
-                "BLANK",
-                "UNMATCHED",
-                "OWNER",
-                "EMPTY",
-                "ORPHAN",
-                "WRONG-OST",
-            ]) {
+            for (sum, class) in sum[1..].iter_mut().zip(COUNTED) {
                 *sum += repairs.number(class);
             }
             if status != Some(1) {
