@@ -122,6 +122,7 @@ impl Entry {
             let of_table = numbers.iter().find(|(table, _)| *table == change.table);
             let number = of_table.and_then(|(_, numbers)| numbers.get(change.row));
             change.row = number.copied().unwrap_or(change.row);
+            change.undone = matches!(self.deed, Deed::Undo { .. });
         }
         list
     }

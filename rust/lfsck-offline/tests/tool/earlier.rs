@@ -4,7 +4,7 @@
 use crate::bytes::{object_row, parent_row};
 use crate::json::Value;
 use crate::oracle;
-use crate::tool::{Case, Files, LOG, POSITION, sha256};
+use crate::tool::{Case, Files, JOURNAL, LOG, POSITION, sha256};
 
 /// Where an object row has the OST index, and a parent row its layout's own id.
 const OST: usize = 17;
@@ -112,6 +112,32 @@ fn its_run_can_be_taken_back() {
     case.run(&["undo"]).expect(0);
     assert_eq!(case.read("parents.tbl")[OWN_ID], 9);
     assert!(!case.files().contains_key(POSITION));
+}
+
+/// A journal that puts a position in place where there is none.
+fn journal(position: &str) -> Vec<u8> {
+    let length = position.len();
+    let text = format!(
+        "lfsck-offline journal, format 2\nput {POSITION} {length} nothing 0\n{position}end\n"
+    );
+    let digest = sha256(text.as_bytes());
+    let digits = digest.as_bytes().chunks(2);
+    let byte = |two: &[u8]| u8::from_str_radix(str::from_utf8(two).unwrap(), 16).unwrap();
+    text.bytes().chain(digits.map(byte)).collect()
+}
+
+/// What that version had begun to save is completed, and its position does not count.
+#[test]
+fn its_save_is_completed() {
+    let case = left("earlier-journal");
+    let position = String::from_utf8(case.read(POSITION)).expect("a text");
+    std::fs::remove_file(case.path().join(POSITION)).expect("the position");
+    case.write(JOURNAL, &journal(&position));
+    let told = case.run(&["check"]).expect(0);
+    assert!(told.err.ends_with("completed a save that was cut off\n"));
+    assert_eq!(case.read(POSITION), position.as_bytes());
+    let told = case.run(&["run"]).expect(0).out;
+    assert!(told.starts_with(WHY), "{told}");
 }
 
 /// Only that one count may be missing, and where it stands it is a number.

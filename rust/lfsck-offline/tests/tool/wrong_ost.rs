@@ -93,8 +93,8 @@ fn a_run_writes_the_index_and_an_undo_takes_it_back() {
     let case = Case::sample("wrong-ost-run");
     let start = case.files();
     let lines = [
-        "  [0x200000401:0xa:0x0]       0  [0x240000400:0x28:0x0]   OST 2 written into the slot, it was 1\n",
-        "  [0x200000401:0xb:0x0]       0  [0x240000400:0x29:0x0]   OST 1 written into the slot, it was 2\n",
+        "  [0x200000401:0xa:0x0]       0  [0x240000400:0x28:0x0]   OST 2, where the object is, written into the slot, it was 1\n",
+        "  [0x200000401:0xb:0x0]       0  [0x240000400:0x29:0x0]   OST 1, where the object is, written into the slot, it was 2\n",
         "  [0x200000401:0xb:0x0]       0  [0x240000400:0x29:0x0]   owner 1001:100 written, it was 0:0\n",
         "Repairs: SELF 1, BLANK 1, UNMATCHED 1, OWNER 1, WRONG-OST 2.\n",
     ];
@@ -107,12 +107,14 @@ fn a_run_writes_the_index_and_an_undo_takes_it_back() {
     let told = case.run(&["classes", "--only", "WRONG-OST"]).expect(0).out;
     assert!(told.starts_with("Nothing is WRONG-OST.\n"), "{told}");
     let told = case.run(&["log", TEN]).expect(0).out;
-    let why = "OST 2 written into the slot, it was 1; \
+    let why = "OST 2, where the object is, written into the slot, it was 1; \
                WRONG-OST: the object is on another OST than the slot names\n";
     expect_lines(&told, &[why]);
     expect_lines(&case.run(&["log"]).expect(0).out, &lines);
     let told = case.run(&["undo"]).expect(0).out;
-    expect_lines(&told, &["OST 1 written into the slot, it was 2\n"]);
+    let back = "[0x240000400:0x28:0x0]   OST 1 written into the slot, it was 2\n";
+    expect_lines(&told, &[back]);
+    expect_lines(&case.run(&["log", TEN]).expect(0).out, &[why, back]);
     let mut after = case.files();
     after.remove(LOG);
     assert_eq!(after, start);
@@ -155,7 +157,7 @@ fn blank_and_unmatched_tell_and_mend_the_index_too() {
         expect_lines(&told, &[&format!("{class}  always: {before}{index}")]);
     }
     let told = case.run(&["run"]).expect(0).out;
-    let written = told.matches("   OST 5 written into the slot, it was 3\n");
+    let written = told.matches("   OST 5, where the object is, written into the slot, it was 3\n");
     assert_eq!(written.count(), 3, "{told}");
     expect_lines(
         &told,
