@@ -73,7 +73,7 @@ impl What {
         }
     }
 
-    /// For people; of an undo, where it took something back.
+    /// For people, of a run or of an undo.
     fn words(&self, undone: bool) -> String {
         match self {
             What::FileMade(file) => {
