@@ -92,7 +92,7 @@ enum {
     LFSCK_SLOT_NUMBERS = 5,     /* a slot */
     LFSCK_POSITION_NUMBERS = 3, /* a position: stage, row, part */
     LFSCK_CLASS_NUMBERS = 4,    /* a class and what it carries */
-    LFSCK_REPORT_NUMBERS = 9,   /* the report of a run */
+    LFSCK_REPORT_NUMBERS = 10,  /* the report of a run */
     LFSCK_LINK_FIELDS = 4,      /* the header of a linkEA */
     LFSCK_RECORD_READ = 6,      /* a record of a linkEA that was read */
     LFSCK_RECORD_WRITE = 5      /* a record of a linkEA to be written */
@@ -108,10 +108,14 @@ enum {
     LFSCK_REPORT_UNMATCHED = 5,
     LFSCK_REPORT_OWNER = 6,
     LFSCK_REPORT_EMPTY = 7,
-    LFSCK_REPORT_ORPHAN = 8
+    LFSCK_REPORT_ORPHAN = 8,
+    LFSCK_REPORT_WRONG_OST = 9
 };
 
-/* The classes of a header, a slot and an object. */
+/*
+ * The classes of a header, a slot and an object. Of a slot the first that applies is its class, in
+ * the order HOLE, MULTIPLE, DANGLING, BLANK, UNMATCHED, WRONG_OST, OWNER, CLEAN.
+ */
 enum {
     LFSCK_CLEAN = 0,     /* a header or a slot with nothing to mend */
     LFSCK_SELF = 1,      /* a header whose own id or sequence is not the file's */
@@ -120,13 +124,14 @@ enum {
     LFSCK_DANGLING = 4,  /* a keeper whose object is absent */
     LFSCK_BLANK = 5,     /* a keeper whose object claims nothing */
     LFSCK_UNMATCHED = 6, /* a keeper whose object claims another slot */
-    LFSCK_OWNER = 7,     /* a keeper whose object has another owner */
+    LFSCK_OWNER = 7,     /* a keeper whose object is on its OST and has another owner */
     LFSCK_SPARE = 8,     /* an object that no slot names, without claim */
     LFSCK_EMPTY = 9,     /* a fresh object that no slot names */
     LFSCK_ORPHAN = 10,   /* an object that no slot names; its claimed place can be had */
     LFSCK_CONFLICT = 11, /* an object that no slot names; its claimed place cannot be had */
     LFSCK_KEPT = 12,     /* an object that a slot names */
-    LFSCK_UNUSED = 13    /* an unused row */
+    LFSCK_UNUSED = 13,   /* an unused row */
+    LFSCK_WRONG_OST = 14 /* a keeper whose object claims it and is on another OST */
 };
 
 /*
@@ -223,7 +228,8 @@ uint32_t lfsck_classes(const uint8_t *parents, size_t parents_bytes,
  *   policy            0 to 3
  *   most              the greatest number of steps
  *   position          exactly 3 numbers, changed: where to begin, then where the run stands
- *   report            9 numbers, written
+ *   report            10 numbers, written: the steps done, then the repairs of SELF, MULTIPLE,
+ *                     DANGLING, BLANK, UNMATCHED, OWNER, EMPTY, ORPHAN and WRONG-OST
  *
  * LFSCK_OK           the end is reached
  * LFSCK_STEPS_USED   the steps are used up before the end; the next step was not looked at
@@ -232,7 +238,7 @@ uint32_t lfsck_classes(const uint8_t *parents, size_t parents_bytes,
  *                    are those after the steps before it
  * LFSCK_BAD_TABLE to LFSCK_NO_POSITION
  *                    as lfsck_check; a position of fewer or more than 3 numbers is none
- * LFSCK_NO_ROOM      fewer than 9 numbers for the report
+ * LFSCK_NO_ROOM      fewer than 10 numbers for the report
  */
 uint32_t lfsck_run(uint8_t *parents, size_t parents_bytes,
                    uint8_t *objects, size_t objects_bytes,

@@ -32,6 +32,11 @@ static void test_classes(void)
 
     object[OBJECT_CLAIM - 4] = 1;
     expect("A with another group", &in, 1, 0, 1, LFSCK_OWNER);
+    object[OBJECT_OST] = 5;
+    expect("A on another OST, with another group", &in, 1, 0, 1, LFSCK_WRONG_OST);
+    object[OBJECT_CLAIM - 4] = 0;
+    expect("A on another OST", &in, 1, 0, 1, LFSCK_WRONG_OST);
+    expect("A is kept all the same", &in, 2, 1, 0, LFSCK_KEPT);
     memset(object + OBJECT_CLAIM, 0, 16);
     expect("A without claim", &in, 1, 0, 1, LFSCK_BLANK);
     object[OBJECT_SELF + 8]++;
@@ -51,6 +56,8 @@ static void test_unmatched(void)
     in.objects[LFSCK_OBJECT_BYTES + OBJECT_CLAIM + 12] = 5;
     check("A in another slot", ask(&in, 1, 0, 1, out, 4) == LFSCK_OK && out[0] == LFSCK_UNMATCHED);
     check("the claim is handed out", out[1] == 0x200000401 && out[2] == 1 && out[3] == 5);
+    in.objects[LFSCK_OBJECT_BYTES + OBJECT_OST] = 5;
+    check("and on another OST", ask(&in, 1, 0, 1, out, 4) == LFSCK_OK && out[0] == LFSCK_UNMATCHED);
 }
 
 static void test_refusals(void)

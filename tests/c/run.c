@@ -39,22 +39,22 @@ static void test_dangling(void)
 {
     struct input in = dangling();
     struct input before;
-    uint64_t report[10] = {99, 99, 99, 99, 99, 99, 99, 99, 99, 99};
+    uint64_t report[11] = {99, 99, 99, 99, 99, 99, 99, 99, 99, 99, 99};
 
     memcpy(&before, &in, sizeof before);
-    check("E7, policy 0", run(&in, UINT64_MAX, 3, report, 10) == LFSCK_OK);
+    check("E7, policy 0", run(&in, UINT64_MAX, 3, report, 11) == LFSCK_OK);
     check("E7, no change", memcmp(in.parents, before.parents, sizeof in.parents) == 0 &&
                                memcmp(in.objects, before.objects, sizeof in.objects) == 0);
     check("the end", stands_at(&in, LFSCK_STAGE_END, 0, 0));
     check("five steps, no repair", report[LFSCK_REPORT_STEPS] == 5 &&
                                        report[LFSCK_REPORT_DANGLING] == 0);
-    check("the number after the report stays", report[9] == 99);
+    check("the number after the report stays", report[10] == 99);
 
     in = dangling();
     in.policy = LFSCK_CREATE;
-    check("E7, policy 1, one step", run(&in, 1, 3, report, 9) == LFSCK_STEPS_USED);
+    check("E7, policy 1, one step", run(&in, 1, 3, report, 10) == LFSCK_STEPS_USED);
     check("the header was clean", stands_at(&in, 1, 0, 1) && report[LFSCK_REPORT_STEPS] == 1);
-    check("E7, policy 1, one more", run(&in, 1, 3, report, 9) == LFSCK_STEPS_USED);
+    check("E7, policy 1, one more", run(&in, 1, 3, report, 10) == LFSCK_STEPS_USED);
     check("A is made", is_made(in.objects));
     check("it is counted", report[LFSCK_REPORT_STEPS] == 1 && report[LFSCK_REPORT_DANGLING] == 1);
     check("the layout stays", memcmp(in.parents, before.parents, sizeof in.parents) == 0);
@@ -66,14 +66,14 @@ static void test_dangling(void)
 static void test_stop(void)
 {
     struct input in = dangling();
-    uint64_t report[9];
+    uint64_t report[10];
 
     in.policy = LFSCK_CREATE;
     in.objects_bytes = 0;
-    check("no object row", run(&in, 9, 3, report, 9) == LFSCK_NO_OBJECT_ROW);
+    check("no object row", run(&in, 9, 3, report, 10) == LFSCK_NO_OBJECT_ROW);
     check("it rests on the slot", stands_at(&in, 1, 0, 1));
     check("one step was done", report[LFSCK_REPORT_STEPS] == 1);
-    check("with no steps the slot is not looked at", run(&in, 0, 3, report, 9) == LFSCK_STEPS_USED);
+    check("with no steps the slot is not looked at", run(&in, 0, 3, report, 10) == LFSCK_STEPS_USED);
 }
 
 /* Q, a second file that names A; A claims P. */
@@ -93,12 +93,12 @@ static void test_redirect(void)
 {
     struct input in = shared();
     uint8_t slot[24] = {0};
-    uint64_t report[9];
+    uint64_t report[10];
     const uint8_t *q = in.parents + LFSCK_PARENT_BYTES;
 
     memcpy(slot, n, 16);
     slot[20] = 3;
-    check("a slot is redirected", run(&in, 99, 3, report, 9) == LFSCK_OK);
+    check("a slot is redirected", run(&in, 99, 3, report, 10) == LFSCK_OK);
     check("it names N", memcmp(q + PARENT_LAYOUT + 32, slot, 24) == 0);
     check("N is made in the unused row", in.objects[0] == 1 &&
                                              memcmp(in.objects + OBJECT_SELF, n, 16) == 0);
@@ -107,7 +107,7 @@ static void test_redirect(void)
 
     in = shared();
     in.reserve_bytes = 0;
-    check("no reserve", run(&in, 99, 3, report, 9) == LFSCK_NO_RESERVE);
+    check("no reserve", run(&in, 99, 3, report, 10) == LFSCK_NO_RESERVE);
     check("it rests on Q's slot", stands_at(&in, 1, 1, 1) && report[LFSCK_REPORT_STEPS] == 3);
 }
 
@@ -127,7 +127,7 @@ static void test_made_parent(void)
 {
     struct input in = orphan(159);
     struct input before;
-    uint64_t report[9];
+    uint64_t report[10];
     uint8_t made[LFSCK_PARENT_BYTES] = {1};
     uint8_t *layout = made + PARENT_LAYOUT;
 
@@ -138,46 +138,132 @@ static void test_made_parent(void)
     layout[7] = 0x40;
     layout[28] = 160;
     memcpy(layout + 32 + 24 * 159, e2 + 32, 24);
-    check("E10, index 159", run(&in, 99, 3, report, 9) == LFSCK_OK);
+    check("E10, index 159", run(&in, 99, 3, report, 10) == LFSCK_OK);
     check("a parent of 160 slots", memcmp(in.parents, made, sizeof made) == 0);
     check("it is counted as ORPHAN", report[LFSCK_REPORT_STEPS] == 4 &&
                                          report[LFSCK_REPORT_ORPHAN] == 1);
 
     in = orphan(160);
     memcpy(&before, &in, sizeof before);
-    check("E10, index 160", run(&in, 99, 3, report, 9) == LFSCK_OK);
+    check("E10, index 160", run(&in, 99, 3, report, 10) == LFSCK_OK);
     check("CONFLICT, no change", memcmp(in.parents, before.parents, sizeof in.parents) == 0 &&
                                      memcmp(in.objects, before.objects, sizeof in.objects) == 0);
 
     in = orphan(159);
     in.parents_bytes = 0;
     in.position[0] = LFSCK_STAGE_OBJECTS;
-    check("no parent row", run(&in, 99, 3, report, 9) == LFSCK_NO_PARENT_ROW);
+    check("no parent row", run(&in, 99, 3, report, 10) == LFSCK_NO_PARENT_ROW);
     check("it rests on the object", stands_at(&in, 2, 1, 0));
+}
+
+/* P with A, which its slot names on OST 3, of generation 7; A is on this OST and of this user. */
+static struct input placed(uint8_t ost, uint8_t user)
+{
+    struct input in = sound();
+
+    in.parents[PARENT_SLOT + 16] = 7;
+    in.objects[LFSCK_OBJECT_BYTES + OBJECT_OST] = ost;
+    in.objects[LFSCK_OBJECT_BYTES + OBJECT_UID] = user;
+    return in;
+}
+
+/*
+ * A run over P's header and slot, under every policy: it makes this one repair, and leaves P's slot
+ * on the OST of A and A with P's claim and owner, every other byte as it was. The next run makes
+ * none.
+ */
+static void expect_mended(const char *name, const struct input *lent, int counted)
+{
+    uint8_t ost = lent->objects[LFSCK_OBJECT_BYTES + OBJECT_OST];
+    struct input after = placed(ost, 0);
+    int holds = 1;
+
+    after.parents[PARENT_SLOT + 20] = ost;
+    for (uint64_t policy = 0; policy < 4; policy++) {
+        uint64_t expected[10] = {2};
+        uint64_t report[10];
+        struct input in = *lent;
+
+        in.policy = policy;
+        for (int again = 0; again < 2; again++) {
+            in.position[0] = LFSCK_STAGE_PARENTS;
+            in.position[1] = in.position[2] = 0;
+            expected[counted] = !again;
+            holds = holds && run(&in, 2, 3, report, 10) == LFSCK_STEPS_USED &&
+                    memcmp(report, expected, sizeof report) == 0 &&
+                    memcmp(in.parents, after.parents, sizeof in.parents) == 0 &&
+                    memcmp(in.objects, after.objects, sizeof in.objects) == 0;
+        }
+    }
+    check(name, holds);
+}
+
+static void test_wrong_ost(void)
+{
+    struct input in = placed(5, 0);
+
+    expect_mended("WRONG-OST: the index is written", &in, LFSCK_REPORT_WRONG_OST);
+    in = placed(5, 1);
+    expect_mended("WRONG-OST: the owner too", &in, LFSCK_REPORT_WRONG_OST);
+    in = placed(3, 1);
+    expect_mended("OWNER: the index was right", &in, LFSCK_REPORT_OWNER);
+}
+
+/* A claims nothing, or slot 5, on the slot's OST and on another. */
+static void test_claim_and_index(void)
+{
+    uint8_t *claim;
+    struct input in;
+
+    for (uint8_t ost = 3; ost <= 5; ost += 2) {
+        in = placed(ost, ost == 3);
+        claim = in.objects + LFSCK_OBJECT_BYTES + OBJECT_CLAIM;
+        claim[12] = 5;
+        expect_mended(ost == 3 ? "UNMATCHED, right index" : "UNMATCHED mends the index", &in,
+                      LFSCK_REPORT_UNMATCHED);
+        memset(claim, 0, 16);
+        expect_mended(ost == 3 ? "BLANK, right index" : "BLANK mends the index", &in,
+                      LFSCK_REPORT_BLANK);
+    }
+}
+
+/* A report of nine places, where there is an index to mend. */
+static void test_short_report(void)
+{
+    struct input in = placed(5, 1);
+    struct input before;
+    uint64_t report[9] = {99, 99, 99, 99, 99, 99, 99, 99, 99};
+    int untouched = 1;
+
+    memcpy(&before, &in, sizeof before);
+    check("nine places", run(&in, 9, 3, report, 9) == LFSCK_NO_ROOM);
+    for (int i = 0; i < 9; i++)
+        untouched = untouched && report[i] == 99;
+    check("nothing is written", untouched && memcmp(&in, &before, sizeof in) == 0);
 }
 
 static void test_refusals(void)
 {
     struct input in = dangling();
     struct input before;
-    uint64_t report[9] = {99, 99, 99, 99, 99, 99, 99, 99, 99};
+    uint64_t report[10] = {99, 99, 99, 99, 99, 99, 99, 99, 99, 99};
     int untouched = 1;
 
     in.policy = LFSCK_CREATE;
     memcpy(&before, &in, sizeof before);
-    check("a position of two numbers", run(&in, 9, 2, report, 9) == LFSCK_NO_POSITION);
-    check("16 before 17", run(&in, 9, 2, report, 8) == LFSCK_NO_POSITION);
-    check("a report of eight numbers", run(&in, 9, 3, report, 8) == LFSCK_NO_ROOM);
+    check("a position of two numbers", run(&in, 9, 2, report, 10) == LFSCK_NO_POSITION);
+    check("16 before 17", run(&in, 9, 2, report, 9) == LFSCK_NO_POSITION);
+    check("a report of nine numbers", run(&in, 9, 3, report, 9) == LFSCK_NO_ROOM);
     in.policy = 4;
-    check("policy 4", run(&in, 9, 3, report, 9) == LFSCK_BAD_POLICY);
+    check("policy 4", run(&in, 9, 3, report, 10) == LFSCK_BAD_POLICY);
     in.policy = LFSCK_CREATE;
     in.position[0] = 4;
-    check("stage 4", run(&in, 9, 3, report, 9) == LFSCK_NO_POSITION);
+    check("stage 4", run(&in, 9, 3, report, 10) == LFSCK_NO_POSITION);
     in.position[0] = LFSCK_STAGE_PARENTS;
     in.parents_bytes--;
-    check("no whole rows", run(&in, 9, 3, report, 9) == LFSCK_BAD_TABLE);
+    check("no whole rows", run(&in, 9, 3, report, 10) == LFSCK_BAD_TABLE);
     in.parents_bytes++;
-    for (int i = 0; i < 9; i++)
+    for (int i = 0; i < 10; i++)
         untouched = untouched && report[i] == 99;
     check("nothing is written then", untouched && memcmp(&in, &before, sizeof in) == 0);
 }
@@ -188,6 +274,9 @@ int main(void)
     test_stop();
     test_redirect();
     test_made_parent();
+    test_wrong_ost();
+    test_claim_and_index();
+    test_short_report();
     test_refusals();
     return report_all();
 }

@@ -12,8 +12,10 @@ enum {
     PARENT_SELF = 1,
     PARENT_LENGTH = 25,
     PARENT_LAYOUT = 27,
+    PARENT_SLOT = 59,
     OBJECT_SELF = 1,
     OBJECT_OST = 17,
+    OBJECT_UID = 21,
     OBJECT_CLAIM = 29,
     OBJECT_FRESH = 45
 };

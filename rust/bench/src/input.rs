@@ -100,7 +100,7 @@ impl Tables {
         }
     }
 
-    /// Damages as many objects as one slot in a hundred, evenly spread, in six ways in turn.
+    /// Damages as many objects as one slot in a hundred, evenly spread, in seven ways in turn.
     pub fn damage(&mut self, slots: usize) {
         let objects = self.objects.len() / OBJECT;
         let count = slots / 100;
@@ -109,7 +109,7 @@ impl Tables {
             let slot = number * slots / objects;
             let other = (number + objects / 2) % objects;
             let row = OBJECT * number;
-            match fault % 6 {
+            match fault % 7 {
                 // The object is gone.
                 0 => self.objects[row..row + OBJECT].fill(0),
                 // The slot names another file's object, and its own is gone.
@@ -125,7 +125,9 @@ impl Tables {
                 // It has another owner.
                 4 => self.objects[row + object::OWNER_AT] ^= 1,
                 // The slot is a hole, and the object an orphan.
-                _ => self.slot_mut(slot).fill(0),
+                5 => self.slot_mut(slot).fill(0),
+                // It is on the other OST of two whose indices are exchanged.
+                _ => self.objects[row + object::OST_AT] ^= 1,
             }
         }
     }

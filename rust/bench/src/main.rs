@@ -227,9 +227,12 @@ fn repaired(run: Timed<Ran>) -> Timed<Ran> {
         owner,
         empty,
         orphan,
+        wrong_ost,
     ] = *report;
     assert_eq!([own, empty], [0; 2]);
-    let all = [multiple, dangling, blank, unmatched, owner, orphan];
+    let all = [
+        multiple, dangling, blank, unmatched, owner, orphan, wrong_ost,
+    ];
     assert!(all.iter().all(|&count| count > 100), "{report:?}");
     run
 }

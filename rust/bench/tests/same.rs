@@ -25,7 +25,7 @@ fn runs_are_those_of_the_library() {
         assert_eq!(lfsck_sys::start(&parents, &objects, &mut start), 0);
 
         let (mut library, mut plain) = ((parents.clone(), objects.clone()), (parents, objects));
-        let (mut position, mut report) = (start, [0; 9]);
+        let (mut position, mut report) = (start, [0; 10]);
         let answer = lfsck_sys::run(
             &mut library.0,
             &mut library.1,
@@ -35,7 +35,7 @@ fn runs_are_those_of_the_library() {
             &mut position,
             &mut report,
         );
-        let (mut plain_position, mut plain_report) = (start, [0; 9]);
+        let (mut plain_position, mut plain_report) = (start, [0; 10]);
         let plain_answer = plain::run(
             &mut plain.0,
             &mut plain.1,
@@ -55,7 +55,7 @@ fn runs_are_those_of_the_library() {
 #[test]
 fn the_classes_are_those_of_the_library() {
     let mut random = Random::for_test("plain classes");
-    let mut met = [0_u64; 14];
+    let mut met = [0_u64; 15];
     for _ in 0..20_000 {
         let (parents, objects) = to_bytes(&random_tables(SHAPE, &mut random), &mut random);
         let mut start = [0; 3];

@@ -127,7 +127,7 @@ fn random_object(
     let claim = random_claim(fid, parents, shape, random);
     Object {
         fid,
-        ost: random_ost(random),
+        ost: random_object_ost(fid, claim, parents, random),
         owner: random_owner(random),
         claim,
         fresh: claim.is_some() && random.one_in(3),
@@ -176,6 +176,36 @@ fn random_index(shape: Shape, random: &mut Random) -> u32 {
     match random.below(16) {
         0 => random.pick(&[MOST - 1, MOST, MOST + 1, 65_536, u32::MAX]),
         _ => random.below(shape.slots + 1) as u32,
+    }
+}
+
+/// Mostly the OST that the claimed slot names, where that one names the object, or else one of
+/// the slots that do; now and then any.
+fn random_object_ost(
+    fid: Fid,
+    claim: Option<Claim>,
+    parents: &[Option<Parent>],
+    random: &mut Random,
+) -> u32 {
+    let mut named = Vec::new();
+    let mut claimed = None;
+    for parent in parents.iter().flatten() {
+        for (index, slot) in parent.layout.slots.iter().enumerate() {
+            let Some(stripe) = slot.filter(|stripe| stripe.object == fid) else {
+                continue;
+            };
+            named.push(stripe.ost);
+            let place = Claim {
+                parent: parent.fid,
+                index: index as u32,
+            };
+            claimed = claimed.or((claim == Some(place)).then_some(stripe.ost));
+        }
+    }
+    match claimed {
+        _ if named.is_empty() || random.one_in(3) => random_ost(random),
+        Some(ost) => ost,
+        None => random.pick(&named),
     }
 }
 

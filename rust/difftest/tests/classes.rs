@@ -3,6 +3,7 @@
 use std::hint::black_box;
 use std::time::Instant;
 
+use difftest::indices::Indexed;
 use difftest::tables::{TINY, damage, describe, random_tables, to_bytes};
 use difftest::{Coverage, Random};
 use reference::class::{Class, Denial, Way, way_to};
@@ -19,6 +20,8 @@ struct Seen {
     /// Positions that are not there, asked with too few places for the class.
     no_position_before_room: Coverage<&'static str>,
     classes: Coverage<u64>,
+    /// Slots by the OST index and the owner of their object.
+    indices: Coverage<Indexed>,
     keepers: Coverage<Kept>,
     ways: Coverage<Way>,
     denials: Coverage<Denial>,
@@ -45,7 +48,8 @@ impl Seen {
         Seen {
             answers: Coverage::of("class answers", [0, 11, 13, 14, 15, 16, 17]),
             no_position_before_room: Coverage::of("16 before 17", ["end", "elsewhere"]),
-            classes: Coverage::of("classes", 0..=13),
+            classes: Coverage::of("classes", 0..=14),
+            indices: Indexed::none_met("slots by index and owner"),
             keepers: Coverage::of(
                 "keepers",
                 [
@@ -83,6 +87,7 @@ impl Seen {
         self.answers.require(100);
         self.no_position_before_room.require(100);
         self.classes.require(1000);
+        self.indices.require(1000);
         self.keepers.require(1000);
         self.ways.require(200);
         self.denials.require(200);
@@ -103,6 +108,9 @@ fn every_position_is_classed_alike() {
         for position in Position::all(site.tables()) {
             let numbers = position.to_numbers();
             compare(&parents, &objects, numbers, &mut random, &mut seen);
+            if let Some(slot) = Indexed::at(&site, position) {
+                seen.indices.met(slot);
+            }
         }
         compare_refusals(parents, objects, &mut random, &mut seen);
     }

@@ -47,7 +47,7 @@ impl Seen {
             ),
             odd: Coverage::of("numbers past the last place", 0..CLASS),
             stages: Coverage::of("stages begun in", 1..=3),
-            classes: Coverage::of("classes", 0..=13),
+            classes: Coverage::of("classes", 0..=14),
         }
     }
 

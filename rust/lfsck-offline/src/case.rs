@@ -282,7 +282,7 @@ mod tests {
         answer: 0,
         position: [3, 0, 0],
         steps: 2,
-        repairs: [0; 8],
+        repairs: [0; 9],
     };
 
     /// A case with a row in each table, in a directory of its own.

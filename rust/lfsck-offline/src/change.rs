@@ -21,6 +21,8 @@ pub struct Change {
     pub object: Option<OstFid>,
     /// What differs.
     pub what: What,
+    /// Whether an undo took it back.
+    pub undone: bool,
 }
 
 /// What differs, with the old and the new value.
@@ -71,8 +73,8 @@ impl What {
         }
     }
 
-    /// For people.
-    pub fn words(&self) -> String {
+    /// For people, of a run or of an undo.
+    fn words(&self, undone: bool) -> String {
         match self {
             What::FileMade(file) => {
                 let slots = slots_words(file.slots.len());
@@ -84,7 +86,7 @@ impl What {
                 let done = if new > old { "grown" } else { "cut" };
                 format!("layout {done} from {old} to {}", slots_words(*new))
             }
-            What::Slot(slot) => slot_words(slot.old, slot.new),
+            What::Slot(slot) => slot_words(slot.old, slot.new, undone),
             What::ObjectMade(object) => {
                 format!("{} made on OST {}", object_words(object), object.ost)
             }
@@ -124,10 +126,16 @@ fn object_words(object: &Object) -> &'static str {
     }
 }
 
-fn slot_words(old: Option<Stripe>, new: Option<Stripe>) -> String {
+fn slot_words(old: Option<Stripe>, new: Option<Stripe>, undone: bool) -> String {
     match (old, new) {
         (None, _) => "slot names this object now, where there was none".to_string(),
         (Some(_), None) => "slot names no object now, it named this one".to_string(),
+        (Some(old), Some(new)) if (old.object, old.generation) == (new.object, new.generation) => {
+            // A run writes the index that the object has.
+            let there = if undone { "" } else { ", where the object is," };
+            let (old, new) = (old.ost, new.ost);
+            format!("OST {new}{there} written into the slot, it was {old}")
+        }
         (Some(old), Some(new)) if old.object == new.object => format!(
             "slot has generation {} and OST {} now, it had {} and {}",
             new.generation, new.ost, old.generation, old.ost
@@ -150,6 +158,11 @@ fn claim_words(old: Option<Claim>, new: Option<Claim>) -> String {
 }
 
 impl Change {
+    /// For people.
+    pub fn words(&self) -> String {
+        self.what.words(self.undone)
+    }
+
     /// For machines.
     pub fn json(&self) -> Json {
         let (old, new) = self.what.values();
@@ -162,7 +175,7 @@ impl Change {
             ("object", Json::maybe(self.object)),
             ("old", old),
             ("new", new),
-            ("what", Json::text(self.what.words())),
+            ("what", Json::text(self.words())),
         ])
     }
 }

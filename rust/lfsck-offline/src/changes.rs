@@ -42,6 +42,7 @@ fn of_file(row: usize, file: &File, what: What) -> Change {
         slot: None,
         object: None,
         what,
+        undone: false,
     }
 }
 
@@ -108,6 +109,7 @@ fn of_object(row: usize, object: &Object, what: What) -> Change {
         slot: object.claim.map(|claim| claim.index),
         object: Some(object.fid),
         what,
+        undone: false,
     }
 }
 

@@ -36,6 +36,8 @@ pub enum Class {
     Kept,
     /// An unused row.
     Unused,
+    /// A keeper whose object claims it and is on another OST than it names.
+    WrongOst,
 }
 
 /// The names of the classes, each at its number.
@@ -54,6 +56,7 @@ pub const NAMES: [&str; call::CLASSES] = [
     "CONFLICT",
     "KEPT",
     "UNUSED",
+    "WRONG-OST",
 ];
 
 /// What each class means, at its number.
@@ -72,6 +75,7 @@ pub const MEANINGS: [&str; call::CLASSES] = [
     "no slot names it, and its claimed place cannot be had",
     "a slot names it",
     "the row is not used",
+    "the object is on another OST than the slot names",
 ];
 
 impl Class {
@@ -95,6 +99,7 @@ impl Class {
             11 => Class::Conflict,
             12 => Class::Kept,
             13 => Class::Unused,
+            14 => Class::WrongOst,
             _ => return None,
         })
     }
@@ -116,6 +121,7 @@ impl Class {
             Class::Conflict => 11,
             Class::Kept => 12,
             Class::Unused => 13,
+            Class::WrongOst => 14,
         }
     }
 
@@ -144,10 +150,10 @@ mod tests {
 
     #[test]
     fn every_number_has_its_class() {
-        for number in 0..14 {
+        for number in 0..15 {
             let class = Class::of_numbers([number, 0, 0, 0]).expect("a class");
             assert_eq!(class.number() as u64, number);
         }
-        assert_eq!(Class::of_numbers([14, 0, 0, 0]), None);
+        assert_eq!(Class::of_numbers([15, 0, 0, 0]), None);
     }
 }

@@ -4,7 +4,7 @@ use crate::class::Class;
 use crate::fid::{MdtFid, OstFid};
 use crate::foretell::{self, Turn};
 use crate::position::Position;
-use crate::rows::{Object, Stripe};
+use crate::rows::{Object, Owner, Stripe};
 use crate::site::{Named, Place, Site};
 use crate::why::{self, Rule};
 
@@ -20,6 +20,10 @@ pub struct Finding {
     pub slot: Option<u32>,
     /// The object.
     pub object: Option<OstFid>,
+    /// The OST that the slot names.
+    pub slot_ost: Option<u64>,
+    /// The OST that the object is on.
+    pub object_ost: Option<u64>,
     /// What its repair would do; none where nothing would be done.
     pub repair: Option<Repair>,
     /// The keeper of the object and the rule that makes it so.
@@ -82,6 +86,8 @@ impl Finding {
             file: None,
             slot: None,
             object: None,
+            slot_ost: None,
+            object_ost: None,
             repair: None,
             keeper: None,
             denial: None,
@@ -114,6 +120,10 @@ impl Finding {
             return;
         };
         self.object = Some(stripe.object);
+        self.slot_ost = Some(stripe.ost);
+        self.object_ost = site
+            .object_of(stripe.object)
+            .map(|object| object.ost.into());
         self.keeper = why::keeper(site, stripe.object)
             .and_then(|(keeper, rule)| Some((site.name(keeper)?, rule)));
         self.repair = slot_repair(site, place, stripe, self.class);
@@ -124,6 +134,7 @@ impl Finding {
             return;
         };
         self.object = Some(object.fid);
+        self.object_ost = Some(object.ost.into());
         self.file = object.claim.map(|claim| claim.file);
         self.slot = object.claim.map(|claim| claim.index);
         self.keeper = why::keeper(site, object.fid)
@@ -189,11 +200,37 @@ fn slot_repair(site: &Site, place: Place, stripe: Stripe, class: Class) -> Optio
             Needs::Create,
             format!("make the object, empty, on OST {}", stripe.ost),
         ),
-        Class::Blank | Class::Unmatched(_) => repair(
-            Needs::Nothing,
-            format!("write this slot as the object's claim, and the owner {owner}"),
-        ),
+        Class::Blank | Class::Unmatched(_) => {
+            let claim = "write this slot as the object's claim";
+            let does = match index_words(site, stripe) {
+                None => format!("{claim}, and the owner {owner}"),
+                Some(index) => format!("{claim}, the owner {owner}, and {index}"),
+            };
+            repair(Needs::Nothing, does)
+        }
+        Class::WrongOst => wrong_ost_repair(site, stripe, owner),
         Class::Owner => repair(Needs::Nothing, format!("write the owner {owner}")),
         _ => None,
     }
+}
+
+/// The index is written into the slot, and the owner too where it differs.
+fn wrong_ost_repair(site: &Site, stripe: Stripe, owner: Owner) -> Option<Repair> {
+    let index = index_words(site, stripe)?;
+    let does = match site.object_of(stripe.object)?.owner == owner {
+        true => format!("write {index}"),
+        false => format!("write the owner {owner}, and {index}"),
+    };
+    repair(Needs::Nothing, does)
+}
+
+/// The OST index that is written into a slot; none where it is right.
+fn index_words(site: &Site, stripe: Stripe) -> Option<String> {
+    let ost = u64::from(site.object_of(stripe.object)?.ost);
+    (ost != stripe.ost).then(|| {
+        format!(
+            "OST {ost}, where the object is, into the slot, which names OST {}",
+            stripe.ost
+        )
+    })
 }

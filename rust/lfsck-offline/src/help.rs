@@ -114,13 +114,14 @@ Usage: lfsck-offline classes DIR [--only CLASS] [--file FID] [--object FID]
                          [--exit-code] [--json]
 
 Lists every finding: file, slot, object, class, and what its repair would do and
-under which policy. Where a run does something to the claimed slot of an object
-before it comes to the object, so that its class is another by then, it says so.
-Ends with the number of positions of each class.
+under which policy. Where a slot is to get the OST index of its object, it says
+which OST the slot names and where the object is. Where a run does something to
+the claimed slot of an object before it comes to the object, so that its class
+is another by then, it says so. Ends with the number of positions of each class.
 
   --only CLASS   list the positions of this class alone, of any class:
-                 CLEAN SELF HOLE MULTIPLE DANGLING BLANK UNMATCHED OWNER
-                 SPARE EMPTY ORPHAN CONFLICT KEPT UNUSED
+                 CLEAN SELF HOLE MULTIPLE DANGLING BLANK UNMATCHED WRONG-OST
+                 OWNER SPARE EMPTY ORPHAN CONFLICT KEPT UNUSED
   --file FID     header and slots of this file, and the objects that claim it
   --object FID   this object, and the slots that name it
   --ost N        objects on this OST, and slots that say so of theirs
@@ -141,8 +142,8 @@ Usage: lfsck-offline run DIR [--create] [--adopt] [--steps N] [--from-start]
 
 Repairs step by step and saves tables and position together. Goes on from the
 saved position if policy, reserve and tables are those that it was saved with,
-else begins at the start and says why. SELF, BLANK, UNMATCHED and OWNER are
-repaired under every policy.
+else begins at the start and says why. SELF, BLANK, UNMATCHED, WRONG-OST and
+OWNER are repaired under every policy.
 
   --create       make objects for slots that have none of their own
                  (MULTIPLE, DANGLING)

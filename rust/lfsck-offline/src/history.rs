@@ -9,7 +9,7 @@ use crate::json::Json;
 use crate::reader::Value;
 use crate::saved::Saved;
 use crate::site::Site;
-use crate::slices::{COUNTED, Run};
+use crate::slices::{COUNTED, LATER, Run};
 use crate::tables::{Table, Tables};
 
 /// The file of the log.
@@ -122,6 +122,7 @@ impl Entry {
             let of_table = numbers.iter().find(|(table, _)| *table == change.table);
             let number = of_table.and_then(|(_, numbers)| numbers.get(change.row));
             change.row = number.copied().unwrap_or(change.row);
+            change.undone = matches!(self.deed, Deed::Undo { .. });
         }
         list
     }
@@ -246,8 +247,6 @@ impl Deed {
             let undoes = undoes.to_string();
             return Some(Deed::Undo { undoes });
         }
-        let repairs = value.get("repairs")?;
-        let counts: Option<Vec<u64>> = COUNTED.iter().map(|class| repairs.number(class)).collect();
         Some(Deed::Run {
             policy: value.number("policy")?,
             from: numbers_of(value.list("from")?)?,
@@ -255,7 +254,7 @@ impl Deed {
                 answer: value.number("answer")?.try_into().ok()?,
                 position: numbers_of(value.list("to")?)?,
                 steps: value.number("steps")?,
-                repairs: counts?.try_into().ok()?,
+                repairs: counts_of(value.get("repairs")?)?,
             },
             saved: match value.get("saved")? {
                 Value::Null => None,
@@ -263,6 +262,16 @@ impl Deed {
             },
         })
     }
+}
+
+/// The repairs by class. Where the later class is missing, there was none of it.
+fn counts_of(repairs: &Value) -> Option<[u64; COUNTED.len()]> {
+    let count = |class: &&str| match repairs.get(class) {
+        None if *class == LATER => Some(0),
+        _ => repairs.number(class),
+    };
+    let counts: Option<Vec<u64>> = COUNTED.iter().map(count).collect();
+    counts?.try_into().ok()
 }
 
 fn numbers_json(numbers: &[u64; 3]) -> Json {

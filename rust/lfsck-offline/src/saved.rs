@@ -13,11 +13,32 @@ pub const POSITION: &str = "lfsck-offline.position";
 /// The file is shorter than this.
 pub const MOST_BYTES: usize = 4096;
 
-const TITLE: &str = "lfsck-offline position, format 1";
+/// The forms of the file, which are alike but for the title.
+#[derive(Clone, Copy, Debug, PartialEq, Eq)]
+pub enum Format {
+    /// Of a version without the class WRONG-OST. Its runs passed by slots of that class, so such
+    /// a position never counts.
+    One,
+    /// Of a version with all classes.
+    Two,
+}
+
+impl Format {
+    const ALL: [Format; 2] = [Format::One, Format::Two];
+
+    fn title(self) -> &'static str {
+        match self {
+            Format::One => "lfsck-offline position, format 1",
+            Format::Two => "lfsck-offline position, format 2",
+        }
+    }
+}
 
 /// A position and its conditions.
 #[derive(Clone, Debug, PartialEq, Eq)]
 pub struct Saved {
+    /// The form of the file.
+    pub format: Format,
     /// Stage, row and part.
     pub position: [u64; 3],
     /// The policy of the run.
@@ -34,6 +55,7 @@ impl Saved {
     /// A position in these tables.
     pub fn new(position: [u64; 3], policy: u64, tables: &Tables) -> Saved {
         Saved {
+            format: Format::Two,
             position,
             policy,
             parents: Digest::of(&tables.parents),
@@ -44,6 +66,10 @@ impl Saved {
 
     /// Why a run with this policy on these tables must not go on from here.
     pub fn differs(&self, policy: u64, tables: &Tables) -> Option<String> {
+        if self.format == Format::One {
+            let why = "it was saved by a version without the class WRONG-OST";
+            return Some(why.to_string());
+        }
         if self.policy != policy {
             let (was, is) = (policy_words(self.policy), policy_words(policy));
             return Some(format!("it was saved with {was}, and this run has {is}"));
@@ -64,8 +90,12 @@ impl Saved {
     pub fn to_text(&self) -> String {
         let [stage, row, part] = self.position;
         let text = format!(
-            "{TITLE}\nposition {stage} {row} {part}\npolicy {}\nparents {}\nobjects {}\nreserve {}\n",
-            self.policy, self.parents, self.objects, self.reserve
+            "{}\nposition {stage} {row} {part}\npolicy {}\nparents {}\nobjects {}\nreserve {}\n",
+            self.format.title(),
+            self.policy,
+            self.parents,
+            self.objects,
+            self.reserve
         );
         let digest = Digest::of(text.as_bytes());
         format!("{text}digest {digest}\n")
@@ -75,15 +105,16 @@ impl Saved {
     pub fn parse(bytes: &[u8]) -> Option<Saved> {
         let text = str::from_utf8(bytes).ok()?;
         let mut lines = text.lines();
-        if lines.next()? != TITLE {
-            return None;
-        }
+        let title = lines.next()?;
+        let mut formats = Format::ALL.into_iter();
+        let format = formats.find(|format| format.title() == title)?;
         let mut field = |name: &str| lines.next()?.strip_prefix(name)?.strip_prefix(' ');
         let position: Option<Vec<u64>> = field("position")?
             .split(' ')
             .map(|number| number.parse().ok())
             .collect();
         let saved = Saved {
+            format,
             position: position?.try_into().ok()?,
             policy: field("policy")?.parse().ok()?,
             parents: Digest::parse(field("parents")?)?,
@@ -122,6 +153,23 @@ mod tests {
         let text = saved.to_text();
         assert!(text.len() < MOST_BYTES);
         assert_eq!(Saved::parse(text.as_bytes()), Some(saved));
+    }
+
+    /// It is read, and written again byte for byte.
+    #[test]
+    fn a_position_of_the_first_format_never_counts() {
+        let saved = Saved {
+            format: Format::One,
+            ..Saved::new([3, 0, 0], 3, &tables())
+        };
+        let text = saved.to_text();
+        assert!(text.starts_with("lfsck-offline position, format 1\nposition 3 0 0\npolicy 3\n"));
+        assert_eq!(Saved::parse(text.as_bytes()), Some(saved.clone()));
+        let why = saved.differs(3, &tables()).expect("a reason");
+        assert!(why.contains("without the class WRONG-OST"), "{why}");
+        // The title alone makes no position of the other format.
+        let other = text.replace("format 1", "format 2");
+        assert_eq!(Saved::parse(other.as_bytes()), None);
     }
 
     #[test]

@@ -7,6 +7,7 @@
 use crate::change::{Change, What};
 use crate::class::Class;
 use crate::fid::{Fid, OstFid};
+use crate::rows::Stripe;
 
 /// The class that was mended where a run changed something, told from all that it changed.
 pub fn mended(change: &Change, all: &[Change]) -> Class {
@@ -16,8 +17,9 @@ pub fn mended(change: &Change, all: &[Change]) -> Class {
         What::ObjectMade(_) => Class::Dangling,
         What::ObjectDestroyed(object) if formerly_named(object.fid, all) => Class::Orphan,
         What::ObjectDestroyed(_) => Class::Empty,
-        What::Slot(slot) => match slot.new {
-            Some(stripe) if made(stripe.object, all) => Class::Multiple,
+        What::Slot(slot) => match (slot.old, slot.new) {
+            (Some(old), Some(new)) if old.object == new.object => index_mended(old.object, all),
+            (_, Some(stripe)) if made(stripe.object, all) => Class::Multiple,
             _ => Class::Orphan,
         },
         What::Claim(claim) => claim.old.map_or(Class::Blank, Class::Unmatched),
@@ -26,31 +28,52 @@ pub fn mended(change: &Change, all: &[Change]) -> Class {
     }
 }
 
-/// An owner is written with a claim, or when an object is put in its place, or by itself.
+/// An owner is written with a claim, or when an object is put in its place, or with the OST
+/// index of its slot, or by itself.
 fn owner_mended(change: &Change, all: &[Change]) -> Class {
-    let with = all
-        .iter()
-        .find(|other| other.object == change.object && matches!(other.what, What::Claim(_)));
-    match (with, change.object) {
-        (Some(claim), _) => mended(claim, all),
-        (None, Some(object)) if newly_named(object, all) => Class::Orphan,
-        _ => Class::Owner,
+    let Some(object) = change.object else {
+        return Class::Owner;
+    };
+    match claim_written(object, all) {
+        Some(claim) => mended(claim, all),
+        None if newly_named(object, all) => Class::Orphan,
+        None if index_written(object, all) => Class::WrongOst,
+        None => Class::Owner,
     }
+}
+
+/// An OST index is written with a claim, or for itself.
+fn index_mended(object: OstFid, all: &[Change]) -> Class {
+    claim_written(object, all).map_or(Class::WrongOst, |claim| mended(claim, all))
+}
+
+/// The change of an object's claim.
+fn claim_written(object: OstFid, all: &[Change]) -> Option<&Change> {
+    all.iter()
+        .find(|change| change.object == Some(object) && matches!(change.what, What::Claim(_)))
 }
 
 /// Whether a slot names an object that it did not name before.
 fn newly_named(object: OstFid, all: &[Change]) -> bool {
-    all.iter().any(|change| match &change.what {
-        What::Slot(slot) => slot.new.is_some_and(|stripe| stripe.object == object),
-        _ => false,
-    })
+    slots(all).any(|(old, new)| new == Some(object) && old != new)
 }
 
 /// Whether a slot named an object that it does not name now.
 fn formerly_named(object: OstFid, all: &[Change]) -> bool {
-    all.iter().any(|change| match &change.what {
-        What::Slot(slot) => slot.old.is_some_and(|stripe| stripe.object == object),
-        _ => false,
+    slots(all).any(|(old, new)| old == Some(object) && old != new)
+}
+
+/// Whether a slot that named an object, and names it still, was changed: its OST index was.
+fn index_written(object: OstFid, all: &[Change]) -> bool {
+    slots(all).any(|(old, new)| new == Some(object) && old == new)
+}
+
+/// The objects that changed slots named and name.
+fn slots(all: &[Change]) -> impl Iterator<Item = (Option<OstFid>, Option<OstFid>)> {
+    let named = |stripe: Option<Stripe>| stripe.map(|stripe| stripe.object);
+    all.iter().filter_map(move |change| match &change.what {
+        What::Slot(slot) => Some((named(slot.old), named(slot.new))),
+        _ => None,
     })
 }
 

@@ -18,9 +18,9 @@ unsafe extern "C" {
 }
 
 /// Checks the input, then makes at most `most` steps from a position on. The tables and the
-/// position, 3 numbers, are changed in place; the report, 9 numbers, is the steps done and the
-/// repairs of SELF, MULTIPLE, DANGLING, BLANK, UNMATCHED, OWNER, EMPTY and ORPHAN. Answers 0, 1,
-/// 11 to 17 or 21 to 23.
+/// position, 3 numbers, are changed in place; the report, 10 numbers, is the steps done and the
+/// repairs of SELF, MULTIPLE, DANGLING, BLANK, UNMATCHED, OWNER, EMPTY, ORPHAN and WRONG-OST.
+/// Answers 0, 1, 11 to 17 or 21 to 23.
 pub fn run(
     parents: &mut [u8],
     objects: &mut [u8],

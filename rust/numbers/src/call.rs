@@ -19,11 +19,11 @@ pub const STAGE_END: u64 = 3;
 pub const END: [u64; POSITION] = [STAGE_END, 0, 0];
 
 /// The classes that there are.
-pub const CLASSES: usize = 14;
+pub const CLASSES: usize = 15;
 /// The numbers of a class: which one, and the claim of an object that claims another slot.
 pub const CLASS: usize = 4;
 /// The classes whose repairs a run counts.
-pub const COUNTED: usize = 8;
+pub const COUNTED: usize = 9;
 /// The numbers of a run's report: the steps and the counts.
 pub const REPORT: usize = 1 + COUNTED;
 /// The numbers of a header that is read.

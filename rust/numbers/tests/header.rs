@@ -58,8 +58,8 @@ fn what_calls_are_handed() {
         ("LFSCK_RECORD_READ", call::LINK_READ),
         ("LFSCK_RECORD_WRITE", call::LINK_WRITTEN),
         // The last of each.
-        ("LFSCK_UNUSED", call::CLASSES - 1),
-        ("LFSCK_REPORT_ORPHAN", call::COUNTED),
+        ("LFSCK_WRONG_OST", call::CLASSES - 1),
+        ("LFSCK_REPORT_WRONG_OST", call::COUNTED),
     ] {
         assert_eq!(number as u64, number_of(name), "{name}");
     }

@@ -23,6 +23,8 @@ pub enum Class {
     Blank,
     /// A keeper whose object claims another slot: this one.
     Unmatched(Claim),
+    /// A keeper whose object claims it and is on another OST than it names.
+    WrongOst,
     /// A keeper whose object has another owner than the file.
     Owner,
     /// An object that no slot names and that claims nothing.
@@ -100,6 +102,7 @@ impl Class {
             Class::Conflict => 11,
             Class::Kept => 12,
             Class::Unused => 13,
+            Class::WrongOst => 14,
         }
     }
 }
@@ -125,7 +128,7 @@ fn of_slot(site: &Site, place: Place) -> Class {
         .and_then(|row| site.object(row))
     {
         None => Class::Dangling,
-        Some(object) => of_kept(site, place, object),
+        Some(object) => of_kept(site, place, stripe, object),
     }
 }
 
@@ -135,10 +138,11 @@ fn is_keeper(site: &Site, place: Place, object: Fid) -> bool {
 }
 
 /// The class of a keeper whose object is there.
-fn of_kept(site: &Site, place: Place, object: &Object) -> Class {
+fn of_kept(site: &Site, place: Place, stripe: Stripe, object: &Object) -> Class {
     match object.claim {
         None => Class::Blank,
         Some(claim) if site.claim_on(place) != Some(claim) => Class::Unmatched(claim),
+        Some(_) if object.ost != stripe.ost => Class::WrongOst,
         Some(_) if site.parent(place.row).map(|parent| parent.owner) != Some(object.owner) => {
             Class::Owner
         }

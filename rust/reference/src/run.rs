@@ -16,8 +16,9 @@ pub struct Outcome {
     pub position: Position,
     /// The steps done.
     pub steps: u64,
-    /// The repairs of SELF, MULTIPLE, DANGLING, BLANK, UNMATCHED, OWNER, EMPTY and ORPHAN.
-    pub repairs: [u64; 8],
+    /// The repairs of SELF, MULTIPLE, DANGLING, BLANK, UNMATCHED, OWNER, EMPTY, ORPHAN and
+    /// WRONG-OST.
+    pub repairs: [u64; 9],
 }
 
 /// Makes at most so many steps.
@@ -32,7 +33,7 @@ pub fn run(
         answer: DONE,
         position,
         steps: 0,
-        repairs: [0; 8],
+        repairs: [0; 9],
     };
     while outcome.position != Position::End {
         if outcome.steps == most {
@@ -63,6 +64,7 @@ impl Outcome {
             Some(Class::Owner) => self.repairs[5] += 1,
             Some(Class::Empty) => self.repairs[6] += 1,
             Some(Class::Orphan) => self.repairs[7] += 1,
+            Some(Class::WrongOst) => self.repairs[8] += 1,
             _ => (),
         }
     }

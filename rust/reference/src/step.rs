@@ -74,7 +74,11 @@ fn repair_slot(
     match class {
         Class::Multiple if create => redirect(site, place, stripe, reserve)?,
         Class::Dangling if create => make_object(site, place, stripe)?,
-        Class::Blank | Class::Unmatched(_) | Class::Owner => match_object(site, place, stripe),
+        Class::Blank | Class::Unmatched(_) | Class::WrongOst => {
+            match_object(site, place, stripe);
+            match_index(site, place, stripe);
+        }
+        Class::Owner => match_object(site, place, stripe),
         _ => return Ok(false),
     }
     Ok(true)
@@ -124,6 +128,14 @@ fn match_object(site: &mut Site, place: Place, stripe: Stripe) {
         ..*object
     });
     site.put_object(row, matched);
+}
+
+/// The slot names the OST that its object is on. Its generation stays.
+fn match_index(site: &mut Site, place: Place, stripe: Stripe) {
+    let row = site.object_row(stripe.object);
+    if let Some(ost) = row.and_then(|row| Some(site.object(row)?.ost)) {
+        set_slot(site, place, Stripe { ost, ..stripe });
+    }
 }
 
 fn repair_object(site: &mut Site, row: usize, class: Class) -> Result<bool, Stop> {

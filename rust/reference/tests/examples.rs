@@ -99,7 +99,7 @@ impl Tables {
         let mut position = [0; 3];
         let answer = interface::start(&self.parents, &self.objects, &mut position);
         assert_eq!(answer, DONE);
-        let mut report = [0; 9];
+        let mut report = [0; 10];
         let answer = interface::run(
             &mut self.parents,
             &mut self.objects,
@@ -146,12 +146,12 @@ struct Run {
     answer: u32,
     position: [u64; 3],
     steps: u64,
-    repairs: [u64; 8],
+    repairs: [u64; 9],
 }
 
 impl Run {
     /// A run that reached the end.
-    fn to_end(steps: u64, repairs: [u64; 8]) -> Run {
+    fn to_end(steps: u64, repairs: [u64; 9]) -> Run {
         Run {
             answer: DONE,
             position: [3, 0, 0],
@@ -162,8 +162,8 @@ impl Run {
 }
 
 /// Repairs of MULTIPLE, DANGLING and ORPHAN, none of the others.
-fn repairs(multiple: u64, dangling: u64, orphan: u64) -> [u64; 8] {
-    [0, multiple, dangling, 0, 0, 0, 0, orphan]
+fn repairs(multiple: u64, dangling: u64, orphan: u64) -> [u64; 9] {
+    [0, multiple, dangling, 0, 0, 0, 0, orphan, 0]
 }
 
 /// A fresh object as a repair makes it for a slot.
@@ -193,7 +193,7 @@ fn e1_without_rows_the_start_is_the_end() {
     let mut steps = [9];
     assert_eq!(interface::steps(&[], &[], &mut steps), DONE);
     assert_eq!(steps, [0]);
-    assert_eq!(Tables::default().run(3, &[N]), Run::to_end(0, [0; 8]));
+    assert_eq!(Tables::default().run(3, &[N]), Run::to_end(0, [0; 9]));
 }
 
 /// P[A,B], Q[A]; A claims (Q,0), B claims (P,1).
@@ -223,7 +223,7 @@ fn e5_without_an_unused_row_the_redirect_stops() {
         answer: NO_OBJECT_ROW,
         position: [1, 0, 1],
         steps: 1,
-        repairs: [0; 8],
+        repairs: [0; 9],
     };
     assert_eq!(tables.run(1, &[N]), stopped);
     assert_eq!(tables, before);
@@ -237,7 +237,7 @@ fn e6_without_reserve_it_stops_for_that() {
         answer: NO_RESERVE,
         position: [1, 0, 1],
         steps: 1,
-        repairs: [0; 8],
+        repairs: [0; 9],
     };
     assert_eq!(tables.run(1, &[]), stopped);
     assert_eq!(tables, before);
@@ -250,7 +250,7 @@ fn e7_an_absent_object_is_made_with_create_alone() {
     assert_eq!(tables.class(1, 0, 0), bare(CLEAN));
     assert_eq!(tables.class(1, 0, 1), bare(DANGLING));
     assert_eq!(tables.class(2, 0, 0), bare(UNUSED));
-    assert_eq!(tables.run(0, &[]), Run::to_end(3, [0; 8]));
+    assert_eq!(tables.run(0, &[]), Run::to_end(3, [0; 9]));
     assert_eq!(tables, before);
     assert_eq!(tables.run(1, &[]), Run::to_end(3, repairs(0, 1, 0)));
     assert_eq!(tables.object_in(0), fresh(A, P, 0));
@@ -284,7 +284,7 @@ fn e9_without_create_the_orphan_is_in_conflict() {
         let before = tables.clone();
         assert_eq!(tables.class(1, 0, 1), bare(DANGLING));
         assert_eq!(tables.class(2, c as u64, 0), bare(CONFLICT));
-        assert_eq!(tables.run(2, &[]), Run::to_end(4, [0; 8]));
+        assert_eq!(tables.run(2, &[]), Run::to_end(4, [0; 9]));
         assert_eq!(tables, before);
     }
 }
@@ -307,7 +307,7 @@ fn e10_an_absent_parent_is_made_up_to_index_159() {
     let mut tables = claiming(160);
     let before = tables.clone();
     assert_eq!(tables.class(2, 0, 0), bare(CONFLICT));
-    assert_eq!(tables.run(2, &[]), Run::to_end(2, [0; 8]));
+    assert_eq!(tables.run(2, &[]), Run::to_end(2, [0; 9]));
     assert_eq!(tables, before);
 }
 
@@ -363,6 +363,6 @@ fn e13_an_unnamed_object_without_claim_is_spare() {
     let mut tables = Tables::default().object(A, None);
     let before = tables.clone();
     assert_eq!(tables.class(2, 0, 0), bare(SPARE));
-    assert_eq!(tables.run(3, &[N]), Run::to_end(1, [0; 8]));
+    assert_eq!(tables.run(3, &[N]), Run::to_end(1, [0; 9]));
     assert_eq!(tables, before);
 }

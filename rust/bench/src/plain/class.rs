@@ -1,11 +1,11 @@
 //! The class at a position.
 
 use numbers::call::{self, STAGE_PARENTS};
-use numbers::layout::{MOST_SLOTS, OWN_ID_AT, OWN_SEQUENCE_AT};
+use numbers::layout::{MOST_SLOTS, OWN_ID_AT, OWN_SEQUENCE_AT, SLOT_OST_AT};
 use numbers::object::SELF_AT;
 use numbers::{object, parent};
 
-use super::bytes::{Fid, NO_FID, is_used, number64, row};
+use super::bytes::{Fid, NO_FID, is_used, number32, number64, row};
 use super::layout::{holes_allowed, is_hole, layout_of};
 use super::search::{claim_of, is_named_else, keeper, object_row, parent_row, slot_at};
 
@@ -18,6 +18,7 @@ pub enum Class {
     Dangling,
     Blank,
     Unmatched(Fid),
+    WrongOst,
     Owner,
     Spare,
     Empty,
@@ -47,6 +48,7 @@ impl Class {
             Class::Conflict => 11,
             Class::Kept => 12,
             Class::Unused => 13,
+            Class::WrongOst => 14,
         };
         [number, 0, 0, 0]
     }
@@ -104,7 +106,8 @@ pub fn slot(parents: &[u8], objects: &[u8], at: usize, index: usize) -> Class {
         return Class::Dangling;
     };
     let parent = row(parents, parent::BYTES, at);
-    let owner = &row(objects, object::BYTES, object)[object::OWNER_AT..object::CLAIM_AT];
+    let object = row(objects, object::BYTES, object);
+    let owner = &object[object::OWNER_AT..object::CLAIM_AT];
     let own = Fid {
         version: index as u32,
         ..Fid::read(parent, SELF_AT)
@@ -113,6 +116,8 @@ pub fn slot(parents: &[u8], objects: &[u8], at: usize, index: usize) -> Class {
         Class::Blank
     } else if claim != own {
         Class::Unmatched(claim)
+    } else if number32(object, object::OST_AT) != number32(slot, SLOT_OST_AT) {
+        Class::WrongOst
     } else if *owner != parent[parent::OWNER_AT..parent::LENGTH_AT] {
         Class::Owner
     } else {

@@ -66,17 +66,21 @@ fn slot_step(lent: &mut Lent, policy: u64, at: usize, index: usize) -> Stepped {
             make_object(lent, at, index, fid, ost)?;
             Ok(Some(2))
         }
-        Class::Blank => Ok(write_claim(lent, at, index, fid, 3)),
-        Class::Unmatched(_) => Ok(write_claim(lent, at, index, fid, 4)),
-        Class::Owner => Ok(write_claim(lent, at, index, fid, 5)),
+        Class::Blank => Ok(mend(lent, at, index, fid, 3)),
+        Class::Unmatched(_) => Ok(mend(lent, at, index, fid, 4)),
+        Class::Owner => Ok(mend(lent, at, index, fid, 5)),
+        Class::WrongOst => Ok(mend(lent, at, index, fid, 8)),
         _ => Ok(None),
     }
 }
 
-/// The row of the object is looked for once more.
-fn write_claim(lent: &mut Lent, at: usize, index: usize, fid: Fid, count: usize) -> Option<usize> {
+/// Claim and owner of the object, then the slot's OST index. The row of the object is looked for
+/// once more.
+fn mend(lent: &mut Lent, at: usize, index: usize, fid: Fid, count: usize) -> Option<usize> {
     let object = object_row(lent.objects, fid)?;
     match_object(lent, at, index, object);
+    let ost = number32(row(lent.objects, object::BYTES, object), object::OST_AT);
+    slot_mut(lent, at, index)[SLOT_OST_AT..].copy_from_slice(&ost.to_le_bytes());
     Some(count)
 }
 

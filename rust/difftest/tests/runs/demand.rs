@@ -1,6 +1,7 @@
 //! Demand 3, sentence by sentence, on the calls of one side.
 
 use crate::side::{Call, Outcome, Side, State};
+use numbers::call::{COUNTED, REPORT};
 use numbers::object::{FRESH_AT, OST_AT};
 use reference::check::read_tables;
 use reference::tables::{Claim, OBJECT_BYTES};
@@ -11,7 +12,7 @@ pub struct Scenario {
     pub state: State,
     pub policy: u64,
     pub reserve: Vec<u8>,
-    /// The numbers lent for the report, 9 or more.
+    /// The numbers lent for the report, 10 or more.
     pub report_room: usize,
 }
 
@@ -89,7 +90,7 @@ impl Uncut {
         assert!(&whole.state == self.end(), "cut into steps, other tables");
         assert_eq!(whole.answer, self.last().answer);
         assert_eq!(whole.position, self.last().position);
-        for number in 0..9 {
+        for number in 0..REPORT {
             let sum: u64 = self.outcomes.iter().map(|step| step.report[number]).sum();
             assert_eq!(whole.report[number], sum, "counts are not added");
         }
@@ -126,7 +127,7 @@ pub fn check_not_destroyed(before: &State, after: &State) {
 }
 
 /// With create, at the end every slot that isn't a hole names one object, which claims that
-/// slot, carries its file's owner and is named nowhere else.
+/// slot, is on the OST that the slot names, carries its file's owner and is named nowhere else.
 fn check_end(scenario: &Scenario, outcome: &Outcome) {
     assert!(outcome.is_at_end());
     let (tables, faults) = read_tables(&outcome.state.parents, &outcome.state.objects);
@@ -146,6 +147,7 @@ fn check_end(scenario: &Scenario, outcome: &Outcome) {
                 index: index as u32,
             };
             assert_eq!(named_here[0].claim, Some(claim));
+            assert_eq!(named_here[0].ost, stripe.ost);
             assert_eq!(named_here[0].owner, parent.owner);
             assert!(!named.contains(&stripe.object), "an object is named twice");
             named.push(stripe.object);
@@ -251,7 +253,7 @@ impl<'a> List<'a> {
         assert_eq!(sum.answer, second.answer);
         assert_eq!(sum.position, second.position);
         assert!(sum.state == second.state);
-        for number in 0..9 {
+        for number in 0..REPORT {
             assert_eq!(
                 sum.report[number],
                 first.report[number] + second.report[number]
@@ -273,12 +275,12 @@ fn check_answer(before: &State, call: &Call, outcome: &Outcome) {
     assert!(matches!(outcome.answer, 0 | 1 | 21..=23));
     assert_eq!(outcome.answer == 0, outcome.is_at_end());
     assert!(outcome.steps() <= call.most);
-    assert_eq!(outcome.report[9..], call.report[9..]);
+    assert_eq!(outcome.report[REPORT..], call.report[REPORT..]);
     let used_up = outcome.steps() == call.most;
     assert_eq!(outcome.answer == 1, used_up && !outcome.is_at_end());
     if outcome.steps() == 0 {
         assert!(&outcome.state == before);
         assert_eq!(outcome.position, call.position);
-        assert_eq!(outcome.repairs(), [0; 8]);
+        assert_eq!(outcome.repairs(), [0; COUNTED]);
     }
 }

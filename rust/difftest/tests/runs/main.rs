@@ -11,6 +11,7 @@ use std::time::Instant;
 use demand::{List, Scenario, Uncut, check_unchanged};
 use difftest::Random;
 use difftest::tables::{OBJECTS, Shape, random_tables, to_bytes};
+use numbers::call::REPORT;
 use reference::check::read_tables;
 use reference::position::Position;
 use reference::tables::OBJECT_BYTES;
@@ -88,7 +89,7 @@ fn random_scenario(random: &mut Random) -> Scenario {
         state: State { parents, objects },
         reserve: random_reserve(random),
         policy: random.pick(&[0, 1, 2, 3, 3]),
-        report_room: random.pick(&[9, 9, 10, 13]),
+        report_room: random.pick(&[10, 10, 11, 14]),
     }
 }
 
@@ -252,7 +253,7 @@ fn spoil(call: &mut Call, kind: &str, random: &mut Random) {
         }
         "two numbers for a position" => call.position.truncate(2),
         "four numbers for a position" => call.position.resize(4, 0),
-        "short report" => call.report.truncate(random.below(9)),
+        "short report" => call.report.truncate(random.below(REPORT)),
         "cut reserve" => call.reserve.push(0),
         _ => call.reserve.splice(..0, [0; 16]).for_each(drop),
     }
@@ -262,7 +263,7 @@ fn spoil(call: &mut Call, kind: &str, random: &mut Random) {
 fn call_damaged(state: &State, scenario: &Scenario, side: &mut Side, random: &mut Random) -> u32 {
     let damaged = state.damaged(random);
     let mut call = scenario.call(state.start(), random.below(9) as u64);
-    call.report.resize(random.pick(&[0, 8, 9, 12]), 7);
+    call.report.resize(random.pick(&[0, 9, 10, 13]), 7);
     let outcome = side.call(&damaged, &call);
     if outcome.is_refused() {
         check_unchanged(&damaged, &call, &outcome);
@@ -279,7 +280,7 @@ fn call_anywhere(state: &State, side: &mut Side, random: &mut Random) -> u32 {
         policy: random.below(4) as u64,
         most: random.pick(&[1, 2, 5, u64::MAX]),
         position: random.pick(&positions).to_numbers().to_vec(),
-        report: random.numbers(9),
+        report: random.numbers(REPORT),
     };
     side.call(state, &call).answer
 }

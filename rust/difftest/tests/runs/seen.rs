@@ -3,6 +3,8 @@
 use crate::demand::{Scenario, Uncut};
 use crate::side::{Outcome, State};
 use difftest::Coverage;
+use difftest::indices::Indexed;
+use numbers::call::COUNTED;
 use reference::check::{Faults, read_reserve, read_tables};
 use reference::class::{Class, Way, way_to};
 use reference::fid::Fid;
@@ -17,6 +19,8 @@ pub struct Seen {
     pub ends: Coverage<u32>,
     pub policies: Coverage<u64>,
     pub repairs: Coverage<&'static str>,
+    /// Repairs of slots with a present object, by the OST index and the owner of that.
+    pub mended: Coverage<Indexed>,
     pub ways: Coverage<Way>,
     /// Where calls were handed from.
     pub begins: Coverage<&'static str>,
@@ -29,7 +33,7 @@ pub struct Seen {
     pub turns: Coverage<&'static str>,
 }
 
-const REPAIRS: [&str; 8] = [
+const REPAIRS: [&str; COUNTED] = [
     "SELF",
     "MULTIPLE",
     "DANGLING",
@@ -38,6 +42,40 @@ const REPAIRS: [&str; 8] = [
     "OWNER",
     "EMPTY",
     "ORPHAN",
+    "WRONG-OST",
+];
+
+const BEGINS: [&str; 4] = [
+    "the start",
+    "the start again",
+    "a passed position",
+    "the end",
+];
+
+const STOPS: [&str; 6] = [
+    "21 alone",
+    "21 before 22",
+    "22",
+    "22 of a redirect",
+    "23",
+    "1 before a stop",
+];
+
+const REDIRECTS: [&str; 4] = [
+    "first of the reserve",
+    "past an object's FID",
+    "past a named FID",
+    "past a repeat",
+];
+
+const TURNS: [&str; 7] = [
+    "a call after the end",
+    "a call after a stop",
+    "a refused call before another",
+    "retraced",
+    "a then b",
+    "a row made and destroyed in one call",
+    "steps used up at the end",
 ];
 
 impl Seen {
@@ -50,53 +88,17 @@ impl Seen {
             ends: Coverage::of("ends of uncut runs", [0, 21, 22, 23]),
             policies: Coverage::of("policies", 0..=3),
             repairs: Coverage::of("repairs in uncut runs", REPAIRS),
+            mended: Coverage::of("repairs by index and owner", Indexed::mended()),
             ways: Coverage::of(
                 "ways of adoption",
                 [Way::MakeParent, Way::FillHole, Way::Grow, Way::ReplaceFresh],
             ),
-            begins: Coverage::of(
-                "calls handed",
-                [
-                    "the start",
-                    "the start again",
-                    "a passed position",
-                    "the end",
-                ],
-            ),
+            begins: Coverage::of("calls handed", BEGINS),
             given: Coverage::of("steps given", ["none", "some", "one too few", "enough"]),
-            stops: Coverage::of(
-                "stops",
-                [
-                    "21 alone",
-                    "21 before 22",
-                    "22",
-                    "22 of a redirect",
-                    "23",
-                    "1 before a stop",
-                ],
-            ),
-            reserve: Coverage::of(
-                "redirects",
-                [
-                    "first of the reserve",
-                    "past an object's FID",
-                    "past a named FID",
-                    "past a repeat",
-                ],
-            ),
+            stops: Coverage::of("stops", STOPS),
+            reserve: Coverage::of("redirects", REDIRECTS),
             refusals: Coverage::of("refused calls", crate::REFUSALS),
-            turns: Coverage::of(
-                "lists",
-                [
-                    "a call after the end",
-                    "a call after a stop",
-                    "a refused call before another",
-                    "retraced",
-                    "a then b",
-                    "a row made and destroyed in one call",
-                    "steps used up at the end",
-                ],
-            ),
+            turns: Coverage::of("lists", TURNS),
         }
     }
 
@@ -105,6 +107,7 @@ impl Seen {
         self.ends.require(100);
         self.policies.require(100);
         self.repairs.require(100);
+        self.mended.require(100);
         self.ways.require(100);
         self.begins.require(100);
         self.given.require(100);
@@ -135,14 +138,20 @@ impl Seen {
                 self.repairs.met(name);
             }
         }
-        let [.., multiple, _, _, _, _, _, orphan] = *outcome.repairs() else {
-            unreachable!("eight counts");
+        let repaired = |class: &str| {
+            let number = REPAIRS.iter().position(|name| *name == class);
+            outcome.repairs()[number.expect(class)] == 1
         };
-        if multiple == 1 {
+        if repaired("MULTIPLE") {
             self.note_redirect(scenario, site);
         }
-        if orphan == 1 {
+        if repaired("ORPHAN") {
             self.note_adoption(site, at);
+        }
+        let mended = ["BLANK", "UNMATCHED", "OWNER", "WRONG-OST"];
+        if mended.into_iter().any(repaired) {
+            let slot = Indexed::at(site, position_of(site, at));
+            self.mended.met(slot.expect("a slot with a present object"));
         }
         self.note_stop(scenario, site, at, outcome.answer);
     }
@@ -196,9 +205,12 @@ impl Seen {
 
 /// Whether the step at a position is to redirect its slot.
 fn is_redirect(site: &Site, at: &[u64]) -> bool {
+    Class::at(site, position_of(site, at)) == Some(Class::Multiple)
+}
+
+fn position_of(site: &Site, at: &[u64]) -> Position {
     let numbers = at.try_into().expect("three numbers");
-    let position = Position::of_numbers(numbers, site.tables()).expect("a position");
-    Class::at(site, position) == Some(Class::Multiple)
+    Position::of_numbers(numbers, site.tables()).expect("a position")
 }
 
 fn site_of(state: &State) -> Site {

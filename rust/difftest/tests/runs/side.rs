@@ -4,6 +4,7 @@ use std::hint::black_box;
 
 use crate::demand::check_not_destroyed;
 use difftest::Random;
+use numbers::call::REPORT;
 use numbers::fid::VERSION_AT;
 use numbers::{object, parent};
 use reference::interface;
@@ -148,8 +149,9 @@ impl Outcome {
         self.report[0]
     }
 
-    /// The repairs of SELF, MULTIPLE, DANGLING, BLANK, UNMATCHED, OWNER, EMPTY and ORPHAN.
+    /// The repairs of SELF, MULTIPLE, DANGLING, BLANK, UNMATCHED, OWNER, EMPTY, ORPHAN and
+    /// WRONG-OST.
     pub fn repairs(&self) -> &[u64] {
-        &self.report[1..9]
+        &self.report[1..REPORT]
     }
 }

@@ -134,6 +134,8 @@ pub fn finding_json(finding: &Finding) -> Json {
         ("file", Json::maybe(finding.file)),
         ("slot", Json::maybe_number(finding.slot)),
         ("object", Json::maybe(finding.object)),
+        ("slot_ost", Json::maybe_number(finding.slot_ost)),
+        ("object_ost", Json::maybe_number(finding.object_ost)),
         ("class", Json::text(finding.class.name())),
     ];
     members.extend(values::claim_members(match finding.class {

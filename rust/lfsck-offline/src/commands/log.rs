@@ -91,13 +91,13 @@ fn entry_text(entry: &Entry) -> String {
         );
     }
     let changes = entry.changes();
-    let lines: Vec<Line> = changes.iter().map(|it| line(it, it.what.words())).collect();
+    let lines: Vec<Line> = changes.iter().map(|it| line(it, it.words())).collect();
     text + &columns::text(&lines)
 }
 
 fn story_text((entry, changes): &Told) -> String {
     let words = |(change, class): &(Change, Option<Class>)| {
-        let words = change.what.words();
+        let words = change.words();
         match class {
             Some(class) => format!("{words}; {}: {}", class.name(), class.meaning()),
             None => words,

@@ -224,7 +224,7 @@ impl Report {
             return "Nothing was changed.\n".to_string();
         }
         let line = |change: &Change| {
-            let what = change.what.words();
+            let what = change.words();
             Line::new(change.file, change.slot, change.object, what)
         };
         let lines: Vec<Line> = changes.iter().map(line).collect();

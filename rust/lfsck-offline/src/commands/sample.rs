@@ -123,6 +123,9 @@ fn add_files(parents: &mut Vec<u8>) {
     let fresh = [Some((object(0x19), 1)), Some((object(0x1a), 2))];
     add_file(parents, plain(file(7), &fresh));
     add_file(parents, plain(file(8), &[Some((object(0x1b), 0))]));
+    // The objects of these two came back under exchanged OST indices.
+    add_file(parents, plain(file(10), &[Some((object(0x28), 1))]));
+    add_file(parents, plain(file(11), &[Some((object(0x29), 2))]));
     parents.resize(parents.len() + 2 * parent::BYTES, 0);
 }
 
@@ -150,6 +153,8 @@ fn add_objects(objects: &mut Vec<u8>) {
     add(0x25, 1, ALICE, Some((1, 0)), false);
     add(0x26, 2, ROOT, None, false);
     add(0x27, 3, ALICE, Some((1, 7)), true);
+    add(0x28, 2, ALICE, Some((10, 0)), false);
+    add(0x29, 1, ROOT, Some((11, 0)), false);
     objects.resize(objects.len() + 4 * object::BYTES, 0);
 }
 

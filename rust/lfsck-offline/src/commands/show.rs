@@ -178,11 +178,11 @@ impl View<'_> {
         let Some(object) = self.site.object_of(fid) else {
             return "      the object is absent\n".to_string();
         };
-        let fresh = if object.fresh { "is fresh, " } else { "" };
+        let fresh = if object.fresh { "fresh, " } else { "" };
         let claim = claim_words(object);
         format!(
-            "      the object {fresh}has owner {} and {claim}\n",
-            object.owner
+            "      the object is {fresh}on OST {}, has owner {} and {claim}\n",
+            object.ost, object.owner
         )
     }
 
@@ -192,11 +192,12 @@ impl View<'_> {
             None => format!("Object {fid}: absent\n"),
         };
         for place in self.site.named_by(fid) {
-            let Some(name) = self.site.name(*place) else {
+            let name = self.site.name(*place).zip(self.site.stripe(*place));
+            let Some((name, stripe)) = name else {
                 continue;
             };
-            let class = self.classes[&Position::Slot(*place)];
-            text += &format!("  named by {name}: {}\n", class.name());
+            let class = self.classes[&Position::Slot(*place)].name();
+            text += &format!("  named by {name}, on OST {}: {class}\n", stripe.ost);
         }
         let keeper = why::keeper(self.site, fid);
         let named = keeper.and_then(|(keeper, rule)| Some((self.site.name(keeper)?, rule)));

@@ -23,7 +23,8 @@ pub fn undo(directory: &Path, json: bool) -> Result<Outcome, Failure> {
     let restored = entry.taken_back(&tables).ok_or_else(broken)?;
     case.prepare(&tables)?;
     case.save_undo(&tables, &restored, entry)?;
-    let changes = crate::changes::changes(&Site::new(&tables), &Site::new(&restored));
+    let mut changes = crate::changes::changes(&Site::new(&tables), &Site::new(&restored));
+    changes.iter_mut().for_each(|change| change.undone = true);
     let text = if json {
         machine(entry, saved, &changes)
     } else {
@@ -62,7 +63,7 @@ fn require_left(entry: &Entry, tables: &Tables) -> Result<(), Failure> {
 
 fn people(entry: &Entry, saved: Option<&Saved>, changes: &[Change]) -> String {
     let line = |change: &Change| {
-        let words = change.what.words();
+        let words = change.words();
         Line::new(change.file, change.slot, change.object, words)
     };
     let lines: Vec<Line> = changes.iter().map(line).collect();

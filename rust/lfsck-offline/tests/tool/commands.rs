@@ -11,7 +11,7 @@ use crate::json::Value;
 use crate::oracle;
 use crate::tool::{Case, TOOL, Told};
 
-const CLASSES: [&str; 14] = [
+const CLASSES: [&str; 15] = [
     "CLEAN",
     "SELF",
     "HOLE",
@@ -26,9 +26,11 @@ const CLASSES: [&str; 14] = [
     "CONFLICT",
     "KEPT",
     "UNUSED",
+    "WRONG-OST",
 ];
 
-const COUNTED: [&str; 8] = [
+/// The classes whose repairs are counted, in the order of the report.
+pub const COUNTED: [&str; 9] = [
     "SELF",
     "MULTIPLE",
     "DANGLING",
@@ -37,6 +39,7 @@ const COUNTED: [&str; 8] = [
     "OWNER",
     "EMPTY",
     "ORPHAN",
+    "WRONG-OST",
 ];
 
 const SHAPE: Shape = Shape {
@@ -93,7 +96,7 @@ fn a_sample_makes_its_directory() {
         .unwrap()
         .into();
     let json = crate::json::parse(&told.expect(0).out);
-    assert_eq!(json.number("parent_rows"), 10);
+    assert_eq!(json.number("parent_rows"), 12);
     assert!(inner.join("parents.tbl").is_file());
 }
 
@@ -213,6 +216,7 @@ fn classes_and_keepers_are_those_of_the_reference() {
 fn expect_finding(finding: &Value, position: Position, class: Class, site: &reference::site::Site) {
     let numbers = ["stage", "row", "part"].map(|name| finding.number(name));
     assert_eq!(numbers, position.to_numbers());
+    expect_osts(finding, position, site);
     if let Class::Unmatched(claim) = class {
         assert_eq!(finding.text("claimed_file"), fid_text(claim.parent));
         assert_eq!(finding.number("claimed_slot"), claim.index.into());
@@ -236,6 +240,23 @@ fn expect_finding(finding: &Value, position: Position, class: Class, site: &refe
         Reason::ScanOrder => "scan order",
     };
     assert_eq!(finding.text("keeper_rule"), rule);
+}
+
+/// A finding tells the OST that its slot names, and the one that its object is on.
+fn expect_osts(finding: &Value, position: Position, site: &reference::site::Site) {
+    let (stripe, row) = match position {
+        Position::Slot { row, slot } => {
+            let stripe = site.stripe(reference::site::Place { row, slot });
+            let object = stripe.and_then(|stripe| site.object_row(stripe.object));
+            (stripe, object)
+        }
+        Position::Object { row } => (None, Some(row)),
+        _ => (None, None),
+    };
+    let object = row.and_then(|row| site.object(row));
+    let number = |ost: Option<u32>| ost.map_or(Value::Null, |ost| Value::Number(ost.into()));
+    assert_eq!(*finding.get("slot_ost"), number(stripe.map(|it| it.ost)));
+    assert_eq!(*finding.get("object_ost"), number(object.map(|it| it.ost)));
 }
 
 fn fid_text(fid: reference::fid::Fid) -> String {
@@ -301,11 +322,11 @@ fn steps_left_are_counted() {
     let words = ["run", "--create", "--adopt", "--steps"];
     let run = |steps| [&words[..], &[steps]].concat();
     let told = case.run(&run("20")).expect(1);
-    let lines = "Steps: 20 done, 26 left.\nAnswer 1: the steps are used up; the next step is at ";
+    let lines = "Steps: 20 done, 32 left.\nAnswer 1: the steps are used up; the next step is at ";
     assert!(told.out.contains(lines), "{told:?}");
     let told = case.run(&run("0")).expect(1);
-    assert!(told.out.contains("Steps: 0 done, 26 left."), "{told:?}");
-    case.run(&run("26")).expect(0);
+    assert!(told.out.contains("Steps: 0 done, 32 left."), "{told:?}");
+    case.run(&run("32")).expect(0);
 }
 
 /// E4 to E6, and a file to be made where no parent row is unused.
@@ -352,10 +373,10 @@ fn a_file_is_shown_with_its_slots_and_rules() {
     }
     let told = case.run(&["show", "0x200000401:5"]).expect(0);
     for line in [
-        "the object has owner 1001:100 and claims nothing\n",
-        "the object has owner 1001:100 and claims slot 1 of [0x200000401:0x1:0x0]\n",
+        "the object is on OST 1, has owner 1001:100 and claims nothing\n",
+        "the object is on OST 2, has owner 1001:100 and claims slot 1 of [0x200000401:0x1:0x0]\n",
         "this slot is the keeper: it is the first slot in scan order that names the object\n",
-        "the object has owner 0:0 and claims slot 2 of [0x200000401:0x5:0x0]\n",
+        "the object is on OST 3, has owner 0:0 and claims slot 2 of [0x200000401:0x5:0x0]\n",
         "repair, always: write the owner 1001:100\n",
     ] {
         assert!(told.out.contains(line), "{line}: {}", told.out);
@@ -367,7 +388,8 @@ fn a_file_is_shown_with_its_slots_and_rules() {
     );
     let told = case.run(&["show", "0x200000401:7"]).expect(0);
     assert!(
-        told.out.contains("the object is fresh, has owner"),
+        told.out
+            .contains("the object is fresh, on OST 2, has owner"),
         "{told:?}"
     );
     let told = case.run(&["show", "0x200000401:8"]).expect(0);
@@ -394,8 +416,8 @@ fn an_object_is_shown_with_its_keeper() {
     for line in [
         "Object [0x240000400:0x11:0x0], object row 1\n",
         "  claims slot 1 of [0x200000401:0x1:0x0]\n",
-        "  named by slot 1 of [0x200000401:0x1:0x0]: CLEAN\n",
-        "  named by slot 0 of [0x200000401:0x3:0x0]: MULTIPLE\n",
+        "  named by slot 1 of [0x200000401:0x1:0x0], on OST 1: CLEAN\n",
+        "  named by slot 0 of [0x200000401:0x3:0x0], on OST 1: MULTIPLE\n",
         "  the keeper is slot 1 of [0x200000401:0x1:0x0]: the object claims this slot\n",
     ] {
         assert!(told.out.contains(line), "{line}: {}", told.out);
@@ -418,7 +440,7 @@ fn what_is_absent_is_shown_as_far_as_it_is_known() {
     );
     assert!(
         told.out
-            .contains("named by slot 0 of [0x200000401:0x4:0x0]: DANGLING\n")
+            .contains("named by slot 0 of [0x200000401:0x4:0x0], on OST 0: DANGLING\n")
     );
     let told = case.run(&["show", "0x200000401:9"]).expect(0);
     assert!(told.out.starts_with("File [0x200000401:0x9:0x0]: absent\n"));

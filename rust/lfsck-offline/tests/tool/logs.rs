@@ -162,7 +162,7 @@ fn the_log_tells_what_the_run_told() {
         assert!(told.contains(line), "{line}");
     }
     assert!(
-        told.contains("  From position 1,0,0 to 3,0,0 in 46 steps."),
+        told.contains("  From position 1,0,0 to 3,0,0 in 52 steps."),
         "{told}"
     );
 }

@@ -14,7 +14,7 @@ pub struct Run {
     /// Stage, row and part.
     pub position: [u64; 3],
     /// The steps done and the repairs by class.
-    pub report: [u64; 9],
+    pub report: [u64; 10],
     /// The parent table.
     pub parents: Vec<u8>,
     /// The object table.
@@ -33,7 +33,7 @@ pub fn run(files: &Files, policy: u64, most: u64) -> Run {
 pub fn run_from(files: &Files, mut position: [u64; 3], policy: u64, most: u64) -> Run {
     let mut parents = files["parents.tbl"].clone();
     let mut objects = files["objects.tbl"].clone();
-    let mut report = [0; 9];
+    let mut report = [0; 10];
     let answer = interface::run(
         &mut parents,
         &mut objects,

@@ -3,6 +3,7 @@
 use difftest::Random;
 use difftest::tables::{OBJECTS, Shape, random_tables, to_bytes};
 
+use crate::commands::COUNTED;
 use crate::json::Value;
 use crate::oracle;
 use crate::tool::{Case, POSITION};
@@ -30,7 +31,7 @@ fn a_run_in_pieces_is_the_uncut_run() {
         let reserve: Vec<u8> = OBJECTS.iter().flat_map(|fid| fid.to_bytes()).collect();
         let case = Case::with(&format!("pieces-{round}"), &parents, &objects, &reserve);
         let uncut = oracle::run(&case.files(), 3, u64::MAX);
-        let mut sum = [0; 9];
+        let mut sum = [0; 10];
         loop {
             let steps = (1 + random.below(9)).to_string();
             let words = [&RUN[..], &["--steps", &steps]].concat();
@@ -41,16 +42,7 @@ fn a_run_in_pieces_is_the_uncut_run() {
             assert_eq!(resumed(&report), sum[0] > 0);
             sum[0] += report.number("steps_done");
             let repairs = report.get("repairs");
-            for (sum, class) in sum[1..].iter_mut().zip([
-                "SELF",
-                "MULTIPLE",
-                "DANGLING",
-                "BLANK",
-                "UNMATCHED",
-                "OWNER",
-                "EMPTY",
-                "ORPHAN",
-            ]) {
+            for (sum, class) in sum[1..].iter_mut().zip(COUNTED) {
                 *sum += repairs.number(class);
             }
             if status != Some(1) {
@@ -147,7 +139,7 @@ fn no_steps_change_nothing() {
     let before = case.files();
     let told = case.json(&[&RUN[..], &["--steps", "0"]].concat(), 1);
     assert_eq!(told.number("steps_done"), 0);
-    assert_eq!(told.number("steps_left"), 46);
+    assert_eq!(told.number("steps_left"), 52);
     assert_eq!(case.files(), before);
     assert!(!before.contains_key(POSITION));
 }
