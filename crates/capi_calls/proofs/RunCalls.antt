@@ -14,7 +14,8 @@ use Rattle.tables.specs.Positions.{place}
 use Rattle.tables.specs.declared.Position.{Position}
 use Rattle.rules.specs.Runs.{run}
 use Rattle.rules.specs.Settings.{settingsOf}
-use Rattle.engine.specs.RunBytes.{Ran, refused, rendered, runBytes}
+use Rattle.steps.specs.Ran.{Ran, rendered}
+use Rattle.engine.specs.RunBytes.{refused, runBytes}
 use Rattle.theorems.specs.Calls.{Lent, call, number, Accepted, ran, left, leaves, after}
 use Rattle.theorems.proofs.EveryRun.{parts}
 use Rattle.capi_tables.specs.Tables.{positionNumbers, positionGiven}

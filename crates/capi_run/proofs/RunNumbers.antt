@@ -9,8 +9,9 @@ use lib.Seq.{sets, drop-cons, drop-nil}
 use Rattle.tables.specs.Check.{checkNumber}
 use Rattle.tables.specs.declared.Position.{Position}
 use Rattle.rules.specs.declared.Report.{Report}
-use Rattle.engine.specs.RunBytes.{Ran, runBytes}
-use Rattle.engine.specs.Ready.{stepsBytes}
+use Rattle.steps.specs.Ran.{Ran}
+use Rattle.engine.specs.RunBytes.{runBytes}
+use Rattle.steps.specs.Ready.{stepsBytes}
 use Rattle.capi_tables.specs.Tables.{positionNumbers, positionGiven}
 use Rattle.capi_run.specs.Runs.{reportSize, reportNumbers, Called, unwritten, handedOut, called}
 

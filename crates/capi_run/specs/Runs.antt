@@ -8,7 +8,8 @@ use lib.Seq.{sets}
 use Rattle.tables.specs.Check.{checkNumber}
 use Rattle.rules.specs.Runs.{repairKinds}
 use Rattle.rules.specs.declared.Report.{Report}
-use Rattle.engine.specs.RunBytes.{Ran, runBytes}
+use Rattle.steps.specs.Ran.{Ran}
+use Rattle.engine.specs.RunBytes.{runBytes}
 use Rattle.capi_tables.specs.Tables.{positionNumbers, positionGiven}
 
 -- "steps done, then the repairs of SELF, MULTIPLE, DANGLING, BLANK, UNMATCHED, OWNER, EMPTY, ORPHAN", then of WRONG-OST

@@ -55,7 +55,7 @@ pub fn run(
     if report.len() < REPORT_SIZE {
         return 17;
     }
-    let ran = engine::steps::steps(parents, objects, reserve, policy, most, at);
+    let ran = steps::steps(parents, objects, reserve, policy, most, at);
     put_report(report, ran);
     capi_tables::put_position(position, ran.position);
     ran.answer

@@ -2,7 +2,7 @@ use native.Mathlib.Omega.{arith}
 use mathlib.Core.Path.{sym, _∙_}
 use denote.Ref.{now}
 use Rattle.tables.specs.Bytes.{parse}
-use Rattle.engine.proofs.Standing.{accepted-ready}
+use Rattle.steps.proofs.Standing.{accepted-ready}
 use Rattle.capi_tables.proofs.TableNumbers.{given-is}
 use Rattle.capi_run.proofs.RunNumbers.{call-refused, call-short, call-done}
 use borrow.Author.Needs.{needs}

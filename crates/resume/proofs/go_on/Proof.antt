@@ -44,7 +44,8 @@ use denote.Triple.Clauses.{ensured, lasts}
 use denote.Exit.{yes}
 use Rattle.tables.specs.declared.Position.{Position}
 use Rattle.rules.specs.declared.Report.{Report}
-use Rattle.engine.specs.RunBytes.{Ran, runBytes}
+use Rattle.steps.specs.Ran.{Ran}
+use Rattle.engine.specs.RunBytes.{runBytes}
 use Rattle.resume.specs.declared.Resumed.{Resumed}
 use Rattle.rules.proofs.Report as TO
 use Rattle.rules.proofs.Report.Laws as TO′

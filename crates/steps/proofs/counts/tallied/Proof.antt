@@ -1,11 +1,11 @@
 use mathlib.Core.Path.{ap, sym, _∙_}
 use Rattle.rules.specs.Runs.{addCounts}
 use Rattle.rules.specs.declared.Outcome.{Outcome}
-use Rattle.engine.specs.Tallies.{tally}
-use Rattle.engine.proofs.RunLaws.{rest-is}
+use Rattle.steps.specs.Tallies.{tally}
+use Rattle.steps.proofs.RunLaws.{rest-is}
 use borrow.Author.Needs.{needs}
-use Rattle.engine.proofs.counts.tallied.Statement.{statement}
-use Rattle.engine.proofs.counts.tallied.Tie as tie
+use Rattle.steps.proofs.counts.tallied.Statement.{statement}
+use Rattle.steps.proofs.counts.tallied.Tie as tie
 
 returns : tie.Need-returns
 unfolding tally

@@ -1,9 +1,9 @@
 use native.Mathlib.Omega.{arith}
 use Rattle.rules.proofs.CountLaws.{number-below}
-use Rattle.engine.proofs.RunLaws.{counted-is}
+use Rattle.steps.proofs.RunLaws.{counted-is}
 use borrow.Author.Needs.{needs}
-use Rattle.engine.proofs.counts.counted.Statement.{statement}
-use Rattle.engine.proofs.counts.counted.Tie as tie
+use Rattle.steps.proofs.counts.counted.Statement.{statement}
+use Rattle.steps.proofs.counts.counted.Tie as tie
 
 mul-of : tie.Need-mul-of
 mul-of c = omega (arith, number-below (c .before .before .args .r), c .before .repair-number .ensures)

@@ -1,8 +1,8 @@
 use mathlib.Core.Path.{ap, sym}
 use Rattle.rules.specs.Runs.{repairNumber}
 use borrow.Author.Needs.{needs}
-use Rattle.engine.proofs.counts.repair_number.Statement.{statement}
-use Rattle.engine.proofs.counts.repair_number.Tie as tie
+use Rattle.steps.proofs.counts.repair_number.Statement.{statement}
+use Rattle.steps.proofs.counts.repair_number.Tie as tie
 
 returns : tie.Need-returns
 unfolding repairNumber

@@ -1,0 +1,3 @@
+pub mod Ran
+pub mod Ready
+pub mod Tallies
