@@ -2,7 +2,7 @@
 
 use numbers::fid::{BYTES as FID, ID_AT, VERSION_AT};
 use numbers::layout::{HEADER_ONE, HOLES, LAST_OST, MAGIC_ONE, SLOT_OST_AT};
-use numbers::{call, layout, link, object, parent};
+use numbers::{call, layout, link, object, parent, reserve};
 
 /// The slots of a file; the last file of a table may have fewer.
 const SLOTS: usize = layout::MOST_SLOTS;
@@ -46,6 +46,17 @@ impl Tables {
         for number in 0..reserve {
             let id = 1_000_000 + number;
             tables.reserve.extend(fid(OBJECTS, id as u32, 0));
+        }
+        tables
+    }
+
+    /// A thousand full files with as many objects as there may be, one slot in a hundred
+    /// damaged or none.
+    pub fn thousand(damaged: bool) -> Tables {
+        let slots = 1000 * SLOTS;
+        let mut tables = Tables::clean(slots, object::MOST, reserve::MOST);
+        if damaged {
+            tables.damage(slots);
         }
         tables
     }

@@ -92,19 +92,11 @@ fn measure_classes(slots: usize, objects: usize, rounds: usize) -> Times {
 }
 
 /// The tables of the line for a run and of the one for all classes.
-fn damaged() -> Tables {
-    let slots = 1000 * SLOTS;
-    let mut tables = Tables::clean(slots, object::MOST, reserve::MOST);
-    tables.damage(slots);
-    tables
-}
-
-/// What they are.
 const DAMAGED: &str = "1,000 files of 160 slots, 65,536 objects, one slot in a hundred damaged";
 
 /// A whole run on damaged tables.
 fn measure_run(rounds: usize) {
-    let tables = damaged();
+    let tables = Tables::thousand(true);
     let times = side_by_side(
         rounds,
         || repaired(run(&tables, lfsck_run)),
@@ -115,7 +107,7 @@ fn measure_run(rounds: usize) {
 
 /// All classes of the same tables in one call.
 fn measure_listing(rounds: usize) {
-    let tables = damaged();
+    let tables = Tables::thousand(true);
     let times = side_by_side(
         rounds,
         || list(&tables, lfsck_classes),
