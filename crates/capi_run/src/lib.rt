@@ -9,7 +9,7 @@ ghost use lib.Seq.{sets};
 ghost use Rattle.capi_run.specs.Runs.{reportSize, reportNumbers, called};
 
 // The numbers of a report: the steps, and the repairs of each class.
-const REPORT_SIZE: usize = 1 + REPAIRS;
+pub const REPORT_SIZE: usize = 1 + REPAIRS;
 
 // Stores the repairs by class.
 fn put_counts(out: &mut [u64], c: Counts)

@@ -60,7 +60,7 @@ fn claimed_class(there: bool, owned: bool) -> SlotClass
     SlotClass::CLEAN
 }
 
-// The class of slot j of this file, the keeper of an object with this claim: BLANK, then UNMATCHED, then what its claim leaves.
+// The class of slot j of this file, the keeper of an object with this claim: BLANK, then UNMATCHED, then as `claimed_class` says.
 fn claim_class(file: MdtFid, j: usize, there: bool, owned: bool, claim: Claim) -> SlotClass
     ensures { λ c. ⌜ c ≡ claimClass (placeAt file j) there owned claim ⌝ }
 {

@@ -1,5 +1,6 @@
 // Example E10 of the paper: an object that may hold data claims slot 159, and then slot 160, of an absent file. Prints the class of the object and
 // what a run that adopts makes of it: at index 159 a parent of 160 slots is made for it, at 160 its place can't be had.
+use capi_run::REPORT_SIZE;
 use fid::Fid;
 use libc::STDOUT_FILENO;
 
@@ -42,7 +43,7 @@ fn claim_on(index: u32) -> Fid {
 fn show_run(parents: &mut [u8], objects: &mut [u8]) {
     let reserve = [0u8; 0];
     let mut position = [0u64; 3];
-    let mut report = [0u64; 10];
+    let mut report = [0u64; REPORT_SIZE];
     let started = capi::input::lfsck_start(parents, objects, &mut position);
     let answer = capi::runs::lfsck_run(
         parents,

@@ -91,7 +91,7 @@ fn measure_classes(slots: usize, objects: usize, rounds: usize) -> Times {
     )
 }
 
-/// The tables of the line for a run and of the one for all classes.
+/// What the tables of the line for a run, and of the one for all classes, are.
 const DAMAGED: &str = "1,000 files of 160 slots, 65,536 objects, one slot in a hundred damaged";
 
 /// A whole run on damaged tables.

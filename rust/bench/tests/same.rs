@@ -3,6 +3,7 @@
 use bench::plain;
 use difftest::tables::{OBJECTS, Shape, random_tables, to_bytes};
 use difftest::{Coverage, Random};
+use numbers::call;
 
 const SHAPE: Shape = Shape {
     parents: 5,
@@ -25,7 +26,7 @@ fn runs_are_those_of_the_library() {
         assert_eq!(lfsck_sys::start(&parents, &objects, &mut start), 0);
 
         let (mut library, mut plain) = ((parents.clone(), objects.clone()), (parents, objects));
-        let (mut position, mut report) = (start, [0; 10]);
+        let (mut position, mut report) = (start, [0; call::REPORT]);
         let answer = lfsck_sys::run(
             &mut library.0,
             &mut library.1,
@@ -35,7 +36,7 @@ fn runs_are_those_of_the_library() {
             &mut position,
             &mut report,
         );
-        let (mut plain_position, mut plain_report) = (start, [0; 10]);
+        let (mut plain_position, mut plain_report) = (start, [0; call::REPORT]);
         let plain_answer = plain::run(
             &mut plain.0,
             &mut plain.1,
@@ -55,7 +56,7 @@ fn runs_are_those_of_the_library() {
 #[test]
 fn the_classes_are_those_of_the_library() {
     let mut random = Random::for_test("plain classes");
-    let mut met = [0_u64; 15];
+    let mut met = [0_u64; call::CLASSES];
     for _ in 0..20_000 {
         let (parents, objects) = to_bytes(&random_tables(SHAPE, &mut random), &mut random);
         let mut start = [0; 3];
@@ -127,6 +128,27 @@ fn random_names(random: &mut Random) -> ([u64; 4], Vec<u64>, Vec<u8>) {
     )
 }
 
+/// A linkEA read by both: its header, and the record at some places.
+fn compare_reading(
+    bytes: &[u8],
+    random: &mut Random,
+    read: &mut Coverage<u32>,
+    found: &mut Coverage<u32>,
+) {
+    let (mut fields, mut plain_fields) = ([1; 4], [1; 4]);
+    let answer = lfsck_sys::link_read(bytes, &mut fields);
+    assert_eq!(plain::link_read(bytes, &mut plain_fields), answer);
+    assert_eq!(plain_fields, fields);
+    read.met(answer);
+    for place in [24, 43, 44, random.below(100) as u64] {
+        let (mut record, mut plain_record) = ([1; 6], [1; 6]);
+        let answer = lfsck_sys::link_record(bytes, place, &mut record);
+        assert_eq!(plain::link_record(bytes, place, &mut plain_record), answer);
+        assert_eq!(plain_record, record);
+        found.met(answer);
+    }
+}
+
 #[test]
 fn linkeas_are_those_of_the_library() {
     let mut random = Random::for_test("plain linkEAs");
@@ -160,18 +182,7 @@ fn linkeas_are_those_of_the_library() {
             let at = random.below(bytes.len());
             bytes[at] ^= 1 << random.below(8);
         }
-        let (mut fields, mut plain_fields) = ([1; 4], [1; 4]);
-        let answer = lfsck_sys::link_read(&bytes, &mut fields);
-        assert_eq!(plain::link_read(&bytes, &mut plain_fields), answer);
-        assert_eq!(plain_fields, fields);
-        read.met(answer);
-        for place in [24, 43, 44, random.below(100) as u64] {
-            let (mut record, mut plain_record) = ([1; 6], [1; 6]);
-            let answer = lfsck_sys::link_record(&bytes, place, &mut record);
-            assert_eq!(plain::link_record(&bytes, place, &mut plain_record), answer);
-            assert_eq!(plain_record, record);
-            found.met(answer);
-        }
+        compare_reading(&bytes, &mut random, &mut read, &mut found);
     }
     written.require(100);
     read.require(100);

@@ -6,6 +6,7 @@ use std::time::Instant;
 use difftest::indices::Indexed;
 use difftest::tables::{TINY, damage, describe, random_tables, to_bytes};
 use difftest::{Coverage, Random};
+use numbers::call;
 use reference::class::{Class, Denial, Way, way_to};
 use reference::fid::Fid;
 use reference::interface;
@@ -48,7 +49,7 @@ impl Seen {
         Seen {
             answers: Coverage::of("class answers", [0, 11, 13, 14, 15, 16, 17]),
             no_position_before_room: Coverage::of("16 before 17", ["end", "elsewhere"]),
-            classes: Coverage::of("classes", 0..=14),
+            classes: Coverage::of("classes", 0..call::CLASSES as u64),
             indices: Indexed::none_met("slots by index and owner"),
             keepers: Coverage::of(
                 "keepers",

@@ -3,7 +3,7 @@
 
 use difftest::tables::{TINY, damage, describe, random_tables, to_bytes};
 use difftest::{Coverage, Random};
-use numbers::call::CLASS;
+use numbers::call::{CLASS, CLASSES};
 use reference::interface;
 use reference::position::Position;
 
@@ -47,7 +47,7 @@ impl Seen {
             ),
             odd: Coverage::of("numbers past the last place", 0..CLASS),
             stages: Coverage::of("stages begun in", 1..=3),
-            classes: Coverage::of("classes", 0..=14),
+            classes: Coverage::of("classes", 0..CLASSES as u64),
         }
     }
 

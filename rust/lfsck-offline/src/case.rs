@@ -275,6 +275,8 @@ fn tell(disk: &Disk, what: &str) {
 
 #[cfg(test)]
 mod tests {
+    use numbers::call;
+
     use super::*;
     use crate::save::JOURNAL;
 
@@ -282,7 +284,7 @@ mod tests {
         answer: 0,
         position: [3, 0, 0],
         steps: 2,
-        repairs: [0; 9],
+        repairs: [0; call::COUNTED],
     };
 
     /// A case with a row in each table, in a directory of its own.

@@ -21,7 +21,7 @@ pub struct Change {
     pub object: Option<OstFid>,
     /// What differs.
     pub what: What,
-    /// Whether an undo took it back.
+    /// Whether an undo made it, and no run.
     pub undone: bool,
 }
 

@@ -22,7 +22,7 @@ pub enum Class {
     Blank,
     /// A keeper whose object claims another slot: this one.
     Unmatched(Claim),
-    /// A keeper whose object has another owner.
+    /// A keeper whose object claims it, on the OST that it names, and has another owner.
     Owner,
     /// An object that no slot names, without claim.
     Spare,
@@ -150,10 +150,10 @@ mod tests {
 
     #[test]
     fn every_number_has_its_class() {
-        for number in 0..15 {
+        for number in 0..call::CLASSES as u64 {
             let class = Class::of_numbers([number, 0, 0, 0]).expect("a class");
             assert_eq!(class.number() as u64, number);
         }
-        assert_eq!(Class::of_numbers([15, 0, 0, 0]), None);
+        assert_eq!(Class::of_numbers([call::CLASSES as u64, 0, 0, 0]), None);
     }
 }

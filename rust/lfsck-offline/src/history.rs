@@ -9,7 +9,7 @@ use crate::json::Json;
 use crate::reader::Value;
 use crate::saved::Saved;
 use crate::site::Site;
-use crate::slices::{COUNTED, LATER, Run};
+use crate::slices::{COUNTED, Run};
 use crate::tables::{Table, Tables};
 
 /// The file of the log.
@@ -254,7 +254,7 @@ impl Deed {
                 answer: value.number("answer")?.try_into().ok()?,
                 position: numbers_of(value.list("to")?)?,
                 steps: value.number("steps")?,
-                repairs: counts_of(value.get("repairs")?)?,
+                repairs: counts_of(value.get("repairs")?, value.text("version")?)?,
             },
             saved: match value.get("saved")? {
                 Value::Null => None,
@@ -264,10 +264,14 @@ impl Deed {
     }
 }
 
-/// The repairs by class. Where the later class is missing, there was none of it.
-fn counts_of(repairs: &Value) -> Option<[u64; COUNTED.len()]> {
+/// The version without the class WRONG-OST: its runs made no repair of it, and its log doesn't
+/// count them.
+const WITHOUT: (&str, &str) = ("0.1.0", "WRONG-OST");
+
+/// The repairs by class, as this version counts them.
+fn counts_of(repairs: &Value, version: &str) -> Option<[u64; COUNTED.len()]> {
     let count = |class: &&str| match repairs.get(class) {
-        None if *class == LATER => Some(0),
+        None if (version, *class) == WITHOUT => Some(0),
         _ => repairs.number(class),
     };
     let counts: Option<Vec<u64>> = COUNTED.iter().map(count).collect();

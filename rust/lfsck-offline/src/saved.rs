@@ -19,7 +19,7 @@ pub enum Format {
     /// Of a version without the class WRONG-OST. Its runs passed by slots of that class, so such
     /// a position never counts.
     One,
-    /// Of a version with all classes.
+    /// Of a version with the class WRONG-OST.
     Two,
 }
 

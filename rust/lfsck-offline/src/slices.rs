@@ -20,11 +20,8 @@ pub const COUNTED: [&str; call::COUNTED] = [
     "OWNER",
     "EMPTY",
     "ORPHAN",
-    LATER,
+    "WRONG-OST",
 ];
-
-/// The class that the logs of earlier versions don't count: they made no repair of it.
-pub const LATER: &str = "WRONG-OST";
 
 /// The answer of a run, where it stands and what it did.
 #[derive(Clone, Copy, Debug, PartialEq, Eq)]

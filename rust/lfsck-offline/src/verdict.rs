@@ -159,7 +159,7 @@ mod tests {
     #[test]
     fn verdicts_are_the_classes_of_the_positions_alone() {
         let mut random = Random::for_test("verdicts");
-        let mut met = [0_u64; 15];
+        let mut met = [0_u64; numbers::call::CLASSES];
         for _ in 0..2_000 {
             let (parents, objects) = to_bytes(&random_tables(SHAPE, &mut random), &mut random);
             let tables = Tables {

@@ -25,7 +25,8 @@ pub enum Class {
     Unmatched(Claim),
     /// A keeper whose object claims it and is on another OST than it names.
     WrongOst,
-    /// A keeper whose object has another owner than the file.
+    /// A keeper whose object claims it, on the OST that it names, and has another owner than the
+    /// file.
     Owner,
     /// An object that no slot names and that claims nothing.
     Spare,

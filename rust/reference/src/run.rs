@@ -7,6 +7,9 @@ use crate::position::Position;
 use crate::site::Site;
 use crate::step::{Policy, step};
 
+/// The classes whose repairs are counted.
+pub const COUNTED: usize = 9;
+
 /// How a run ended and what it did.
 #[derive(Clone, Copy, Debug, PartialEq, Eq)]
 pub struct Outcome {
@@ -18,7 +21,7 @@ pub struct Outcome {
     pub steps: u64,
     /// The repairs of SELF, MULTIPLE, DANGLING, BLANK, UNMATCHED, OWNER, EMPTY, ORPHAN and
     /// WRONG-OST.
-    pub repairs: [u64; 9],
+    pub repairs: [u64; COUNTED],
 }
 
 /// Makes at most so many steps.
@@ -33,7 +36,7 @@ pub fn run(
         answer: DONE,
         position,
         steps: 0,
-        repairs: [0; 9],
+        repairs: [0; COUNTED],
     };
     while outcome.position != Position::End {
         if outcome.steps == most {

@@ -74,14 +74,31 @@ fn slot_step(lent: &mut Lent, policy: u64, at: usize, index: usize) -> Stepped {
     }
 }
 
-/// Claim and owner of the object, then the slot's OST index. The row of the object is looked for
-/// once more.
+/// Claim and owner of the object, then the slot's OST index, each where it differs. The row of the
+/// object is looked for once more.
 fn mend(lent: &mut Lent, at: usize, index: usize, fid: Fid, count: usize) -> Option<usize> {
     let object = object_row(lent.objects, fid)?;
-    match_object(lent, at, index, object);
-    let ost = number32(row(lent.objects, object::BYTES, object), object::OST_AT);
-    slot_mut(lent, at, index)[SLOT_OST_AT..].copy_from_slice(&ost.to_le_bytes());
+    if !matches(lent, at, index, object) {
+        match_object(lent, at, index, object);
+    }
+    let ost = number32(row(lent.objects, object::BYTES, object), object::OST_AT).to_le_bytes();
+    let slot = slot_mut(lent, at, index);
+    if slot[SLOT_OST_AT..] != ost {
+        slot[SLOT_OST_AT..].copy_from_slice(&ost);
+    }
     Some(count)
+}
+
+/// Whether an object claims a slot and has its file's owner.
+fn matches(lent: &Lent, at: usize, index: usize, object: usize) -> bool {
+    let parent = row(lent.parents, parent::BYTES, at);
+    let object = row(lent.objects, object::BYTES, object);
+    let place = Fid {
+        version: index as u32,
+        ..Fid::read(parent, SELF_AT)
+    };
+    Fid::read(object, object::CLAIM_AT) == place
+        && object[object::OWNER_AT..object::CLAIM_AT] == parent[parent::OWNER_AT..parent::LENGTH_AT]
 }
 
 /// The policy comes before the class.

@@ -12,7 +12,7 @@ pub struct Scenario {
     pub state: State,
     pub policy: u64,
     pub reserve: Vec<u8>,
-    /// The numbers lent for the report, 10 or more.
+    /// The numbers lent for the report, `REPORT` or more.
     pub report_room: usize,
 }
 

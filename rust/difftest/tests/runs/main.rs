@@ -89,7 +89,7 @@ fn random_scenario(random: &mut Random) -> Scenario {
         state: State { parents, objects },
         reserve: random_reserve(random),
         policy: random.pick(&[0, 1, 2, 3, 3]),
-        report_room: random.pick(&[10, 10, 11, 14]),
+        report_room: random.pick(&[REPORT, REPORT, REPORT + 1, REPORT + 4]),
     }
 }
 
@@ -263,7 +263,8 @@ fn spoil(call: &mut Call, kind: &str, random: &mut Random) {
 fn call_damaged(state: &State, scenario: &Scenario, side: &mut Side, random: &mut Random) -> u32 {
     let damaged = state.damaged(random);
     let mut call = scenario.call(state.start(), random.below(9) as u64);
-    call.report.resize(random.pick(&[0, 9, 10, 13]), 7);
+    let room = random.pick(&[0, REPORT - 1, REPORT, REPORT + 3]);
+    call.report.resize(room, 7);
     let outcome = side.call(&damaged, &call);
     if outcome.is_refused() {
         check_unchanged(&damaged, &call, &outcome);

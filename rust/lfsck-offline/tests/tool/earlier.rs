@@ -10,8 +10,11 @@ use crate::tool::{Case, Files, JOURNAL, LOG, POSITION, sha256};
 const OST: usize = 17;
 const OWN_ID: usize = 27 + 8;
 
-/// What a run of that version says of WRONG-OST.
+/// What an entry of this version says of WRONG-OST where none was mended, and of its version; and
+/// what one of that version says of its own.
 const COUNT: &str = ",\"WRONG-OST\":0";
+const VERSION: &str = concat!("\"version\":\"", env!("CARGO_PKG_VERSION"), "\"");
+const EARLIER: &str = "\"version\":\"0.1.0\"";
 const WHY: &str = "The run begins at the start; the saved position does not count: \
                    it was saved by a version without the class WRONG-OST.\n";
 
@@ -38,9 +41,12 @@ fn left(name: &str) -> Case {
     let case = Case::with(name, &parent, &object, &[]);
     case.run(&["run", "--steps", "1"]).expect(1);
     let log = String::from_utf8(case.read(LOG)).expect("a text");
-    assert_eq!(log.matches(COUNT).count(), 1);
+    for part in [COUNT, VERSION] {
+        assert_eq!(log.matches(part).count(), 1);
+    }
     let log = log
         .replace(COUNT, "")
+        .replace(VERSION, EARLIER)
         .replace("\"to\":[1,0,1],\"steps\":1", "\"to\":[3,0,0],\"steps\":3")
         .replace("\"answer\":1", "\"answer\":0");
     case.write(LOG, log.as_bytes());
@@ -140,7 +146,8 @@ fn its_save_is_completed() {
     assert!(told.starts_with(WHY), "{told}");
 }
 
-/// Only that one count may be missing, and where it stands it is a number.
+/// Only that one count may be missing, in an entry of that version alone, and where it stands it
+/// is a number.
 #[test]
 fn a_log_without_another_count_is_refused() {
     let case = left("earlier-spoilt");
@@ -149,6 +156,7 @@ fn a_log_without_another_count_is_refused() {
         log.replace(",\"ORPHAN\":0", ""),
         log.replace(",\"ORPHAN\":0", ",\"ORPHAN\":0,\"WRONG-OST\":null"),
         log.replace("\"SELF\":1,", ""),
+        log.replace(EARLIER, VERSION),
     ] {
         assert_ne!(spoilt, log);
         case.write(LOG, spoilt.as_bytes());

@@ -8,10 +8,11 @@ use crate::tool::{Case, LOG};
 const TEN: &str = "[0x200000401:0xa:0x0]";
 const ELEVEN: &str = "[0x200000401:0xb:0x0]";
 
-/// Where an object row has the OST index, the uid and the claim.
+/// Where an object row has the OST index, the uid, the claim and the fresh mark.
 const OST: usize = 17;
 const UID: usize = 21;
 const CLAIM: usize = 29;
+const FRESH: usize = 45;
 
 /// File 1 names three objects on OST 3, which are on OST 5: the first claims its slot and has
 /// another owner, the second claims nothing, and the third claims slot 7.
@@ -194,4 +195,35 @@ fn an_index_is_written_under_the_class_that_was_mended() {
             "{story:?}"
         );
     }
+}
+
+/// The index of a slot is mended, and then an orphan takes the slot of that fresh object: both are
+/// counted, and what differs is what the slot names.
+#[test]
+fn an_index_is_mended_where_an_orphan_goes_then() {
+    let mut fresh = object_row(0x10, (1, 0));
+    fresh[OST] = 5;
+    fresh[FRESH] = 1;
+    let rows = [fresh, object_row(0x11, (1, 0))].concat();
+    let case = Case::with("wrong-ost-orphan", &parent_row(1, &[0x10]), &rows, &[]);
+    let start = case.files();
+    let told = case.run(&["run", "--adopt"]).expect(0).out;
+    expect_lines(
+        &told,
+        &[
+            "slot names this object now, instead of [0x240000400:0x10:0x0]\n",
+            "Repairs: ORPHAN 1, WRONG-OST 1.\n",
+        ],
+    );
+    assert!(!told.contains("written into the slot"), "{told}");
+    oracle::run(&start, 2, u64::MAX).expect_in(&case);
+    let told = case.run(&["log", "0x200000401:1"]).expect(0).out;
+    assert!(
+        told.contains("ORPHAN") && !told.contains("WRONG-OST:"),
+        "{told}"
+    );
+    case.run(&["undo"]).expect(0);
+    let mut after = case.files();
+    after.remove(LOG);
+    assert_eq!(after, start);
 }

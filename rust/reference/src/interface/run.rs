@@ -8,8 +8,8 @@ use crate::run;
 use crate::site::Site;
 use crate::step::Policy;
 
-/// The numbers of a report: the steps done and the repairs of nine classes.
-const REPORT_NUMBERS: usize = 10;
+/// The numbers of a report: the steps done and the repairs by class.
+const REPORT_NUMBERS: usize = 1 + run::COUNTED;
 
 /// Checks the input, then makes at most `most` steps. Tables and position are changed in
 /// place; the report is handed out.
