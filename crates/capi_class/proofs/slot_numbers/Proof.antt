@@ -27,7 +27,7 @@ returns-5 c = c .bare5 .ensures ∙ ap slotNumbers (sym (c .before .enum-told5 .
 
 returns-6 : tie.Need-returns-6
 unfolding slotNumbers listed
-returns-6 c = cc
+returns-6 c = ap slotNumbers (sym (c .before .before .before .c .given .1))
 
 returns-7 : tie.Need-returns-7
 unfolding slotNumbers
