@@ -164,7 +164,7 @@ impl View<'_> {
         match file.slots[slot as usize] {
             None => format!("  slot {slot}: {class}\n"),
             Some(stripe) => format!(
-                "  slot {slot}: {class}, object {} on OST {}, generation {}\n{}",
+                "  slot {slot}: {class}, names {} on OST {}, generation {}\n{}",
                 stripe.object,
                 stripe.ost,
                 stripe.generation,

@@ -365,9 +365,9 @@ fn a_file_is_shown_with_its_slots_and_rules() {
     for line in [
         "File [0x200000401:0x3:0x0], parent row 2\n",
         "  owner 1001:100\n",
-        "  slot 0: MULTIPLE, object [0x240000400:0x11:0x0] on OST 1, generation 0\n",
+        "  slot 0: MULTIPLE, names [0x240000400:0x11:0x0] on OST 1, generation 0\n",
         "the keeper is slot 1 of [0x200000401:0x1:0x0]: the object claims that slot\n",
-        "  slot 1: CLEAN, object [0x240000400:0x13:0x0] on OST 3, generation 0\n",
+        "  slot 1: CLEAN, names [0x240000400:0x13:0x0] on OST 3, generation 0\n",
     ] {
         assert!(told.out.contains(line), "{line}: {}", told.out);
     }

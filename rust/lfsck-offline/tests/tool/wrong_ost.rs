@@ -67,7 +67,7 @@ fn show_tells_both_osts() {
     let case = Case::sample("wrong-ost-show");
     let told = case.run(&["show", ELEVEN]).expect(0).out;
     let lines = "\
-  slot 0: WRONG-OST, object [0x240000400:0x29:0x0] on OST 2, generation 0
+  slot 0: WRONG-OST, names [0x240000400:0x29:0x0] on OST 2, generation 0
       the object is on OST 1, has owner 0:0 and claims slot 0 of [0x200000401:0xb:0x0]
       this slot is the keeper: the object claims this slot
       repair, always: write the owner 1001:100, and OST 1, where the object is, into the slot, which names OST 2
