@@ -124,7 +124,7 @@ enum {
     LFSCK_DANGLING = 4,  /* a keeper whose object is absent */
     LFSCK_BLANK = 5,     /* a keeper whose object claims nothing */
     LFSCK_UNMATCHED = 6, /* a keeper whose object claims another slot */
-    LFSCK_OWNER = 7,     /* a keeper whose object claims it, on the OST that it names, and has another owner */
+    LFSCK_OWNER = 7,     /* a keeper whose object is on the OST it names and has another owner */
     LFSCK_SPARE = 8,     /* an object that no slot names, without claim */
     LFSCK_EMPTY = 9,     /* a fresh object that no slot names */
     LFSCK_ORPHAN = 10,   /* an object that no slot names; its claimed place can be had */
