@@ -1,6 +1,7 @@
 // What C calls: thin exports over the functions on numbers and lent slices.
 pub mod classes;
 pub mod input;
+pub mod intakes;
 pub mod layouts;
 pub mod links;
 pub mod runs;

@@ -1,0 +1,7 @@
+pub mod HeadLaws
+pub mod DigitLaws
+pub mod LineLaws
+pub mod TwiceLaws
+pub mod Simulation
+pub mod RowLaws
+pub mod Example

@@ -1,0 +1,3 @@
+pub mod OwnerLaws
+pub mod FillLaws
+pub mod CloseLaws

@@ -1,0 +1,2 @@
+pub mod OwnerLine
+pub mod Closing

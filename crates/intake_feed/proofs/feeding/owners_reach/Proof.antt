@@ -1,0 +1,12 @@
+use borrow.Author.Needs.{needs}
+use Rattle.intake_feed.proofs.feeding.owners_reach.Statement.{statement}
+use Rattle.intake_feed.proofs.feeding.owners_reach.Tie as tie
+
+load-requires : tie.Need-load-requires
+load-requires c κs = search needs
+
+returns : tie.Need-returns
+returns c = rw (c .before .load .ensures)
+
+pub owners-reach-spec : {M : Type 1} → statement M
+owners-reach-spec = tie.close (tie.spec load-requires returns)

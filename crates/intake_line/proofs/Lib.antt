@@ -1,0 +1,9 @@
+pub mod StartsLaws
+pub mod StoreLaws
+pub mod WordLaws
+pub mod HoldLaws
+pub mod FeedLaws
+pub mod EndLaws
+pub mod EntryLaws
+pub mod GlueLaws
+pub mod TurnLaws

@@ -1,0 +1,71 @@
+-- A word at the front of a slice, byte by byte, and a hex digit. Assumes nothing.
+use Prim.Native.Nat.{ℕ, zero, suc, _+_, _-_, _≤_, _<_}
+use mathlib.Core.Path.{_≡_, refl, sym, ap, _∙_}
+use mathlib.Core.List.{List, [], _∷_}
+use mathlib.Core.Bool.{Bool, true, false, _&&_, and-false}
+use native.Mathlib.Numerals.{add-one}
+use native.Mathlib.Omega.{arith}
+use lib.ListN.{length, drop, getD, drop-of-length-le}
+use lib.Seq.{drop-cons}
+use lib.Dec.{eqb, leb}
+use borrow.Author.Tests.{eq-eqb, ne-eqb, le-leb, lt-leb}
+use Rattle.intake.specs.Says.{starts, digit}
+
+pub starts-short : (w s : List ℕ) → length s < length w → false ≡ starts w s
+unfolding starts
+starts-short [] s h = absurd (omega arith)
+starts-short (a ∷ w) [] h = refl
+starts-short (a ∷ w) (b ∷ s) h = rw (← starts-short w s (omega arith)) (sym (and-false (eqb b a)))
+
+-- what is left to compare from byte i on
+pub from : List ℕ → List ℕ → ℕ → Bool
+from w s i = starts (drop i w) (drop i s)
+
+module _ (w s : List ℕ) where
+  pub starts-begin : starts w s ≡ from w s 0
+  unfolding from
+  starts-begin = refl
+
+  pub starts-end : (i : ℕ) → length w ≤ i → from w s i ≡ true
+  unfolding from starts
+  starts-end i h = rw (drop-of-length-le w h)
+
+  module _ (i : ℕ) (h : i < length w) (k : i < length s) where
+    starts-at : from w s i ≡ (eqb (getD s i 0) (getD w i 0) && from w s (suc i))
+    unfolding from starts
+    starts-at = rw (drop-cons w i 0 h, drop-cons s i 0 k)
+
+    pub starts-next : getD s i 0 ≡ getD w i 0 → from w s i ≡ from w s (i + 1)
+    starts-next e = rw (add-one, starts-at, eq-eqb (getD s i 0) (getD w i 0) e)
+
+    pub starts-not : (getD s i 0 ≡ getD w i 0 → ⊥) → from w s i ≡ false
+    starts-not e = rw (starts-at, ne-eqb (getD s i 0) (getD w i 0) e)
+
+module _ (b : ℕ) where
+  pub digit-low : b < 48 → 16 ≡ digit b
+  unfolding digit
+  digit-low h = simp (lt-leb 48 b h, lt-leb 65 b (omega arith), lt-leb 97 b (omega arith))
+
+  pub digit-number : (v : ℕ) → v ≡ b → 48 ≤ b → b ≤ 57 → v - 48 ≡ digit b
+  unfolding digit
+  digit-number v e h k = simp (e, le-leb 48 b h, le-leb b 57 k)
+
+  pub digit-gap : 57 < b → b < 65 → 16 ≡ digit b
+  unfolding digit
+  digit-gap h k = simp (le-leb 48 b (omega arith), lt-leb b 57 h, lt-leb 65 b k, lt-leb 97 b (omega arith))
+
+  pub digit-upper : (v : ℕ) → v ≡ b → 65 ≤ b → b ≤ 70 → v - 55 ≡ digit b
+  unfolding digit
+  digit-upper v e h k = simp (e, le-leb 48 b (omega arith), lt-leb b 57 (omega arith), le-leb 65 b h, le-leb b 70 k)
+
+  pub digit-gap-2 : 70 < b → b < 97 → 16 ≡ digit b
+  unfolding digit
+  digit-gap-2 h k = simp (le-leb 48 b (omega arith), lt-leb b 57 (omega arith), le-leb 65 b (omega arith), lt-leb b 70 h, lt-leb 97 b k)
+
+  pub digit-lower : (v : ℕ) → v ≡ b → 97 ≤ b → b ≤ 102 → v - 87 ≡ digit b
+  unfolding digit
+  digit-lower v e h k = simp (e, le-leb 48 b (omega arith), lt-leb b 57 (omega arith), le-leb 65 b (omega arith), lt-leb b 70 (omega arith), le-leb 97 b h, le-leb b 102 k)
+
+  pub digit-high : 102 < b → 16 ≡ digit b
+  unfolding digit
+  digit-high h = simp (le-leb 48 b (omega arith), lt-leb b 57 (omega arith), le-leb 65 b (omega arith), lt-leb b 70 (omega arith), le-leb 97 b (omega arith), lt-leb b 102 h)

@@ -1,0 +1,67 @@
+use borrow.Author.Needs.{needs}
+use native.Mathlib.Omega.{arith}
+use Prim.Native.Nat.{_-_}
+use mathlib.Core.Path.{_≡_, refl, sym, ap, _∙_}
+use lib.ListN.{length}
+use Rattle.intake_line.specs.Lent.{wantOf, Feeding}
+use Rattle.intake_line.proofs.FeedLaws.{feeding-start, feeding-step, held-at, step-at}
+use Rattle.intake_line.proofs.feed_line.Statement.{statement}
+use Rattle.intake_line.proofs.feed_line.Tie as tie
+
+abbrev Inv-loop : tie.InvT-loop
+Inv-loop buf₀ m piece from x₀ at₀ buf x at = Feeding (wantOf m (length buf₀)) buf₀ x₀ piece from buf x at
+
+abbrev μ-loop : tie.MeasureT-loop
+μ-loop buf₀ m piece from x₀ at₀ buf x at = length piece - at
+
+loop-holds : tie.Need-loop-holds Inv-loop μ-loop
+loop-holds c = let p = c .before .before in let a = p .args in feeding-start _ (a .buf .now) (a .line) (a .piece .now) (a .from) (p .pre .1) (p .pre .3)
+
+shared-slice-read-b : tie.Need-shared-slice-read-b Inv-loop μ-loop
+shared-slice-read-b c = omega arith
+
+same-length : tie.Need-same-length Inv-loop μ-loop
+same-length c = search needs
+
+returns : tie.Need-returns Inv-loop μ-loop
+returns c = record { fed = c .before .before .before .loop .inv; stop = λ _. c .if1 .taken }
+
+line-byte-requires : tie.Need-line-byte-requires Inv-loop μ-loop
+line-byte-requires c κs =
+    let l = c .before .before .before .before .loop in let a = c .before .before .before .before .before .before .before .args in
+    (omega arith, held-at (a .m) _ _ (l .buf) (l .x) (sym (l .inv .long)) (l .inv .held), omega arith)
+
+add-at : tie.Need-add-at Inv-loop μ-loop
+add-at c = omega arith
+
+loop-less : tie.Need-loop-less Inv-loop μ-loop
+loop-less c = omega arith
+
+loop-again : tie.Need-loop-again Inv-loop μ-loop
+loop-again c =
+    let l = c .before .before .before .before .before .before .before .loop in let a = c .before .before .before .before .before .before .before .before .before .before .args in
+    feeding-step _ (a .buf .now) (a .line) (a .piece .now) (a .from) (l .buf) (l .x) (l .at) _ _ _ (l .inv) (omega arith) refl (c .before .before .before .before .if1 .left)
+    (step-at (a .m) _ _ (l .buf) (l .x) _ _ _ (l .inv .long) (c .before .before .line-byte .ensures))
+
+same-length-2 : tie.Need-same-length-2 Inv-loop μ-loop
+same-length-2 c = search needs
+
+returns-2 : tie.Need-returns-2 Inv-loop μ-loop
+returns-2 c = record { fed = c .before .loop .inv; stop = λ h. absurd (omega arith) }
+
+pub feed-line-spec : {M : Type 1} → statement M
+feed-line-spec =
+    tie.close
+    (tie.spec
+    Inv-loop
+    μ-loop
+    loop-holds
+    shared-slice-read-b
+    same-length
+    returns
+    line-byte-requires
+    add-at
+    loop-less
+    loop-again
+    same-length-2
+    returns-2)

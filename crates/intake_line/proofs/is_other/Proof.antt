@@ -1,0 +1,37 @@
+use Rattle.intake_line.specs.Lent.{isOther}
+use borrow.Author.Needs.{needs}
+use Rattle.intake_line.proofs.is_other.Statement.{statement}
+use Rattle.intake_line.proofs.is_other.Tie as tie
+
+enum-told : tie.Need-enum-told
+enum-told c = search needs
+
+enum-told-2 : tie.Need-enum-told-2
+enum-told-2 c = search needs
+
+enum-told-3 : tie.Need-enum-told-3
+enum-told-3 c = search needs
+
+enum-told-4 : tie.Need-enum-told-4
+enum-told-4 c = search needs
+
+returns : tie.Need-returns
+unfolding isOther
+returns c = cc
+
+returns-2 : tie.Need-returns-2
+unfolding isOther
+returns-2 c = cc
+
+returns-3 : tie.Need-returns-3
+unfolding isOther
+returns-3 c = cc
+
+returns-4 : tie.Need-returns-4
+unfolding isOther
+returns-4 c = cc
+
+pub is-other-spec : {M : Type 1} → statement M
+is-other-spec =
+    tie.close
+    (tie.spec enum-told enum-told-2 enum-told-3 enum-told-4 returns returns-2 returns-3 returns-4)

@@ -1,0 +1,90 @@
+use native.Mathlib.Omega.{arith}
+use Prim.Native.Nat.{ℕ, _+_}
+use lib.ListN.{length, set, length-set}
+use mathlib.Core.Path.{_≡_, sym, ap, _∙_}
+use Rattle.intake_line.specs.Lent.{wantOf, baseOf}
+use Rattle.intake_line.proofs.HoldLaws.{head-step, full-step, want-fits, digit-step}
+use borrow.Author.Needs.{needs}
+use Rattle.intake_line.proofs.line_byte.Statement.{statement}
+use Rattle.intake_line.proofs.line_byte.Tie as tie
+
+add-at : tie.Need-add-at
+add-at c = search needs
+
+slice-write-buf : tie.Need-slice-write-buf
+slice-write-buf c = search needs
+
+add-t13 : tie.Need-add-t13
+add-t13 c = search needs
+
+same-length : tie.Need-same-length
+same-length c = search needs
+
+returns : tie.Need-returns
+returns c =
+    let p = c .before .before .before in let a = p .args in
+    head-step (wantOf (a .m) _) (a .buf .now) (a .x) (a .b) (p .pre .0) (p .pre .1) (omega arith) (omega arith)
+
+sub-kind-of : tie.Need-sub-kind-of
+sub-kind-of c = search needs
+
+part-kind-of-start : tie.Need-part-kind-of-start
+part-kind-of-start c = search needs
+
+part-kind-of-end : tie.Need-part-kind-of-end
+part-kind-of-end c = simp length-set (omega arith)
+
+kind-of-requires : tie.Need-kind-of-requires
+kind-of-requires c κs = search needs
+
+base-of-requires : tie.Need-base-of-requires
+base-of-requires c κs = search needs
+
+most-of-requires : tie.Need-most-of-requires
+most-of-requires c κs = search needs
+
+same-length-2 : tie.Need-same-length-2
+same-length-2 c = search needs
+
+returns-2 : tie.Need-returns-2
+returns-2 c =
+    let p = c .before .before .before .before .before .before .before .before in let a = p .args in
+    let n : length (set (a .buf .now) (128 + a .x .seen) (a .b)) ≡ length (a .buf .now) = length-set (a .buf .now) (128 + a .x .seen) (a .b) in
+    let most : c .most-of .result ≡ wantOf (a .m) (length (a .buf .now)) (c .before .before .kind-of .result) =
+    c .most-of .ensures ∙ ap (λ (z : ℕ). wantOf (a .m) z (c .before .before .kind-of .result)) n in
+    full-step (wantOf (a .m) (length (a .buf .now))) (a .buf .now) (a .x) (a .b) (p .pre .0) (p .pre .1) (omega arith) (omega arith) _ _
+    (c .before .base-of .ensures ∙ ap baseOf (c .before .before .kind-of .ensures))
+    (most ∙ ap (wantOf (a .m) (length (a .buf .now))) (c .before .before .kind-of .ensures))
+    (want-fits (a .m) (length (a .buf .now)) _ _ _ (p .pre .0) (c .before .base-of .ensures) most)
+
+digit-byte-requires : tie.Need-digit-byte-requires
+digit-byte-requires c κs = search needs
+
+same-length-3 : tie.Need-same-length-3
+same-length-3 c = search needs
+
+returns-3 : tie.Need-returns-3
+returns-3 c =
+    let p = c .before .before .before .before .before .before in let a = p .args in
+    digit-step (a .m) (a .buf .now) (a .x) (a .b) _ _ (p .pre .1) (omega arith) (c .before .before .digit-byte .ensures)
+
+pub line-byte-spec : {M : Type 1} → statement M
+line-byte-spec =
+    tie.close
+    (tie.spec
+    add-at
+    slice-write-buf
+    add-t13
+    same-length
+    returns
+    sub-kind-of
+    part-kind-of-start
+    part-kind-of-end
+    kind-of-requires
+    base-of-requires
+    most-of-requires
+    same-length-2
+    returns-2
+    digit-byte-requires
+    same-length-3
+    returns-3)

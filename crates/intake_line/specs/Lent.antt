@@ -1,0 +1,170 @@
+-- The unfinished line in lent bytes, and what each function does there. Document 02, 2026-03: "Input arrives in pieces".
+use Prim.Native.Nat.{ℕ, suc, _+_, _-_, _≤_, _<_}
+use mathlib.Core.Path.{_≡_}
+use mathlib.Core.List.{List, [], foldl}
+use mathlib.Core.Bool.{Bool, true, false, cond}
+use lib.ListN.{length, take, drop, getD}
+use lib.Dec.{eqb, ltb}
+use Rattle.fid.specs.Fid.{fidSize}
+use Rattle.intake.specs.Lines.{newline}
+use Rattle.intake.specs.declared.Kind.{Kind}
+use Rattle.intake.specs.declared.Kind.the-variants.{Lov, Fid, Lma, Other}
+use Rattle.intake_line.specs.declared.Marks.{Marks}
+use Rattle.intake_line.specs.declared.Unfinished.{Unfinished}
+use Rattle.intake_line.specs.declared.Fed.{Fed}
+use Rattle.intake_line.specs.declared.Said.{Said}
+use Rattle.intake_line.specs.declared.Said.the-variants.{Opens, Closes, Skipped, Bad, Takes}
+use Rattle.intake.specs.Says.{headSize, kindOf, goodSize, wanted, Line, opens, closes, skipped, bad, takes, Value, holds, wrong, judge}
+use Rattle.intake.specs.Machine.{Digits, broken, even, odd, digitByte, Partial, lineByte, lineEnd, State, byte, wantIn}
+use Rattle.intake.specs.Reading.{Reading, isGoing}
+
+-- ## Where things stand
+
+-- the state's numbers come first, then the first bytes of the unfinished line, then the attributes of the open entry, the layout last
+abbrev pub headAt : ℕ
+headAt = 128
+
+abbrev pub fidAt : ℕ
+fidAt = headAt + 16
+
+abbrev pub lmaAt : ℕ
+lmaAt = fidAt + fidSize
+
+abbrev pub layoutAt : ℕ
+layoutAt = lmaAt + 48
+
+-- where a value goes
+unfoldable pub baseOf : Kind → ℕ
+baseOf Lov = layoutAt
+baseOf Fid = fidAt
+baseOf Lma = lmaAt
+baseOf Other = fidAt
+
+-- counts stay below this
+abbrev pub maxCount : ℕ
+maxCount = 0xffffffffffffffff
+
+-- ## The unfinished line
+
+unfoldable pub markOf : Marks → Kind → ℕ
+markOf m Lov = m .lov
+markOf m Fid = m .fid
+markOf m Lma = m .lma
+markOf m Other = 0
+
+-- how much of a value is kept, in a state of so many bytes: nothing of an attribute that the entry has
+unfoldable pub wantOf : Marks → ℕ → Kind → ℕ
+wantOf m size k = cond (eqb (markOf m k) 0) (wanted (size - layoutAt) k) 0
+
+-- what is kept of the value so far
+unfoldable pub keptIn : List ℕ → Unfinished → List ℕ
+keptIn buf x = take (x .size) (take (x .most) (drop (x .base) buf))
+
+unfoldable pub digitsIn : List ℕ → Unfinished → Digits
+digitsIn buf x =
+    cond (eqb (x .half) 0) (even (x .size) (keptIn buf x))
+    (cond (eqb (x .half) 17) broken (odd (x .half - 1) (x .size) (keptIn buf x)))
+
+unfoldable pub partialIn : List ℕ → Unfinished → Partial
+partialIn buf x = record { head = take (x .seen) (drop headAt buf); digits = digitsIn buf x }
+
+-- a line of which nothing has been read
+abbrev pub newLine : Unfinished
+newLine = record { seen = 0; base = fidAt; most = 0; half = 0; size = 0 }
+
+-- the same line with other digits
+abbrev pub valued : Unfinished → ℕ → ℕ → Unfinished
+valued x half size = record { seen = x .seen; base = x .base; most = x .most; half = half; size = size }
+
+-- a state of n bytes has room for the line, and its counts don't wrap
+pub record Room (n : ℕ) (x : Unfinished) : Type 0 where
+  pub fits : x .base + x .most ≤ n
+  pub past : fidAt ≤ x .base
+  pub halves : x .half ≤ 17
+  pub counts : x .size < maxCount
+
+-- bytes from base on, most of them, may have changed, and no others
+pub record Within (base most : ℕ) (before after : List ℕ) : Type 0 where
+  pub long : length after ≡ length before
+  pub front : take base after ≡ take base before
+  pub back : drop (base + most) after ≡ drop (base + most) before
+
+pub record DigitStep (before : List ℕ) (x : Unfinished) (b : ℕ) (after : List ℕ) (r : Unfinished) : Type 0 where
+  pub digits : digitsIn after r ≡ digitByte (x .most) (digitsIn before x) b
+  pub within : Within (x .base) (x .most) before after
+  pub seen : r .seen ≡ x .seen
+  pub base : r .base ≡ x .base
+  pub most : r .most ≡ x .most
+  pub halves : r .half ≤ 17
+  pub counts : r .size ≤ suc (x .size)
+
+-- what holds of the line so far, where so much is wanted of each kind
+pub record Held (want : Kind → ℕ) (buf : List ℕ) (x : Unfinished) : Type 0 where
+  pub heads : x .seen ≤ headSize
+  pub short : x .seen < headSize → (x .half ≡ 0) × (x .size ≡ 0)
+  pub at : headSize ≤ x .seen → x .base ≡ baseOf (kindOf (take headSize (drop headAt buf)))
+  pub keeps : headSize ≤ x .seen → x .most ≡ want (kindOf (take headSize (drop headAt buf)))
+  pub past : fidAt ≤ x .base
+  pub fits : x .base + x .most ≤ length buf
+  pub halves : x .half ≤ 17
+
+-- the part of the lent bytes in which an attribute is kept
+unfoldable pub partOf : ℕ → Kind → List ℕ → List ℕ
+partOf size k buf = take (wanted (size - layoutAt) k) (drop (baseOf k) buf)
+
+-- the attributes that the entry has stay as they are
+unfoldable pub Others : (Kind → ℕ) → List ℕ → List ℕ → Type 0
+Others want before after = (k : Kind) → want k ≡ 0 → partOf (length before) k after ≡ partOf (length before) k before
+
+pub record LineStep (want : Kind → ℕ) (before : List ℕ) (x : Unfinished) (b : ℕ) (after : List ℕ) (r : Unfinished) : Type 0 where
+  pub line : partialIn after r ≡ lineByte want (partialIn before x) b
+  pub held : Held want after r
+  pub counts : r .size ≤ suc (x .size)
+  pub long : length after ≡ length before
+  pub others : Others want before after
+
+-- the bytes of a piece between two places, read within a line: what a reading comes to from the one place is what it comes to from the other
+pub record Feeding (want : Kind → ℕ) (before : List ℕ) (x : Unfinished) (piece : List ℕ) (from : ℕ) (after : List ℕ) (r : Unfinished) (at : ℕ) : Type 0 where
+  pub same : (R : Reading) → isGoing (R .stop) ≡ true → ((k : Kind) → wantIn (length before - layoutAt) (R .entry) k ≡ want k)
+      → foldl (byte (length before - layoutAt)) (record { reading = R; line = partialIn before x }) (drop from piece)
+      ≡ foldl (byte (length before - layoutAt)) (record { reading = R; line = partialIn after r }) (drop at piece)
+  pub least : from ≤ at
+  pub within : at ≤ length piece
+  pub held : Held want after r
+  pub counts : r .size ≤ x .size + (at - from)
+  pub long : length after ≡ length before
+  pub others : Others want before after
+
+-- up to the line's end, or the piece's
+pub record LineFed (want : Kind → ℕ) (before : List ℕ) (x : Unfinished) (piece : List ℕ) (from : ℕ) (after : List ℕ) (r : Fed) : Type 0 where
+  pub fed : Feeding want before x piece from after (r .line) (r .at)
+  pub stop : r .at < length piece → getD piece (r .at) 0 ≡ newline
+
+-- ## The line's end
+
+unfoldable pub isOther : Kind → Bool
+isOther Lov = false
+isOther Fid = false
+isOther Lma = false
+isOther Other = true
+
+-- what the code says of a line, with the length and the kept bytes of its value
+unfoldable pub lineOf : Said → ℕ → List ℕ → Line
+lineOf Opens n v = opens
+lineOf Closes n v = closes
+lineOf Skipped n v = skipped
+lineOf Bad n v = bad
+lineOf (Takes k) n v = takes k n v
+
+-- the value of digits that ended so: whole bytes, or none
+unfoldable pub valueIs : ℕ → ℕ → List ℕ → Value
+valueIs half size v = cond (eqb half 0) (holds size v) wrong
+
+-- what the code says of a head is what the head says, whatever the value's bytes; and a value is taken only of a whole head, by its kind, and of a good length
+pub record HeadSaid (h : List ℕ) (half size : ℕ) (r : Said) : Type 0 where
+  pub says : (v : List ℕ) → lineOf r size v ≡ judge h (valueIs half size v)
+  pub whole : (k : Kind) → r ≡ Takes k → (headSize ≤ length h) × (k ≡ kindOf h) × (goodSize k size ≡ true)
+
+pub record LineSaid (buf : List ℕ) (x : Unfinished) (r : Said) : Type 0 where
+  pub says : lineOf r (x .size) (keptIn buf x) ≡ lineEnd (partialIn buf x)
+  pub whole : (k : Kind) → r ≡ Takes k → (headSize ≤ x .seen) × (k ≡ kindOf (take (x .seen) (drop headAt buf))) × (goodSize k (x .size) ≡ true)
