@@ -3,13 +3,14 @@
  * linkEAs, when each class applies and what each repair writes, are in docs/RULES.md.
  *
  * Every function answers one of the numbers below. All other numbers are uint64_t. What is lent
- * is a pointer and a count: of bytes for a table, a layout, a pool, a linkEA or names, of numbers
- * for an array of numbers. A pointer is not null and, for numbers, aligned, also where its count
+ * is a pointer and a count: of bytes for a table, a layout, a pool, a linkEA, names, a dump's piece,
+ * owners or a state, of numbers for an array of numbers. A pointer is not null and, for numbers, aligned, also where its count
  * is 0. What is lent to be written overlaps nothing else that is lent. Nothing is kept after the
  * call.
  *
  * With an answer of 11 to 17, or of 31, nothing that was lent is changed. Of several answers that
- * apply the lowest is given, but LFSCK_BAD_LINK before all others. An array that is longer than
+ * apply the lowest is given, but LFSCK_BAD_LINK before all others; of a dump, those of its first
+ * bad line. An array that is longer than
  * what is handed out keeps its rest.
  */
 #ifndef LFSCK_LAYOUT_H
@@ -31,12 +32,17 @@ enum {
     LFSCK_BAD_LAYOUT = 13,    /* a layout or a slot is against the rules */
     LFSCK_BAD_FID = 14,       /* a bad FID, object index or claim, or fresh without claim */
     LFSCK_FID_TWICE = 15,     /* a FID twice among used parents, or twice among used objects */
-    LFSCK_NO_POSITION = 16,   /* there is no such position, slot or record */
+    LFSCK_NO_POSITION = 16,   /* there is no such position, slot, record or state */
     LFSCK_NO_ROOM = 17,       /* too few places for what is handed out */
     LFSCK_NO_RESERVE = 21,    /* a slot is to be redirected: no usable FID in the reserve */
     LFSCK_NO_OBJECT_ROW = 22, /* an object is to be made: no unused object row */
     LFSCK_NO_PARENT_ROW = 23, /* a file is to be made: no unused parent row */
-    LFSCK_BAD_LINK = 31       /* a linkEA or a record is against the rules */
+    LFSCK_BAD_LINK = 31,      /* a linkEA or a record is against the rules */
+    LFSCK_BAD_DUMP = 33,      /* a bad line of a dump or of owners, or a dump that ends too soon */
+    LFSCK_ATTR_TWICE = 34,    /* trusted.lov, fid or lma twice in an entry */
+    LFSCK_NO_SELF = 35,       /* an entry without self FID */
+    LFSCK_NO_KIND = 36,       /* an entry that is neither a file nor an object, or both */
+    LFSCK_NO_FIT = 37         /* an entry whose row doesn't fit */
 };
 
 /* Tables: bytes of a row or an entry, and the most of them. */
@@ -83,6 +89,12 @@ enum {
     LFSCK_LINK_HEADER = 24,   /* bytes before the records, and the place of the first one */
     LFSCK_RECORD_BEFORE = 18, /* bytes of a record before its name */
     LFSCK_NAME_BYTES = 65517  /* bytes of the longest name */
+};
+
+/* Intake from attribute dumps. */
+enum {
+    LFSCK_INTAKE_STATE = 4096, /* bytes of a state: the longest layout and 208 */
+    LFSCK_PIECE_MAX = 65536    /* bytes of the longest piece */
 };
 
 /* How many numbers describe a thing. */
@@ -380,6 +392,67 @@ uint32_t lfsck_link_write(const uint64_t *fields, size_t fields_count,
                           const uint64_t *records, size_t records_count,
                           const uint8_t *names, size_t names_bytes,
                           uint8_t *destination, size_t destination_bytes,
+                          uint64_t *out, size_t out_count);
+
+/*
+ * A dump is what getfattr -d -m '^trusted\.' -e hex prints: entries of a line that begins with
+ * "# file:", lines of attributes and an empty line, each line ended by a newline. Of an entry
+ * trusted.lov, trusted.fid and trusted.lma are taken, all other attributes are skipped. One with
+ * trusted.lov is a file, one with trusted.fid an object.
+ *
+ * The owners file has a line for each entry, in their order: uid, gid and OST index in decimal,
+ * with one space between. The index is needed of files too, and not used.
+ *
+ * docs/RULES.md says which lines are good.
+ */
+
+/*
+ * Reads the next piece of a dump, and fills a row of its table for each entry that a line in it
+ * closes: the first unused row. Whatever the pieces, the tables, the answer and the line are those
+ * of the whole that they make.
+ *
+ *   state             LFSCK_INTAKE_STATE bytes, changed: all zero for a new dump, then as the last
+ *                     call left them
+ *   piece             at most LFSCK_PIECE_MAX bytes; a line may go on in the next piece
+ *   owners            the owners file, whole, the same with each piece
+ *   parents, objects  the tables, changed
+ *   out               1 number, written with LFSCK_BAD_DUMP to LFSCK_NO_FIT alone: the line, counted
+ *                     from 1
+ *
+ * LFSCK_OK           every line that ends in the piece is good
+ * LFSCK_BAD_TABLE    a table is not whole rows or too long, a mark is not 0 or 1, or the piece is
+ *                    too long
+ * LFSCK_NO_POSITION  the state is none: of another length, no state of a reading, or of one that
+ *                    has taken more of the owners than there is
+ * LFSCK_NO_ROOM      out has no place
+ * LFSCK_BAD_DUMP, LFSCK_ATTR_TWICE, LFSCK_NO_SELF, LFSCK_NO_KIND, LFSCK_NO_FIT
+ *                    reading stops at this line; the rows of the entries before it stand. Every
+ *                    further call gives the same answer and line, and changes nothing
+ *
+ * With LFSCK_BAD_TABLE, LFSCK_NO_POSITION and LFSCK_NO_ROOM nothing is changed, the state neither,
+ * and the piece can be handed over again.
+ */
+uint32_t lfsck_intake_feed(uint8_t *state, size_t state_bytes,
+                           const uint8_t *piece, size_t piece_bytes,
+                           const uint8_t *owners, size_t owners_bytes,
+                           uint8_t *parents, size_t parents_bytes,
+                           uint8_t *objects, size_t objects_bytes,
+                           uint64_t *out, size_t out_count);
+
+/*
+ * Whether the dump may end after what was fed. Nothing but out is written, so reading can go on.
+ *
+ *   state  the state, as the last call of lfsck_intake_feed left it
+ *   out    1 number, written with LFSCK_BAD_DUMP to LFSCK_NO_FIT alone: the line
+ *
+ * LFSCK_OK           no entry is open, and the last line has ended
+ * LFSCK_NO_POSITION, LFSCK_NO_ROOM
+ *                    as lfsck_intake_feed
+ * LFSCK_BAD_DUMP     an entry is open, at its first line; or else a line has not ended
+ * LFSCK_BAD_DUMP to LFSCK_NO_FIT
+ *                    where reading stopped, the same answer and line
+ */
+uint32_t lfsck_intake_end(const uint8_t *state, size_t state_bytes,
                           uint64_t *out, size_t out_count);
 
 #ifdef __cplusplus

@@ -3,10 +3,12 @@
 use std::io::Write;
 use std::time::Duration;
 
+use bench::dump::Dump;
 use bench::input::{Names, Tables};
 use bench::measure::{Timed, Times, side_by_side, timed};
 use bench::plain;
 use numbers::call::{self, END};
+use numbers::intake::{MOST_PIECE, STATE};
 use numbers::layout::MOST_SLOTS as SLOTS;
 use numbers::{link, object, parent, reserve};
 
@@ -26,6 +28,12 @@ const WALKED: usize = 2_000;
 /// The bytes of a name.
 const NAME: usize = 16;
 
+/// The bytes of a dump that is taken in.
+const DUMP: usize = 1_000_000_000;
+/// The unused rows that are lent with each piece: more than one can fill.
+const LENT_FILES: usize = 32;
+const LENT_OBJECTS: usize = 256;
+
 /// Answer, position, report and tables after a run.
 type Ran = (u32, [u64; call::POSITION], [u64; call::REPORT], Tables);
 
@@ -40,6 +48,7 @@ fn main() {
     measure_run(rounds);
     measure_listing(rounds);
     measure_link(rounds);
+    measure_intake(rounds);
     let [least, most] = [SIZES[0], SIZES[SIZES.len() - 1]];
     println!(
         "\nFrom {} to {} slots, {} times as many, the classes grow by{}.",
@@ -329,6 +338,72 @@ fn walk(
         assert_eq!(records.len(), WALKED);
         records
     })
+}
+
+/// A dump of 1 GB, made piece by piece as it is taken in.
+fn measure_intake(rounds: usize) {
+    let dump = Dump::of(DUMP);
+    let [files, objects] = dump.entries();
+    let owners = dump.owners();
+    let library = || {
+        let mut state = vec![0; STATE];
+        take_in(&owners, |piece, files, objects| {
+            lfsck_sys::intake_feed(&mut state, piece, &owners, files, objects, &mut [0])
+        })
+    };
+    let plain = || {
+        let mut state = plain::IntakeState::new();
+        take_in(&owners, |piece, files, objects| {
+            plain::intake_feed(&mut state, piece, &owners, files, objects, &mut 0)
+        })
+    };
+    let times = side_by_side(rounds, library, plain);
+    let (files, objects) = (grouped(files), grouped(objects));
+    let what = format!("intake of 1 GB in pieces of 64 KiB: {files} files, {objects} objects");
+    print_line(&what, times, "");
+}
+
+/// Times a reading of the dump, piece by piece, without the making of the pieces. After each piece
+/// the rows that it filled are counted and are unused again, so the memory is the same at all times.
+/// The result is what was filled: rows of both tables, and the sum of their bytes.
+fn take_in(
+    owners: &[u8],
+    mut feed: impl FnMut(&[u8], &mut [u8], &mut [u8]) -> u32,
+) -> Timed<[u64; 3]> {
+    let mut dump = Dump::of(DUMP);
+    assert_eq!(owners.len(), dump.owners_bytes());
+    let mut piece = vec![0; MOST_PIECE];
+    let mut files = vec![0; LENT_FILES * parent::BYTES];
+    let mut objects = vec![0; LENT_OBJECTS * object::BYTES];
+    let (mut result, mut took) = ([0; 3], Duration::ZERO);
+    loop {
+        let length = dump.next(&mut piece);
+        if length == 0 {
+            break;
+        }
+        let fed = timed(|| feed(&piece[..length], &mut files, &mut objects));
+        assert_eq!(fed.result, 0);
+        took += fed.took;
+        result[0] += empty(&mut files, parent::BYTES, &mut result[2]);
+        result[1] += empty(&mut objects, object::BYTES, &mut result[2]);
+    }
+    assert_eq!(
+        [result[0], result[1]],
+        dump.entries().map(|count| count as u64)
+    );
+    Timed { result, took }
+}
+
+/// Makes the filled rows of a table unused; how many they were, and the sum of their bytes.
+fn empty(table: &mut [u8], size: usize, sum: &mut u64) -> u64 {
+    let filled = table.chunks_mut(size).take_while(|row| row[0] == 1);
+    let mut count = 0;
+    for row in filled {
+        *sum += row.iter().map(|&byte| u64::from(byte)).sum::<u64>();
+        row[0] = 0;
+        count += 1;
+    }
+    count
 }
 
 fn print_line(what: &str, times: Times, growth: &str) {

@@ -8,6 +8,7 @@
 mod bytes;
 mod check;
 mod class;
+mod intake;
 mod layout;
 mod link;
 mod listing;
@@ -17,6 +18,7 @@ mod run;
 mod search;
 
 pub use check::check;
+pub use intake::{State as IntakeState, intake_end, intake_feed};
 pub use link::{link_read, link_record, link_write};
 pub use listing::classes;
 pub use run::run;

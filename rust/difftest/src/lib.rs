@@ -1,6 +1,7 @@
 //! What the differential tests share: random numbers that can be repeated, and counts of what
 //! a test has met.
 
+pub mod dumps;
 pub mod indices;
 pub mod tables;
 

@@ -23,6 +23,11 @@ pub fn meaning(number: u32) -> &'static str {
         answer::NO_OBJECT_ROW => "an object is to be made, and no object row is unused",
         answer::NO_PARENT_ROW => "a file is to be made, and no parent row is unused",
         answer::BAD_LINK => "linkEA against the rules",
+        answer::BAD_DUMP => "bad line, digits, length or owners, or an entry that isn't closed",
+        answer::ATTRIBUTE_TWICE => "an attribute twice in an entry",
+        answer::NO_SELF => "an entry without self FID",
+        answer::NO_KIND => "an entry that is neither a file nor an object, or both",
+        answer::NO_FIT => "an entry whose row doesn't fit",
         _ => "an unknown answer",
     }
 }

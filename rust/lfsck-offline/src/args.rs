@@ -1,6 +1,7 @@
 //! The command line.
 
 use std::ffi::{OsStr, OsString};
+use std::io::{self, IsTerminal};
 use std::path::PathBuf;
 use std::str::FromStr;
 
@@ -36,6 +37,8 @@ pub enum Command {
     Undo,
     /// Print a linkEA.
     Link(Source),
+    /// Make a case from dumps.
+    Intake(IntakeOptions),
 }
 
 /// What to list, and how.
@@ -64,6 +67,34 @@ pub struct RunOptions {
     pub summary: bool,
 }
 
+/// What to make a case from.
+#[derive(Clone, Debug, PartialEq, Eq)]
+pub struct IntakeOptions {
+    /// The owners file.
+    pub owners: Source,
+    /// The dumps, in their order; at least one.
+    pub dumps: Vec<Source>,
+    /// The list of FIDs for the reserve.
+    pub reserve: Option<Source>,
+    /// Unused rows to be added to the parent table.
+    pub spare_files: usize,
+    /// Unused rows to be added to the object table.
+    pub spare_objects: usize,
+}
+
+impl IntakeOptions {
+    /// All that is read.
+    fn sources(&self) -> impl Iterator<Item = &Source> {
+        self.dumps.iter().chain([&self.owners]).chain(&self.reserve)
+    }
+
+    /// Whether somebody types what is read.
+    pub fn are_typed(&self) -> bool {
+        let standard = self.sources().any(|source| *source == Source::Standard);
+        standard && io::stdin().is_terminal()
+    }
+}
+
 /// A command, the case and the form of the output.
 #[derive(Debug, PartialEq, Eq)]
 pub struct Call {
@@ -77,6 +108,9 @@ pub struct Call {
 
 /// The options that narrow a list.
 const FILTERS: [&str; 5] = ["--only", "--file", "--object", "--ost", "--owner"];
+
+/// The options of an intake.
+const INTAKE: [&str; 4] = ["--owners", "--reserve", "--spare-files", "--spare-objects"];
 
 /// The words of a command line, sorted.
 #[derive(Default)]
@@ -92,6 +126,10 @@ struct Words {
     exit_code: bool,
     steps: Option<String>,
     filter: Filter,
+    owners: Option<Source>,
+    reserve: Option<Source>,
+    spare_files: usize,
+    spare_objects: usize,
 }
 
 impl Call {
@@ -142,7 +180,7 @@ impl Words {
         while let Some(word) = words.next() {
             match word.to_str() {
                 Some("--") if !options_end => options_end = true,
-                Some(STANDARD) if topic == Topic::Link => sorted.places.push(word),
+                Some(STANDARD) if topic.takes_standard() => sorted.places.push(word),
                 Some(option) if option.starts_with('-') && !options_end => {
                     sorted.add_option(option, topic, &mut words)?;
                 }
@@ -162,17 +200,17 @@ impl Words {
             Some((name, value)) => (name, Some(value.to_string())),
             None => (option, None),
         };
-        let mut value_of = |name: &str| match value.clone() {
-            Some(value) => Ok(value),
-            None => words
-                .next()
-                .and_then(|word| word.into_string().ok())
-                .ok_or_else(|| Failure::usage(format!("{name} needs a value"))),
+        let mut word_of = |name: &str| {
+            let word = value.clone().map(OsString::from).or_else(|| words.next());
+            word.ok_or_else(|| no_value(name))
         };
         match (topic, name) {
-            (Topic::Run, "--steps") => self.steps = Some(value_of(name)?),
+            (Topic::Run, "--steps") => self.steps = Some(text_of(name, word_of(name)?)?),
             (Topic::Classes, name) if FILTERS.contains(&name) => {
-                self.add_filter(name, &value_of(name)?)?;
+                self.add_filter(name, &text_of(name, word_of(name)?)?)?;
+            }
+            (Topic::Intake, name) if INTAKE.contains(&name) => {
+                self.add_intake(name, word_of(name)?)?;
             }
             (_, _) if value.is_some() => return Err(unknown(option)),
             (_, "--help" | "-h") => self.help = true,
@@ -196,6 +234,21 @@ impl Words {
             "--object" => filter.objects.push(OstFid(fid_of(value)?)),
             "--ost" => filter.osts.push(number(value, "OST index")?),
             _ => filter.owners.push(owner_of(value)?),
+        }
+        Ok(())
+    }
+
+    fn add_intake(&mut self, name: &str, word: OsString) -> Result<(), Failure> {
+        let file = |word: OsString| match word.is_empty() {
+            true => Err(no_value(name)),
+            false => Ok(Some(Source::of_word(word))),
+        };
+        let rows = |word| number(&text_of(name, word)?, "number of rows");
+        match name {
+            "--owners" => self.owners = file(word)?,
+            "--reserve" => self.reserve = file(word)?,
+            "--spare-files" => self.spare_files = rows(word)?,
+            _ => self.spare_objects = rows(word)?,
         }
         Ok(())
     }
@@ -232,12 +285,12 @@ impl Words {
     }
 
     fn call(mut self, topic: Topic) -> Result<Call, Failure> {
-        let takes_fid = matches!(topic, Topic::Show | Topic::Log);
-        self.expect_places(if takes_fid { 2 } else { 1 })?;
+        self.expect_places(topic.most_places())?;
         if self.places.first().is_none_or(|place| place.is_empty()) {
             return Err(Failure::usage("the directory of the case is missing"));
         }
         let directory = self.places.remove(0).into();
+        let json = self.json;
         let command = match topic {
             Topic::Sample => Command::Sample,
             Topic::Check => Command::Check,
@@ -251,12 +304,13 @@ impl Words {
             Topic::Log if self.places.is_empty() => Command::Log(None),
             Topic::Log => Command::Log(Some(self.shown()?)),
             Topic::Undo => Command::Undo,
+            Topic::Intake => Command::Intake(self.intake_options()?),
             Topic::All | Topic::Link => Command::Help(topic),
         };
         Ok(Call {
             command,
             directory,
-            json: self.json,
+            json,
         })
     }
 
@@ -273,12 +327,45 @@ impl Words {
         })
     }
 
+    /// The options of an intake; the places that are left are dumps.
+    fn intake_options(mut self) -> Result<IntakeOptions, Failure> {
+        let missing = || Failure::usage("--owners FILE is missing");
+        let owners = self.owners.ok_or_else(missing)?;
+        if self.places.is_empty() {
+            self.places.push(STANDARD.into());
+        }
+        if self.places.iter().any(|place| place.is_empty()) {
+            return Err(Failure::usage("a dump has no name"));
+        }
+        let options = IntakeOptions {
+            owners,
+            dumps: self.places.into_iter().map(Source::of_word).collect(),
+            reserve: self.reserve,
+            spare_files: self.spare_files,
+            spare_objects: self.spare_objects,
+        };
+        let standard = options.sources().filter(|it| **it == Source::Standard);
+        match standard.count() {
+            0 | 1 => Ok(options),
+            _ => Err(Failure::usage("standard input can be read only once")),
+        }
+    }
+
     /// The FID of what is to be shown.
     fn shown(&self) -> Result<Fid, Failure> {
         let missing = || Failure::usage("the FID is missing");
         let word = self.places.first().ok_or_else(missing)?;
         fid_of(&word.to_string_lossy())
     }
+}
+
+fn no_value(name: &str) -> Failure {
+    Failure::usage(format!("{name} needs a value"))
+}
+
+/// The value of an option, as a text.
+fn text_of(name: &str, word: OsString) -> Result<String, Failure> {
+    word.into_string().map_err(|_| no_value(name))
 }
 
 fn unknown(option: &str) -> Failure {
@@ -388,6 +475,52 @@ mod tests {
         let failure = Call::parse(words).expect_err("no file");
         assert_eq!(failure.status, Status::Usage);
         assert!(failure.message.contains("the file"), "{failure:?}");
+    }
+
+    #[test]
+    fn dumps_are_files_or_standard_input() {
+        let file = |name: &str| Source::File(name.into());
+        let options = |line: &str| match call(line).command {
+            Command::Intake(options) => options,
+            other => panic!("{line}: {other:?}"),
+        };
+        let expected = IntakeOptions {
+            owners: file("o"),
+            dumps: vec![file("a"), Source::Standard, file("b")],
+            reserve: Some(file("r")),
+            spare_files: 2,
+            spare_objects: 3,
+        };
+        for line in [
+            "intake d a - b --owners o --reserve r --spare-files 2 --spare-objects 3",
+            "intake --spare-files=2 --owners=o d --reserve=r a - --spare-objects=3 -- b",
+        ] {
+            assert_eq!(options(line), expected, "{line}");
+        }
+        let least = options("intake d --owners o");
+        assert_eq!(least.dumps, [Source::Standard]);
+        assert_eq!((least.spare_files, least.spare_objects), (0, 0));
+        assert_eq!(options("intake d a --owners -").owners, Source::Standard);
+    }
+
+    #[test]
+    fn an_intake_needs_owners_and_reads_standard_input_once() {
+        for line in [
+            "intake d",
+            "intake d a",
+            "intake --owners o",
+            "intake d a --owners",
+            "intake d --owners -",
+            "intake d - - --owners o",
+            "intake d a - --owners o --reserve -",
+            "intake d a --owners o --spare-files x",
+            "intake d a --owners o --spare-files -1",
+            "intake d a --owners=",
+            "intake d a --owners o --steps 3",
+        ] {
+            let failure = parse(line).expect_err(line);
+            assert_eq!(failure.status, Status::Usage, "{line}");
+        }
     }
 
     #[test]

@@ -64,16 +64,22 @@ impl Case {
         })
     }
 
-    /// Makes a case with these tables, and a linkEA beside them, in a directory that has none of
-    /// the files yet.
-    pub fn make(directory: &Path, tables: &Tables, link: &[u8]) -> Result<(), Failure> {
+    /// A directory has none of the files of a case yet, or is missing.
+    pub fn require_none(directory: &Path) -> Result<(), Failure> {
+        match directory.exists() {
+            true => require_free(&Disk::open(directory)?, &SAVED),
+            false => Ok(()),
+        }
+    }
+
+    /// Makes a case with these tables, and a linkEA beside them if there is one, in a directory
+    /// that has none of the files yet.
+    pub fn make(directory: &Path, tables: &Tables, link: Option<&[u8]>) -> Result<(), Failure> {
         fs::create_dir_all(directory).map_err(|error| trouble(directory, &error))?;
         let case = Case::open_alone(directory)?;
-        let mut names = SAVED.iter().chain([&SAMPLE_LINK]);
-        if let Some(name) = names.find(|name| case.disk.has(name)) {
-            let path = case.disk.path(name);
-            let message = format!("{}: this is already there", path.display());
-            return Err(Failure::files(message));
+        require_free(&case.disk, &SAVED)?;
+        if link.is_some() {
+            require_free(&case.disk, &[SAMPLE_LINK])?;
         }
         let change = |name: &str, bytes: &[u8]| Change {
             name: name.to_string(),
@@ -81,8 +87,8 @@ impl Case {
             edit: Edit::Put(bytes.to_vec()),
         };
         let tables = Table::ALL.map(|table| change(table.file(), tables.of(table)));
-        let link = change(SAMPLE_LINK, link);
-        let changes: Vec<Change> = tables.into_iter().chain([link]).collect();
+        let link = link.map(|link| change(SAMPLE_LINK, link));
+        let changes: Vec<Change> = tables.into_iter().chain(link).collect();
         save::save(&case.disk, &changes, Access::Own)
     }
 
@@ -257,6 +263,18 @@ impl Case {
     }
 }
 
+/// None of these files is there.
+fn require_free(disk: &Disk, names: &[&str]) -> Result<(), Failure> {
+    match names.iter().find(|name| disk.has(name)) {
+        None => Ok(()),
+        Some(name) => {
+            let path = disk.path(name);
+            let message = format!("{}: this is already there", path.display());
+            Err(Failure::files(message))
+        }
+    }
+}
+
 /// Completes a save that was cut off after its journal was in place, and says so. A journal is
 /// in place only when the disk has all of it; one that is not whole was spoilt by somebody else.
 fn recover(disk: &Disk) -> Result<(), Failure> {
@@ -296,7 +314,7 @@ mod tests {
             objects: vec![0; 46],
             reserve: vec![1; 16],
         };
-        Case::make(&directory, &tables, b"").expect("a new case");
+        Case::make(&directory, &tables, None).expect("a new case");
         let case = Case::open_alone(&directory).expect("the case");
         (case, tables, directory)
     }

@@ -2,6 +2,7 @@
 
 mod check;
 mod classes;
+mod intake;
 mod link;
 mod log;
 mod run;
@@ -23,6 +24,7 @@ pub fn execute(call: &Call) -> Result<Outcome, Failure> {
     let bar = match call.command {
         // Its input may be typed, and a bar would stand in between.
         Command::Link(_) => Bar::none(),
+        Command::Intake(ref options) if options.are_typed() => Bar::none(),
         _ => Bar::start(Work::Unmeasured("reading the tables")),
     };
     match &call.command {
@@ -37,6 +39,7 @@ pub fn execute(call: &Call) -> Result<Outcome, Failure> {
         Command::Log(Some(fid)) => log::story(directory, *fid, json),
         Command::Undo => undo::undo(directory, json),
         Command::Link(source) => link::link(source, json),
+        Command::Intake(options) => intake::intake(directory, options, json, &bar),
     }
 }
 

@@ -23,6 +23,8 @@ pub enum Topic {
     Undo,
     /// `link`.
     Link,
+    /// `intake`.
+    Intake,
 }
 
 impl Topic {
@@ -38,6 +40,7 @@ impl Topic {
             "log" => Topic::Log,
             "undo" => Topic::Undo,
             "link" => Topic::Link,
+            "intake" => Topic::Intake,
             _ => return None,
         })
     }
@@ -54,6 +57,21 @@ impl Topic {
             Topic::Log => LOG,
             Topic::Undo => UNDO,
             Topic::Link => LINK,
+            Topic::Intake => INTAKE,
+        }
+    }
+
+    /// Whether `-` stands for standard input.
+    pub fn takes_standard(self) -> bool {
+        matches!(self, Topic::Link | Topic::Intake)
+    }
+
+    /// The most words that are no options, the case among them.
+    pub fn most_places(self) -> usize {
+        match self {
+            Topic::Show | Topic::Log => 2,
+            Topic::Intake => usize::MAX,
+            _ => 1,
         }
     }
 }
@@ -66,6 +84,8 @@ Checks and repairs the striping layouts of a site from table files. DIR is the
 case: the directory with parents.tbl, objects.tbl and reserve.tbl.
 
   sample DIR     make a small case with every kind of fault
+  intake DIR --owners FILE [DUMP..]
+                 make a case from what getfattr printed
   check DIR      say whether the tables are sound, and list every row at fault
   classes DIR    list what is wrong with which file, and what a repair would do
   run DIR        repair, going on from where the last run stopped
@@ -212,4 +232,39 @@ is a text, else null, and all are in hexadecimal digits too.
 
 Exit status: 2 where FILE is too long, or no linkEA (31); then the line says
 which rule is broken, and at which place.
+";
+
+const INTAKE: &str = "\
+Usage: lfsck-offline intake DIR --owners FILE [DUMP..] [--spare-files N]
+                            [--spare-objects N] [--reserve FILE] [--json]
+
+Makes a case in DIR, which is made where it is missing, from dumps: what
+    getfattr -d -m '^trusted\\.' -e hex PATH..
+prints on an MDT and on OSTs. An entry with trusted.lov becomes a file, one with
+trusted.fid an object; trusted.lma has the own FID of both. Other attributes
+beginning with trusted. are skipped. Without DUMP, or with - for one, standard
+input is read.
+
+  --owners FILE      a line for each entry of the dumps, in their order: uid,
+                     gid and OST index in decimal numbers, with one space
+                     between; the index of a file must be there and isn't used
+  --spare-files N    add N unused rows to the files, for those that runs make
+  --spare-objects N  add N unused rows to the objects, for those that runs make
+  --reserve FILE     the FIDs for new objects, one in a line; empty lines and
+                     lines that begin with # are skipped
+
+A fault is told with file, line and reason, and the line is shown; then no case
+is made. Files of a case that are already there are not overwritten.
+
+  33  bad line, digits, length or owners, or the dump ends within an entry
+  34  trusted.lov, trusted.fid or trusted.lma twice in an entry
+  35  no trusted.lma
+  36  neither trusted.lov nor trusted.fid, or both
+  37  layout too long, or too many files or objects
+
+The case is then checked as check does it. What is refused is listed row by row,
+with the name in the dump; the case stays.
+
+Exit status: 0 the tables are sound, 2 a dump is refused or the tables are not
+sound.
 ";

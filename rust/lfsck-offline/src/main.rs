@@ -1,5 +1,5 @@
-//! The command `lfsck-offline`: checks, classes and repairs the tables of a site, and prints
-//! linkEAs.
+//! The command `lfsck-offline`: checks, classes and repairs the tables of a site, makes them from
+//! attribute dumps, and prints linkEAs.
 //!
 //! Everything that decides or changes is the verified library's. This tool reads and writes
 //! files and prints.
@@ -17,6 +17,8 @@ mod columns;
 mod commands;
 mod digest;
 mod disk;
+mod dump;
+mod dump_fault;
 mod faults;
 mod fid;
 mod filter;
@@ -26,6 +28,7 @@ mod help;
 mod hex;
 mod history;
 mod hook;
+mod intake;
 mod journal;
 mod json;
 mod link;
@@ -40,6 +43,7 @@ mod plain;
 mod position;
 mod quoted;
 mod reader;
+mod reserve;
 mod rows;
 mod save;
 mod saved;

@@ -33,18 +33,48 @@ impl Source {
 
     /// All bytes, but one more than `most` where there are more.
     pub fn read(&self, most: usize) -> Result<Vec<u8>, Failure> {
+        let bytes = self.open().and_then(|input| up_to(input, most));
+        bytes.map_err(|error| self.trouble(&error))
+    }
+
+    /// All bytes; more than `most` are refused.
+    pub fn read_all(&self, most: usize) -> Result<Vec<u8>, Failure> {
+        let bytes = self.read(most)?;
+        match bytes.len() > most {
+            true => Err(Failure::refused(format!(
+                "{self}: this is longer than {most} bytes"
+            ))),
+            false => Ok(bytes),
+        }
+    }
+
+    /// Opens it to be read piece by piece.
+    pub fn open(&self) -> io::Result<Box<dyn Read>> {
+        Ok(match self {
+            Source::Standard => Box::new(io::stdin().lock()),
+            Source::File(path) => Box::new(File::open(path)?),
+        })
+    }
+
+    /// The bytes of a plain file.
+    pub fn length(&self) -> Option<u64> {
         match self {
-            Source::Standard => up_to(io::stdin().lock(), most)
-                .map_err(|error| Failure::files(format!("{self}: {error}"))),
+            Source::Standard => None,
             Source::File(path) => {
-                let bytes = File::open(path).and_then(|file| up_to(file, most));
-                bytes.map_err(|error| match error.kind() {
-                    io::ErrorKind::IsADirectory => {
-                        trouble(path, &io::Error::other("this is a directory"))
-                    }
-                    _ => trouble(path, &error),
-                })
+                let metadata = std::fs::metadata(path).ok()?;
+                metadata.is_file().then_some(metadata.len())
             }
+        }
+    }
+
+    /// The line for an error.
+    pub fn trouble(&self, error: &io::Error) -> Failure {
+        match self {
+            Source::Standard => Failure::files(format!("{self}: {error}")),
+            Source::File(path) if error.kind() == io::ErrorKind::IsADirectory => {
+                trouble(path, &io::Error::other("this is a directory"))
+            }
+            Source::File(path) => trouble(path, error),
         }
     }
 }

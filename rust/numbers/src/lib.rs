@@ -4,6 +4,7 @@
 pub mod answer;
 pub mod call;
 pub mod fid;
+pub mod intake;
 pub mod layout;
 pub mod link;
 pub mod object;

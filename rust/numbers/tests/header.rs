@@ -1,6 +1,6 @@
 //! The numbers are those of the C header.
 
-use numbers::{answer, call, layout, link, object, parent, reserve};
+use numbers::{answer, call, intake, layout, link, object, parent, reserve};
 
 const HEADER: &str = include_str!("../../../include/lfsck_layout.h");
 
@@ -40,6 +40,8 @@ fn sizes_and_limits() {
         ("LFSCK_LINK_HEADER", link::HEADER),
         ("LFSCK_RECORD_BEFORE", link::NAME_AT),
         ("LFSCK_NAME_BYTES", link::MOST_NAME),
+        ("LFSCK_INTAKE_STATE", intake::STATE),
+        ("LFSCK_PIECE_MAX", intake::MOST_PIECE),
     ] {
         assert_eq!(number as u64, number_of(name), "{name}");
     }
@@ -90,6 +92,11 @@ fn answers() {
         ("LFSCK_NO_OBJECT_ROW", answer::NO_OBJECT_ROW),
         ("LFSCK_NO_PARENT_ROW", answer::NO_PARENT_ROW),
         ("LFSCK_BAD_LINK", answer::BAD_LINK),
+        ("LFSCK_BAD_DUMP", answer::BAD_DUMP),
+        ("LFSCK_ATTR_TWICE", answer::ATTRIBUTE_TWICE),
+        ("LFSCK_NO_SELF", answer::NO_SELF),
+        ("LFSCK_NO_KIND", answer::NO_KIND),
+        ("LFSCK_NO_FIT", answer::NO_FIT),
     ] {
         assert_eq!(u64::from(number), number_of(name), "{name}");
     }

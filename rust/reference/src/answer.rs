@@ -26,3 +26,13 @@ pub const NO_OBJECT_ROW: u32 = 22;
 pub const NO_PARENT_ROW: u32 = 23;
 /// A linkEA, or a record of one, is against the rules.
 pub const BAD_LINK: u32 = 31;
+/// Of a dump: a bad line, hex or length, a bad owners line or none, or an unclosed last entry.
+pub const BAD_DUMP: u32 = 33;
+/// One of the three attributes stands twice in an entry.
+pub const ATTRIBUTE_TWICE: u32 = 34;
+/// An entry has no self FID.
+pub const NO_SELF: u32 = 35;
+/// An entry is neither a parent nor an object, or both.
+pub const NO_KIND: u32 = 36;
+/// An entry's row does not fit.
+pub const NO_FIT: u32 = 37;

@@ -8,6 +8,7 @@ pub mod answer;
 pub mod check;
 pub mod class;
 pub mod fid;
+pub mod intake;
 pub mod interface;
 pub mod layout;
 pub mod link;

@@ -18,11 +18,7 @@ const FID_WIDTH: usize = 24;
 
 /// Prints a linkEA.
 pub fn link(source: &Source, json: bool) -> Result<Outcome, Failure> {
-    let input = source.read(MOST_BYTES)?;
-    if input.len() > MOST_BYTES {
-        let message = format!("{source}: this is longer than {MOST_BYTES} bytes");
-        return Err(Failure::refused(message));
-    }
+    let input = source.read_all(MOST_BYTES)?;
     let (bytes, form) = pasted::bytes_of(input);
     let bar = Bar::start(Work::Unmeasured("reading the linkEA"));
     let link = Link::read(&bytes, &bar);

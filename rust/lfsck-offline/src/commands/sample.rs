@@ -19,7 +19,7 @@ const ROOT: [u32; 2] = [0, 0];
 /// Makes the case.
 pub fn sample(directory: &Path, json: bool) -> Result<Outcome, Failure> {
     let tables = tables();
-    Case::make(directory, &tables, dump().as_bytes())?;
+    Case::make(directory, &tables, Some(dump().as_bytes()))?;
     let rows = |table| tables.rows(table).count();
     let (parents, objects, reserve) = (
         rows(Table::Parents),

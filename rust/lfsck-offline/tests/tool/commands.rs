@@ -463,6 +463,7 @@ fn there_is_help_for_every_command() {
     }
     for (command, place) in [
         ("sample", "DIR"),
+        ("intake", "DIR"),
         ("check", "DIR"),
         ("classes", "DIR"),
         ("run", "DIR"),
@@ -490,7 +491,7 @@ fn the_man_page_has_what_the_help_has() {
     };
     let mut help = String::new();
     for command in [
-        "sample", "check", "classes", "run", "show", "log", "undo", "link",
+        "sample", "intake", "check", "classes", "run", "show", "log", "undo", "link",
     ] {
         let mut tool = std::process::Command::new(TOOL);
         let told: Told = tool.args([command, "--help"]).output().unwrap().into();

@@ -8,6 +8,7 @@ mod commands;
 mod earlier;
 mod foresee;
 mod histories;
+mod intake;
 mod json;
 mod limits;
 mod link;

@@ -1,6 +1,6 @@
 //! Long work on a terminal, by the program `script`: a bar, soon and at little cost.
 
-use std::io::Read;
+use std::io::{Read, Seek, SeekFrom, Write};
 use std::process::{Command, Stdio};
 use std::time::{Duration, Instant};
 
@@ -91,6 +91,46 @@ fn the_bar_is_there_within_a_second() {
         assert!(soon, "{words:?}: {seen:?}");
         assert_eq!(seen.printed(), told.out);
     }
+}
+
+/// A dump that comes slowly shows the bar while it is read, and then prints what it prints in a pipe.
+#[test]
+fn a_slow_dump_has_a_bar() {
+    let site = concat!(env!("CARGO_MANIFEST_DIR"), "/../../tests/data/site");
+    let case = Case::empty("bar-dump");
+    let words = tool(&format!("intake made --owners '{site}/owners.txt'"));
+    let seen = on_terminal(
+        &case,
+        &format!("(cat '{site}/dump.txt'; sleep 1) | {words}"),
+    );
+    assert!(seen.text.contains("] reading the dumps, "), "{seen:?}");
+    assert!(
+        seen.printed()
+            .starts_with("A case is in made: 4 files and 5 objects from 1 dump.\n"),
+        "{seen:?}"
+    );
+}
+
+/// Of a long file the bar tells how much is read. It is one line that is skipped, nearly all of it a
+/// hole on the disk.
+#[test]
+fn a_long_dump_shows_how_much_is_read() {
+    let case = Case::empty("bar-long-dump");
+    let lines = "# file: a\ntrusted.lov=0x\n\
+                 trusted.lma=0x000000000000000001040000020000000100000000000000\ntrusted.x=";
+    case.write("dump", lines.as_bytes());
+    case.write("owners", b"1 2 3");
+    let total = 1 << 29;
+    let path = case.path().join("dump");
+    let mut file = std::fs::File::options().write(true).open(path).unwrap();
+    file.seek(SeekFrom::Start(total - 2)).unwrap();
+    file.write_all(b"\n\n").unwrap();
+    let words = tool("intake made dump --owners owners || true");
+    let seen = on_terminal(&case, &words);
+    println!("{:?}, the bar after {:?}", seen.took, seen.picture);
+    let share = format!(" of {total} bytes, ");
+    assert!(seen.text.contains(&share) || seen.took < SECOND, "{seen:?}");
+    assert!(seen.printed().starts_with("A case is in made: 1 file and"));
 }
 
 #[test]

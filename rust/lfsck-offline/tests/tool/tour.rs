@@ -94,6 +94,8 @@ fn expect_true(file: &str, case: &Case) {
 #[test]
 fn the_tour_is_true() {
     let case = Case::empty("tour");
+    let site = Path::new(REPOSITORY).join("tests/data/site");
+    std::os::unix::fs::symlink(site, case.path().join("site")).expect("a link");
     expect_true(TOUR, &case);
     assert!(shown(TOUR).len() >= 12);
 }

@@ -1,0 +1,95 @@
+//! The plain reader of dumps and the reference on the same dumps, at the same cuts.
+
+use bench::dump::Dump as Long;
+use bench::plain::{IntakeState, intake_end, intake_feed};
+use difftest::Random;
+use difftest::dumps::{Dump, Flaw};
+use reference::interface::{Feeding, STATE_BYTES};
+
+const DUMPS: usize = 60_000;
+
+#[test]
+fn plain_rust_takes_in_what_the_reference_does() {
+    let mut random = Random::for_test("plain intake");
+    for _ in 0..DUMPS {
+        let flaws = [random.pick(&Flaw::ALL), random.pick(&Flaw::ALL)];
+        let count = random.below(3);
+        let dump = Dump::with(&flaws[..count], &mut random);
+        let sizes = if random.one_in(20) {
+            &[1][..]
+        } else {
+            &[65_536, 40, 300]
+        };
+        for &size in sizes {
+            compare(&dump, size);
+        }
+    }
+}
+
+/// A dump in pieces of so many bytes.
+fn compare(dump: &Dump, size: usize) {
+    let (mut ours, mut theirs) = (
+        (dump.parents.clone(), dump.objects.clone()),
+        (dump.parents.clone(), dump.objects.clone()),
+    );
+    let mut feeding = Feeding::of(&dump.text, &dump.owners);
+    let mut state = IntakeState::new();
+    for piece in dump.text.chunks(size) {
+        let (mut our_line, mut their_line) = (7, [7]);
+        let answer = intake_feed(
+            &mut state,
+            piece,
+            &dump.owners,
+            &mut ours.0,
+            &mut ours.1,
+            &mut our_line,
+        );
+        let expected = feeding.feed(
+            STATE_BYTES,
+            piece.len(),
+            dump.owners.len(),
+            &mut theirs.0,
+            &mut theirs.1,
+            &mut their_line,
+        );
+        assert_eq!((answer, our_line), (expected, their_line[0]), "{dump:?}");
+        assert!(ours == theirs, "tables of {dump:?}");
+    }
+    let (mut our_line, mut their_line) = (7, [7]);
+    let answer = intake_end(&state, &mut our_line);
+    let expected = feeding.end(STATE_BYTES, &mut their_line);
+    assert_eq!((answer, our_line), (expected, their_line[0]), "{dump:?}");
+}
+
+/// The dump that is made as it goes is good, has the bytes and entries that it says, and fills the
+/// rows that the reference says.
+#[test]
+fn a_long_dump_is_made_as_it_goes() {
+    let mut long = Long::of(100_000);
+    let [files, objects] = long.entries();
+    let tables = || (vec![0; 3915 * files], vec![0; 46 * objects]);
+    let (mut whole, mut piece) = (Vec::new(), vec![0; 1000]);
+    loop {
+        match long.next(&mut piece) {
+            0 => break,
+            length => whole.extend(&piece[..length]),
+        }
+    }
+    assert_eq!(whole.len(), long.bytes());
+    let (mut ours, mut theirs) = (tables(), tables());
+    let owners = long.owners();
+    let read = reference::intake::read(&whole, &owners, &mut ours.0, &mut ours.1);
+    assert_eq!(read, Ok(()));
+    let used = |table: &[u8], size: usize| table.chunks(size).all(|row| row[0] == 1);
+    assert!(used(&ours.0, 3915) && used(&ours.1, 46));
+    let mut state = IntakeState::new();
+    for piece in whole.chunks(65_536) {
+        let (files, objects) = (&mut theirs.0, &mut theirs.1);
+        assert_eq!(
+            intake_feed(&mut state, piece, &owners, files, objects, &mut 0),
+            0
+        );
+    }
+    assert_eq!(intake_end(&state, &mut 0), 0);
+    assert!(ours == theirs);
+}

@@ -1,0 +1,154 @@
+//! Intake: the library and the reference on the same dumps, cut in the same and in other ways.
+//! Every buffer that is lent is compared after each call.
+
+mod cut;
+mod seen;
+mod side;
+
+use std::time::{Duration, Instant};
+
+use cut::Cut;
+use difftest::Random;
+use difftest::dumps::{Dump, Flaw};
+use seen::Seen;
+use side::Both;
+
+/// So many dumps are compared.
+const DUMPS: usize = 100_000;
+/// Their comparison takes less than this.
+const LONGEST_TIME: Duration = Duration::from_secs(60);
+
+#[test]
+fn dumps_are_taken_in_alike() {
+    let started = Instant::now();
+    let mut random = Random::for_test("intake");
+    let mut seen = Seen::nothing();
+    for _ in 0..DUMPS {
+        let dump = random_dump(&mut random);
+        compare_whole(&dump, &mut seen, &mut random);
+        for cut in [Cut::Few, Cut::Disturbed] {
+            compare(&dump, cut, &mut seen, &mut random);
+        }
+        if random.one_in(40) && dump.text.len() < 1000 {
+            compare(&dump, Cut::SingleBytes, &mut seen, &mut random);
+        }
+        if random.one_in(100) && dump.text.len() < 400 {
+            compare_at_every_cut(&dump, &mut seen, &mut random);
+        }
+    }
+    let took = started.elapsed();
+    println!("{DUMPS} dumps in {:.1} s", took.as_secs_f64());
+    assert!(took < LONGEST_TIME, "{took:?}");
+    seen.require();
+}
+
+/// A good dump, one with a flaw, or one with two.
+fn random_dump(random: &mut Random) -> Dump {
+    match random.below(4) {
+        0 => Dump::good(random),
+        1 => Dump::with(&[random.pick(&Flaw::ALL)], random),
+        _ => {
+            let flaws = [random.pick(&Flaw::ALL), random.pick(&Flaw::ALL)];
+            Dump::with(&flaws, random)
+        }
+    }
+}
+
+/// The whole dump in one piece, then its end.
+fn compare_whole(dump: &Dump, seen: &mut Seen, random: &mut Random) {
+    let mut both = Both::begin(dump);
+    seen.cuts.met(Cut::Whole);
+    seen.feeds.met(both.feed(dump.text.len(), random));
+    let answer = both.end(random);
+    seen.ends.met(answer);
+    seen.note(dump, answer, both.has_filled());
+}
+
+/// A dump cut in some way; tables and answers must be those of the whole.
+fn compare(dump: &Dump, cut: Cut, seen: &mut Seen, random: &mut Random) {
+    let mut both = Both::begin(dump);
+    seen.cuts.met(cut);
+    for piece in cut.pieces(dump.text.len(), random) {
+        if cut == Cut::Disturbed {
+            both.disturb(seen, random);
+        }
+        both.feed(piece, random);
+    }
+    both.end(random);
+    both.require_whole();
+}
+
+/// A dump in two pieces, cut at every place.
+fn compare_at_every_cut(dump: &Dump, seen: &mut Seen, random: &mut Random) {
+    seen.cuts.met(Cut::EveryPlace);
+    for at in 0..=dump.text.len() {
+        let mut both = Both::begin(dump);
+        both.feed(at, random);
+        both.feed(dump.text.len() - at, random);
+        both.end(random);
+        both.require_whole();
+    }
+}
+
+/// Dumps that are longer than a piece may be.
+#[test]
+fn long_dumps_are_taken_in_alike() {
+    let mut random = Random::for_test("long dumps");
+    let mut seen = Seen::nothing();
+    for _ in 0..40 {
+        let dump = Dump::long(600, &mut random);
+        assert!(dump.text.len() > 65_536);
+        for cut in [Cut::Whole, Cut::Few, Cut::Disturbed] {
+            compare(&dump, cut, &mut seen, &mut random);
+        }
+    }
+}
+
+/// A piece of 65,536 bytes is taken, and one more is 11.
+#[test]
+fn the_longest_piece() {
+    let mut random = Random::for_test("longest piece");
+    for flaws in [&[][..], &[Flaw::Unfinished]] {
+        let mut dump = Dump::with(flaws, &mut random);
+        dump.text = [b"# file:", &[b'n'; 70_000][..]].concat();
+        let mut both = Both::begin(&dump);
+        assert_eq!(both.feed(65_537, &mut random), 11);
+        assert_eq!(both.feed(65_536, &mut random), 0);
+        assert_eq!(both.feed(4000, &mut random), 0);
+        assert_eq!(both.end(&mut random), 33);
+    }
+}
+
+/// States that no reading has are refused with 16, or read on in some way that ends.
+#[test]
+fn states_of_any_bytes_do_no_harm() {
+    let mut random = Random::for_test("any states");
+    let mut answers = difftest::Coverage::of("answers on any state", [0, 16, 33, 34, 35, 36, 37]);
+    for _ in 0..20_000 {
+        let dump = random_dump(&mut random);
+        let mut both = Both::begin(&dump);
+        let bytes = random.below(dump.text.len() + 1);
+        both.feed(bytes, &mut random);
+        let mut state = both.state().to_vec();
+        for _ in 0..1 + random.below(3) {
+            let at = random.below(state.len());
+            state[at] = random.any() as u8;
+        }
+        let (mut parents, mut objects) = (dump.parents.clone(), dump.objects.clone());
+        let rest = &dump.text[bytes..];
+        let mut out = [7];
+        // Whatever the state says, it is one of these.
+        answers.met(lfsck_sys::intake_feed(
+            &mut state,
+            rest,
+            &dump.owners,
+            &mut parents,
+            &mut objects,
+            &mut out,
+        ));
+        let end = lfsck_sys::intake_end(&state, &mut out);
+        assert!(matches!(end, 0 | 16 | 33..=37), "{end}");
+    }
+    println!("{answers:?}");
+    assert_eq!(answers.total(), 20_000);
+}

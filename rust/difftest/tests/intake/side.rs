@@ -1,0 +1,223 @@
+//! One dump on both sides.
+
+use std::hint::black_box;
+
+use difftest::Random;
+use difftest::dumps::Dump;
+use reference::intake;
+use reference::interface::{Feeding, STATE_BYTES};
+
+use crate::seen::{Refused, Seen};
+
+/// The library and the reference, each with tables of its own.
+pub struct Both<'dump> {
+    dump: &'dump Dump,
+    feeding: Feeding,
+    ours: Tables,
+    theirs: Tables,
+    state: Vec<u8>,
+}
+
+#[derive(Clone, Debug, PartialEq)]
+struct Tables {
+    parents: Vec<u8>,
+    objects: Vec<u8>,
+}
+
+/// What is lent beside the tables, so that a call can be made to be refused.
+struct Lent<'lent> {
+    state: &'lent mut [u8],
+    piece: &'lent [u8],
+    owners: &'lent [u8],
+    out: &'lent mut [u64],
+}
+
+impl<'dump> Both<'dump> {
+    /// Nothing was fed yet.
+    pub fn begin(dump: &'dump Dump) -> Both<'dump> {
+        let tables = Tables {
+            parents: dump.parents.clone(),
+            objects: dump.objects.clone(),
+        };
+        Both {
+            dump,
+            feeding: Feeding::of(&dump.text, &dump.owners),
+            ours: tables.clone(),
+            theirs: tables,
+            state: vec![0; STATE_BYTES],
+        }
+    }
+
+    /// Whether a row was filled.
+    pub fn has_filled(&self) -> bool {
+        self.theirs.parents != self.dump.parents || self.theirs.objects != self.dump.objects
+    }
+
+    /// The library's state.
+    pub fn state(&self) -> &[u8] {
+        &self.state
+    }
+
+    /// Feeds the next so many bytes.
+    pub fn feed(&mut self, bytes: usize, random: &mut Random) -> u32 {
+        let piece = self.dump.text[self.feeding.fed()..][..bytes].to_vec();
+        // After a fault, and with a piece that is too long, nothing is to change.
+        let quiet = self.feeding.stopped().is_some() || bytes > 65_536;
+        let before = quiet.then(|| (self.state.clone(), self.theirs.clone()));
+        let answer = self.call(self.dump.owners.len(), &piece, &room(random));
+        if let Some((state, tables)) = before {
+            let unchanged = state == self.state && tables == self.theirs;
+            assert!(unchanged, "{answer} and changed: {:?}", self.dump);
+        }
+        answer
+    }
+
+    /// A call on both sides, with as many bytes of the owners file.
+    fn call(&mut self, owners: usize, piece: &[u8], out: &[u64]) -> u32 {
+        let (mut our_out, mut their_out) = (out.to_vec(), out.to_vec());
+        let owners_lent = self.dump.owners[..owners].to_vec();
+        let lent = Lent {
+            state: &mut self.state,
+            piece: black_box(piece),
+            owners: black_box(&owners_lent),
+            out: &mut their_out,
+        };
+        let answer = library(lent, &mut self.theirs);
+        let expected = self.feeding.feed(
+            self.state.len(),
+            piece.len(),
+            owners,
+            &mut self.ours.parents,
+            &mut self.ours.objects,
+            &mut our_out,
+        );
+        assert_eq!(
+            (answer, &their_out),
+            (expected, &our_out),
+            "{:?}",
+            self.dump
+        );
+        assert!(self.theirs == self.ours, "tables of {:?}", self.dump);
+        assert!(black_box(&owners_lent) == &self.dump.owners[..owners]);
+        answer
+    }
+
+    /// Asks both for the end.
+    pub fn end(&self, random: &mut Random) -> u32 {
+        let out = room(random);
+        let (mut our_out, mut their_out) = (out.clone(), out);
+        let state = self.state.clone();
+        let answer = lfsck_sys::intake_end(black_box(&state), &mut their_out);
+        let expected = self.feeding.end(state.len(), &mut our_out);
+        assert_eq!(
+            (answer, &their_out),
+            (expected, &our_out),
+            "{:?}",
+            self.dump
+        );
+        assert!(
+            black_box(&state) == &self.state,
+            "the end changed the state"
+        );
+        answer
+    }
+
+    /// Calls that are refused and change nothing, or one for the end.
+    pub fn disturb(&mut self, seen: &mut Seen, random: &mut Random) {
+        let refused = random.pick(&Refused::ALL);
+        let before = (self.state.clone(), self.theirs.clone(), self.feeding.fed());
+        match refused {
+            Refused::Piece => expect_answer(
+                self.call(self.dump.owners.len(), &vec![b'\n'; 65_537], &[1]),
+                11,
+            ),
+            Refused::Table => self.refuse_table(random),
+            Refused::State => self.refuse_state(random),
+            Refused::Owners => {
+                let stopped = self.feeding.stopped().is_some();
+                let taken = self.feeding.taken();
+                if taken == 0 || stopped {
+                    return;
+                }
+                expect_answer(self.call(random.below(taken), b"", &[1]), 16);
+            }
+            Refused::Out => expect_answer(self.call(self.dump.owners.len(), b"", &[]), 17),
+            Refused::End => {
+                self.end(random);
+            }
+        }
+        seen.refused.met(refused);
+        let after = (self.state.clone(), self.theirs.clone(), self.feeding.fed());
+        assert!(
+            before == after,
+            "{refused:?} changed something: {:?}",
+            self.dump
+        );
+    }
+
+    /// A table that is 11: not whole rows, or a mark above 1.
+    fn refuse_table(&mut self, random: &mut Random) {
+        let sound = self.theirs.clone();
+        let table = match random.one_in(2) {
+            true => &mut self.theirs.parents,
+            false => &mut self.theirs.objects,
+        };
+        match table.first_mut() {
+            Some(mark) if random.one_in(2) => *mark = random.pick(&[2, 128, 255]),
+            _ => table.push(0),
+        }
+        self.ours = self.theirs.clone();
+        let answer = self.call(self.dump.owners.len(), b"", &[]);
+        expect_answer(answer, 11);
+        (self.ours, self.theirs) = (sound.clone(), sound);
+    }
+
+    /// A state of another length.
+    fn refuse_state(&mut self, random: &mut Random) {
+        let state = self.state.clone();
+        let other = random.pick(&[0, 1, STATE_BYTES - 1, STATE_BYTES + 1, 2 * STATE_BYTES]);
+        self.state.resize(other, 0);
+        let answer = self.call(self.dump.owners.len(), b"", &[]);
+        expect_answer(answer, 16);
+        self.end(random);
+        self.state = state;
+    }
+
+    /// The tables after the whole dump are those of the definition on it.
+    pub fn require_whole(&self) {
+        let (mut parents, mut objects) = (self.dump.parents.clone(), self.dump.objects.clone());
+        let fault = intake::read(
+            &self.dump.text,
+            &self.dump.owners,
+            &mut parents,
+            &mut objects,
+        );
+        let whole = Tables { parents, objects };
+        assert!(whole == self.theirs, "tables of {:?}", self.dump);
+        let (answer, line) = fault.map_or_else(|fault| (fault.answer, fault.line), |()| (0, 7));
+        let mut out = [7];
+        assert_eq!(lfsck_sys::intake_end(&self.state, &mut out), answer);
+        assert_eq!(out, [line], "{:?}", self.dump);
+    }
+}
+
+fn library(lent: Lent, tables: &mut Tables) -> u32 {
+    lfsck_sys::intake_feed(
+        lent.state,
+        lent.piece,
+        lent.owners,
+        &mut tables.parents,
+        &mut tables.objects,
+        lent.out,
+    )
+}
+
+fn expect_answer(answer: u32, expected: u32) {
+    assert_eq!(answer, expected);
+}
+
+/// One place or more; what stands in them is any.
+fn room(random: &mut Random) -> Vec<u64> {
+    let count = random.pick(&[1, 1, 1, 1, 2, 3]);
+    random.numbers(count)
+}

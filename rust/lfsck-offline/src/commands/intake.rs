@@ -1,0 +1,346 @@
+//! `intake`: a case made from attribute dumps.
+
+use std::io::Read;
+use std::path::Path;
+
+use numbers::intake::MOST_PIECE;
+
+use crate::answers::{CHECKING, fault_line, meaning};
+use crate::args::IntakeOptions;
+use crate::bar::{Bar, Work};
+use crate::case::Case;
+use crate::dump::{Dumps, Origin};
+use crate::dump_fault::{Refused, shown};
+use crate::faults::{Fault, faults};
+use crate::hex;
+use crate::intake::{Intake, Stop};
+use crate::json::Json;
+use crate::outcome::{Failure, Outcome, Status};
+use crate::reserve::Reserve;
+use crate::source::Source;
+use crate::tables::{Table, Tables};
+
+/// The most bytes of an owners file: many times as long as one for full tables.
+const MOST_OWNERS: usize = 64 << 20;
+
+/// What was taken in.
+struct Taken {
+    tables: Tables,
+    dumps: Dumps,
+    reserve: Reserve,
+    /// The used rows of files and of objects.
+    rows: [usize; 2],
+}
+
+/// Makes a case.
+pub fn intake(
+    directory: &Path,
+    options: &IntakeOptions,
+    json: bool,
+    bar: &Bar,
+) -> Result<Outcome, Failure> {
+    Case::require_none(directory)?;
+    let taken = take(options, bar)?;
+    Case::make(directory, &taken.tables, None)?;
+    bar.turn_to(CHECKING);
+    let number = taken.tables.check();
+    let list = faults(&taken.tables);
+    let text = match json {
+        true => taken.machine(directory, options, number, &list),
+        false => taken.text(directory, options, number, &list),
+    };
+    let status = match number {
+        0 => Status::Done,
+        _ => Status::Refused,
+    };
+    Ok(Outcome {
+        lasting: Some("the case was made"),
+        ..Outcome::ended(text, status)
+    })
+}
+
+/// Reads all that is named, and adds the spare rows.
+fn take(options: &IntakeOptions, bar: &Bar) -> Result<Taken, Failure> {
+    bar.turn_to(Work::Unmeasured("reading the owners"));
+    let owners = options.owners.read_all(MOST_OWNERS)?;
+    let reserve = options.reserve.as_ref().map(Reserve::read).transpose()?;
+    let reserve = reserve.unwrap_or_default();
+    let mut reader = Reader {
+        intake: Intake::new(),
+        dumps: Dumps::default(),
+        owners: &owners,
+        bar,
+        read: 0,
+    };
+    bar.turn_to(work(&options.dumps));
+    for source in &options.dumps {
+        reader.read(source)?;
+    }
+    let Reader { intake, dumps, .. } = reader;
+    let rows = [Table::Parents, Table::Objects].map(|table| intake.rows(table));
+    let (mut parents, mut objects) = intake.into_tables();
+    add_spare(Table::Parents, &mut parents, options.spare_files)?;
+    add_spare(Table::Objects, &mut objects, options.spare_objects)?;
+    Ok(Taken {
+        tables: Tables {
+            parents,
+            objects,
+            reserve: reserve.bytes.clone(),
+        },
+        dumps,
+        reserve,
+        rows,
+    })
+}
+
+/// What the bar shows: how much of the dumps is read, where that can be told.
+fn work(dumps: &[Source]) -> Work {
+    let lengths: Option<Vec<u64>> = dumps.iter().map(Source::length).collect();
+    match lengths {
+        Some(lengths) => Work::Counted("bytes", lengths.iter().sum()),
+        None => Work::Unmeasured("reading the dumps"),
+    }
+}
+
+/// Adds unused rows to a table.
+fn add_spare(table: Table, bytes: &mut Vec<u8>, spare: usize) -> Result<(), Failure> {
+    let (size, most) = (table.row_bytes(), table.most_rows());
+    let used = bytes.len() / size;
+    let rows = used.checked_add(spare).filter(|rows| *rows <= most);
+    let Some(rows) = rows else {
+        let file = table.file();
+        return Err(Failure::refused(format!(
+            "{file} would have {used} rows that are used and {spare} spare ones; the most are {most}"
+        )));
+    };
+    bytes.resize(rows * size, 0);
+    Ok(())
+}
+
+/// Dumps that are read one after the other.
+struct Reader<'call> {
+    intake: Intake,
+    dumps: Dumps,
+    owners: &'call [u8],
+    bar: &'call Bar,
+    read: u64,
+}
+
+impl Reader<'_> {
+    /// Reads a whole dump.
+    fn read(&mut self, source: &Source) -> Result<(), Failure> {
+        let mut input = source.open().map_err(|error| source.trouble(&error))?;
+        let mut piece = vec![0; MOST_PIECE];
+        loop {
+            let length = read_some(&mut *input, &mut piece);
+            let length = length.map_err(|error| source.trouble(&error))?;
+            if length == 0 {
+                break;
+            }
+            let piece = &piece[..length];
+            let fed = self.intake.feed(piece, self.owners);
+            fed.map_err(|stop| self.refusal(source, stop, piece))?;
+            self.dumps.take(piece);
+            self.read += length as u64;
+            self.bar.show(self.read);
+        }
+        let end = self.intake.end();
+        end.map_err(|stop| self.unended(source, stop))?;
+        self.dumps.next();
+        Ok(())
+    }
+
+    /// The line for a fault in a piece.
+    fn refusal(&mut self, source: &Source, stop: Stop, piece: &[u8]) -> Failure {
+        let text = self.dumps.take_to(stop.line, piece);
+        let entries = self.dumps.closed;
+        let mut owners = self.owners.split_inclusive(|&byte| byte == b'\n');
+        let owner = owners.nth(entries);
+        let owner = owner.map(|line| line.strip_suffix(b"\n").unwrap_or(line));
+        let refused = Refused {
+            number: stop.number,
+            text: &text,
+            entry: self.dumps.entry.as_ref(),
+            owner: (entries + 1, owner),
+        };
+        self.failure(source, stop, &refused.words())
+    }
+
+    /// The line for a dump that ends too soon.
+    fn unended(&self, source: &Source, stop: Stop) -> Failure {
+        let words = match &self.dumps.entry {
+            Some(entry) => {
+                let name = shown(&entry.origin.name);
+                format!("the dump ends before the empty line that closes this entry: {name}")
+            }
+            None => {
+                let line = shown(self.dumps.rest());
+                format!("the dump ends in this line, which begins no entry: {line}")
+            }
+        };
+        self.failure(source, stop, &words)
+    }
+
+    fn failure(&self, source: &Source, stop: Stop, words: &str) -> Failure {
+        let (line, number) = (self.dumps.line_here(stop.line), stop.number);
+        let message = format!("{source}: line {line} is refused with {number}: {words}");
+        Failure::answered(number, message)
+    }
+}
+
+/// Reads until a piece is full or nothing is left, so that short reads make no short pieces.
+fn read_some(input: &mut dyn Read, piece: &mut [u8]) -> std::io::Result<usize> {
+    let mut length = 0;
+    while length < piece.len() {
+        match input.read(&mut piece[length..]) {
+            Ok(0) => break,
+            Ok(count) => length += count,
+            Err(error) if error.kind() == std::io::ErrorKind::Interrupted => (),
+            Err(error) => return Err(error),
+        }
+    }
+    Ok(length)
+}
+
+impl Taken {
+    fn text(
+        &self,
+        directory: &Path,
+        options: &IntakeOptions,
+        number: u32,
+        list: &[Fault],
+    ) -> String {
+        let [files, objects] = self.rows;
+        let mut text = format!(
+            "A case is in {}: {} and {} from {}.\n",
+            directory.display(),
+            counted(files, "file"),
+            counted(objects, "object"),
+            counted(options.dumps.len(), "dump")
+        );
+        text += &format!(
+            "Spare rows: {} for files, {} for objects. FIDs in reserve: {}.\n",
+            options.spare_files,
+            options.spare_objects,
+            self.reserve.lines.len()
+        );
+        match number {
+            0 => text += "The tables are sound.\n",
+            _ => {
+                text += &format!("The tables are not sound: {number}, {}.\n", meaning(number));
+                let lines = list.iter().map(|fault| self.line(options, fault));
+                text.extend(lines);
+            }
+        }
+        text
+    }
+
+    /// A fault, and where it comes from.
+    fn line(&self, options: &IntakeOptions, fault: &Fault) -> String {
+        let from = match (self.origin(fault), self.reserve_line(options, fault)) {
+            (Some(origin), _) => {
+                let (name, line) = (shown(&origin.name), origin.line);
+                let source = &options.dumps[origin.dump];
+                format!("      {name}, line {line} of {source}\n")
+            }
+            (None, Some((source, line))) => format!("      line {line} of {source}\n"),
+            (None, None) => String::new(),
+        };
+        format!("  {}\n{from}", fault_line(fault))
+    }
+
+    fn origin(&self, fault: &Fault) -> Option<&Origin> {
+        self.dumps.origin(fault.table, fault.row?)
+    }
+
+    fn reserve_line<'options>(
+        &self,
+        options: &'options IntakeOptions,
+        fault: &Fault,
+    ) -> Option<(&'options Source, usize)> {
+        let row = fault.row.filter(|_| fault.table == Table::Reserve)?;
+        Some((options.reserve.as_ref()?, *self.reserve.lines.get(row)?))
+    }
+
+    fn machine(
+        &self,
+        directory: &Path,
+        options: &IntakeOptions,
+        number: u32,
+        list: &[Fault],
+    ) -> String {
+        let count = |count: usize| Json::Number(count as u64);
+        let [files, objects] = self.rows;
+        let faults = list.iter().map(|fault| self.machine_fault(options, fault));
+        Json::Object(vec![
+            ("directory", Json::text(directory.display())),
+            ("files", count(files)),
+            ("objects", count(objects)),
+            ("spare_files", count(options.spare_files)),
+            ("spare_objects", count(options.spare_objects)),
+            ("reserve_fids", count(self.reserve.lines.len())),
+            ("answer", Json::Number(number.into())),
+            ("sound", Json::Bool(number == 0)),
+            ("faults", Json::List(faults.collect())),
+        ])
+        .line()
+    }
+
+    fn machine_fault(&self, options: &IntakeOptions, fault: &Fault) -> Json {
+        let origin = self.origin(fault);
+        let reserve = self.reserve_line(options, fault);
+        let source = origin.map(|origin| &options.dumps[origin.dump]);
+        let source = source.or(reserve.map(|(source, _)| source));
+        let line = origin.map(|origin| origin.line);
+        let line = line.or(reserve.map(|(_, line)| line as u64));
+        let name = origin.map(|origin| &origin.name[..]);
+        Json::Object(vec![
+            ("number", Json::Number(fault.number.into())),
+            ("table", Json::text(fault.table.file())),
+            ("row", Json::maybe_number(fault.row.map(|row| row as u64))),
+            ("field", Json::text(&fault.field)),
+            ("reason", Json::text(&fault.reason)),
+            ("source", Json::maybe(source)),
+            ("line", Json::maybe_number(line)),
+            (
+                "name",
+                Json::maybe(name.and_then(|it| str::from_utf8(it).ok())),
+            ),
+            ("name_hex", Json::maybe(name.map(hex::encode))),
+        ])
+    }
+}
+
+/// So many of a thing.
+fn counted(count: usize, thing: &str) -> String {
+    match count {
+        1 => format!("1 {thing}"),
+        _ => format!("{count} {thing}s"),
+    }
+}
+
+#[cfg(test)]
+mod tests {
+    use super::*;
+
+    #[test]
+    fn the_bar_counts_bytes_where_all_dumps_are_files() {
+        let this = Source::File(concat!(env!("CARGO_MANIFEST_DIR"), "/Cargo.toml").into());
+        let bytes = this.length().expect("a plain file");
+        let both = [this.clone(), this.clone()];
+        assert_eq!(work(&both), Work::Counted("bytes", 2 * bytes));
+        let unknown = Work::Unmeasured("reading the dumps");
+        assert_eq!(work(&[this, Source::Standard]), unknown);
+        assert_eq!(work(&[Source::File("/dev/null".into())]), unknown);
+    }
+
+    #[test]
+    fn a_piece_is_filled_by_short_reads() {
+        let mut input = (&b"abc"[..]).chain(&b"de"[..]).chain(&b"fgh"[..]);
+        let mut piece = [0; 6];
+        assert_eq!(read_some(&mut input, &mut piece).unwrap(), 6);
+        assert_eq!(&piece, b"abcdef");
+        assert_eq!(read_some(&mut input, &mut piece).unwrap(), 2);
+        assert_eq!(read_some(&mut input, &mut piece).unwrap(), 0);
+    }
+}
