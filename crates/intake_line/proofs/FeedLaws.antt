@@ -15,7 +15,9 @@ use Rattle.intake_line.specs.declared.Unfinished.{Unfinished}
 use Rattle.intake.specs.Reading.{Reading, isGoing}
 use Rattle.intake.specs.Says.{kindOf}
 use Rattle.intake.specs.Machine.{Digits, digitByte, Partial, lineByte, State, goingByte, byte, wantIn}
-use Rattle.intake_line.specs.Lent.{wantOf, partialIn, partOf, Held, Others, LineStep, Feeding}
+use Rattle.intake_line.specs.Lent.{wantOf, partialIn, partOf, Room, DigitStep, Held, Others, LineStep, Feeding, PastHead, ValueFed, LineFed}
+use Rattle.intake_line.specs.declared.Fed.{Fed}
+use Rattle.intake_line.proofs.HoldLaws.{digit-step}
 
 -- the machine asks only how much is wanted of the line's own kind
 line-want : (want also : Kind → ℕ) (p : Partial) (b : ℕ) → ((k : Kind) → want k ≡ also k) → lineByte want p b ≡ lineByte also p b
@@ -67,3 +69,99 @@ held-at m a n buf x e g = subst (λ (z : ℕ). Held (wantOf m z) buf x) e g
 pub step-at : (m : Marks) (a n : ℕ) (buf : List ℕ) (x : Unfinished) (b : ℕ) (after : List ℕ) (r : Unfinished) → a ≡ n
     → LineStep (wantOf m a) buf x b after r → LineStep (wantOf m n) buf x b after r
 step-at m a n buf x b after r e s = subst (λ (z : ℕ). LineStep (wantOf m z) buf x b after r) e s
+
+-- from one place to a second, and from there to a third
+pub feeding-then : (want : Kind → ℕ) (before : List ℕ) (x : Unfinished) (piece : List ℕ) (from : ℕ) (now : List ℕ) (y : Unfinished) (at : ℕ) (after : List ℕ) (r : Unfinished) (end : ℕ)
+    → Feeding want before x piece from now y at → Feeding want now y piece at after r end → Feeding want before x piece from after r end
+unfolding Others
+feeding-then want before x piece from now y at after r end f g =
+    record {
+      same = λ R e w. f .same R e w ∙ later R e w;
+      least = omega (arith, f .least, g .least);
+      within = g .within;
+      held = g .held;
+      counts = omega (arith, f .counts, g .counts, f .least, g .least);
+      long = g .long ∙ f .long;
+      others = λ k z. subst (λ (m : ℕ). partOf m k after ≡ partOf m k now) (f .long) (g .others k z) ∙ f .others k z;
+    }
+  where
+    later : (R : Reading) → isGoing (R .stop) ≡ true → ((k : Kind) → wantIn (length before - 208) (R .entry) k ≡ want k)
+        → foldl (byte (length before - 208)) (record { reading = R; line = partialIn now y }) (drop at piece)
+        ≡ foldl (byte (length before - 208)) (record { reading = R; line = partialIn after r }) (drop end piece)
+    later R e w =
+        subst
+        (λ (n : ℕ). foldl (byte (n - 208)) (record { reading = R; line = partialIn now y }) (drop at piece) ≡ foldl (byte (n - 208)) (record { reading = R; line = partialIn after r }) (drop end piece))
+        (f .long) (g .same R e (λ k. ap (λ (n : ℕ). wantIn (n - 208) (R .entry) k) (f .long) ∙ w k))
+
+-- ## The digits of a value
+
+-- so far: where they go stands, and whatever the entry has, the reading is where these bytes put it
+pub record Digiting (before : List ℕ) (x : Unfinished) (piece : List ℕ) (from : ℕ) (now : List ℕ) (y : Unfinished) (at : ℕ) : Type 0 where
+  pub long : length now ≡ length before
+  pub room : Room (length now) y
+  pub full : 14 ≤ y .seen
+  pub least : from ≤ at
+  pub within : at ≤ length piece
+  pub counts : y .size ≤ x .size + (at - from)
+  pub fed : (m : Marks) → Held (wantOf m (length before)) before x → Feeding (wantOf m (length before)) before x piece from now y at
+
+pub digiting-start : (buf : List ℕ) (x : Unfinished) (piece : List ℕ) (from : ℕ) → PastHead (length buf) x (length piece) from → Digiting buf x piece from buf x from
+digiting-start buf x piece from h =
+    record {
+      long = refl;
+      room = h .room;
+      full = h .full;
+      least = omega arith;
+      within = h .within;
+      counts = omega arith;
+      fed = λ m g. feeding-start (wantOf m (length buf)) buf x piece from g (h .within);
+    }
+
+module _ (before : List ℕ) (x : Unfinished) (piece : List ℕ) (from : ℕ) where
+  pub digiting-step : (now : List ℕ) (y : Unfinished) (at b : ℕ) (after : List ℕ) (r : Unfinished) → Digiting before x piece from now y at
+      → PastHead (length before) x (length piece) from → at < length piece → b ≡ getD piece at 0 → (b ≡ 10 → ⊥) → DigitStep now y b after r
+      → Digiting before x piece from after r (at + 1)
+  digiting-step now y at b after r d p h e n s =
+      record {
+        long = s .within .long ∙ d .long;
+        room = record {
+          fits = omega (arith, d .room .fits, s .base, s .most, s .within .long);
+          past = omega (arith, d .room .past, s .base);
+          halves = s .halves;
+          counts = omega (arith, s .counts, d .counts, d .least, p .counts);
+        };
+        full = omega (arith, s .seen, d .full);
+        least = omega (arith, d .least);
+        within = omega arith;
+        counts = omega (arith, s .counts, d .counts, d .least);
+        fed = λ m g. feeding-step (wantOf m (length before)) before x piece from now y at b after r (d .fed m g) h e n (one m g);
+      }
+    where
+      one : (m : Marks) → Held (wantOf m (length before)) before x → LineStep (wantOf m (length before)) now y b after r
+      one m g =
+          let f : Feeding (wantOf m (length before)) before x piece from now y at = d .fed m g in
+          step-at m (length now) (length before) now y b after r (f .long)
+          (digit-step m now y b after r (held-at m (length before) (length now) now y (sym (f .long)) (f .held)) (d .full) s)
+
+-- ## A line's head, and then its value
+
+module _ (m : Marks) (before : List ℕ) (x : Unfinished) (piece : List ℕ) (from : ℕ) (now : List ℕ) (y : Unfinished) (at : ℕ) (f : Feeding (wantOf m (length before)) before x piece from now y at) where
+  pub past-head : 14 ≤ y .seen → x .size + length piece < 0xffffffffffffffff → PastHead (length now) y (length piece) at
+  past-head h k =
+      record {
+        room = record { fits = f .held .fits; past = f .held .past; halves = f .held .halves; counts = omega (arith, f .counts, f .least, f .within) };
+        full = h;
+        counts = omega (arith, f .counts, f .least, f .within);
+        within = f .within;
+      }
+
+  pub value-then : (after : List ℕ) (r : Fed) → ValueFed now y piece at after r → LineFed (wantOf m (length before)) before x piece from after r
+  unfolding ValueFed
+  value-then after r v =
+      let g : LineFed (wantOf m (length now)) now y piece at after r = v m (held-at m (length before) (length now) now y (sym (f .long)) (f .held)) in
+      record {
+        fed =
+            feeding-then (wantOf m (length before)) before x piece from now y at after (r .line) (r .at) f
+            (subst (λ (n : ℕ). Feeding (wantOf m n) now y piece at after (r .line) (r .at)) (f .long) (g .fed));
+        stop = g .stop;
+      }

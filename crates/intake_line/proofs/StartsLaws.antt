@@ -1,15 +1,16 @@
 -- A word at the front of a slice, byte by byte, and a hex digit. Assumes nothing.
 use Prim.Native.Nat.{ℕ, zero, suc, _+_, _-_, _≤_, _<_}
-use mathlib.Core.Path.{_≡_, refl, sym, ap, _∙_}
+use mathlib.Core.Path.{_≡_, refl, sym, ap, subst, _∙_}
 use mathlib.Core.List.{List, [], _∷_}
-use mathlib.Core.Bool.{Bool, true, false, _&&_, and-false}
+use mathlib.Core.Bool.{Bool, true, false, cond, _&&_, and-false}
 use native.Mathlib.Numerals.{add-one}
 use native.Mathlib.Omega.{arith}
 use lib.ListN.{length, drop, getD, drop-of-length-le}
 use lib.Seq.{drop-cons}
-use lib.Dec.{eqb, leb}
-use borrow.Author.Tests.{eq-eqb, ne-eqb, le-leb, lt-leb}
+use lib.Dec.{eqb, leb, ltb}
+use borrow.Author.Tests.{eq-eqb, ne-eqb, le-leb, lt-leb, ltb-true, ltb-false}
 use Rattle.intake.specs.Says.{starts, digit}
+use Rattle.intake_line.specs.Lent.{folded}
 
 pub starts-short : (w s : List ℕ) → length s < length w → false ≡ starts w s
 unfolding starts
@@ -69,3 +70,25 @@ module _ (b : ℕ) where
   pub digit-high : 102 < b → 16 ≡ digit b
   unfolding digit
   digit-high h = simp (le-leb 48 b (omega arith), lt-leb b 57 (omega arith), le-leb 65 b (omega arith), lt-leb b 70 (omega arith), le-leb 97 b (omega arith), lt-leb b 102 h)
+
+  -- the same of a letter that was folded
+  fold-cases : (P : ℕ → Type 0) → (b < 97 → P (b + 32)) → (97 ≤ b → P b) → (u : ℕ) → u ≡ folded b → P u
+  unfolding folded
+  fold-cases P small large u e = go (ltb b 97) refl e where
+    go : (t : Bool) → ltb b 97 ≡ t → u ≡ cond t (b + 32) b → P u
+    go true h q = subst P (sym q) (small (ltb-true b 97 h))
+    go false h q = subst P (sym q) (large (ltb-false b 97 h))
+
+  pub fold-before : (u : ℕ) → u ≡ folded b → 57 < b → u < 97 → 16 ≡ digit b
+  fold-before u e h = fold-cases (λ (w : ℕ). w < 97 → 16 ≡ digit b) (λ s k. digit-gap h (omega arith)) (λ l k. absurd (omega arith)) u e
+
+  pub fold-digit : (u : ℕ) → u ≡ folded b → 57 < b → 97 ≤ u → u ≤ 102 → u - 87 ≡ digit b
+  fold-digit u e h =
+      fold-cases (λ (w : ℕ). 97 ≤ w → w ≤ 102 → w - 87 ≡ digit b) (λ s k n. sub-32 ∙ digit-upper b refl (omega arith) (omega arith))
+      (λ l k n. digit-lower b refl k n) u e
+    where
+      sub-32 : b + 32 - 87 ≡ b - 55
+      sub-32 = omega arith
+
+  pub fold-after : (u : ℕ) → u ≡ folded b → 57 < b → 102 < u → 16 ≡ digit b
+  fold-after u e h = fold-cases (λ (w : ℕ). 102 < w → 16 ≡ digit b) (λ s k. digit-gap-2 (omega arith) s) (λ l k. digit-high k) u e

@@ -72,6 +72,10 @@ partialIn buf x = record { head = take (x .seen) (drop headAt buf); digits = dig
 abbrev pub newLine : Unfinished
 newLine = record { seen = 0; base = fidAt; most = 0; half = 0; size = 0 }
 
+-- a letter of upper case as one of lower case, and bytes from there on as they are
+unfoldable pub folded : ℕ → ℕ
+folded v = cond (ltb v 97) (v + 32) v
+
 -- the same line with other digits
 abbrev pub valued : Unfinished → ℕ → ℕ → Unfinished
 valued x half size = record { seen = x .seen; base = x .base; most = x .most; half = half; size = size }
@@ -135,10 +139,29 @@ pub record Feeding (want : Kind → ℕ) (before : List ℕ) (x : Unfinished) (p
   pub long : length after ≡ length before
   pub others : Others want before after
 
+-- what a piece is fed to: a line whose counts won't wrap
+pub record Feeds (buf : List ℕ) (m : Marks) (x : Unfinished) (piece : List ℕ) (from : ℕ) : Type 0 where
+  pub long : layoutAt ≤ length buf
+  pub held : Held (wantOf m (length buf)) buf x
+  pub counts : x .size + length piece < maxCount
+  pub within : from ≤ length piece
+
 -- up to the line's end, or the piece's
 pub record LineFed (want : Kind → ℕ) (before : List ℕ) (x : Unfinished) (piece : List ℕ) (from : ℕ) (after : List ℕ) (r : Fed) : Type 0 where
   pub fed : Feeding want before x piece from after (r .line) (r .at)
   pub stop : r .at < length piece → getD piece (r .at) 0 ≡ newline
+
+-- a line whose head is whole, in a state of so many bytes, and a piece of so many
+pub record PastHead (n : ℕ) (x : Unfinished) (bytes from : ℕ) : Type 0 where
+  pub room : Room n x
+  pub full : headSize ≤ x .seen
+  pub counts : x .size + (bytes - from) < maxCount
+  pub within : from ≤ bytes
+
+-- the same of a value's digits, whatever the entry has
+unfoldable pub ValueFed : List ℕ → Unfinished → List ℕ → ℕ → List ℕ → Fed → Type 0
+ValueFed before x piece from after r =
+    (m : Marks) → Held (wantOf m (length before)) before x → LineFed (wantOf m (length before)) before x piece from after r
 
 -- ## The line's end
 

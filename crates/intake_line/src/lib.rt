@@ -8,7 +8,7 @@ ghost use Prim.Native.Nat.{ℕ, _+_, _-_, _≤_, _<_};
 ghost use lib.Dec.{eqb};
 ghost use lib.ListN.{length};
 ghost use Rattle.intake.specs.Says.{starts, named, digit, headSize, kindOf, goodSize};
-ghost use Rattle.intake_line.specs.Lent.{layoutAt, maxCount, baseOf, markOf, wantOf, newLine, valued, Room, DigitStep, Held, LineStep, LineFed, isOther, HeadSaid, LineSaid};
+ghost use Rattle.intake_line.specs.Lent.{layoutAt, maxCount, baseOf, markOf, wantOf, newLine, folded, valued, Room, DigitStep, Held, LineStep, Feeds, PastHead, LineFed, ValueFed, isOther, HeadSaid, LineSaid};
 ghost use Rattle.intake_line.specs.Entry.{noMarks, marksWith, EntryStep, ReaderHeld, TurnTaken};
 
 // Where things stand in the lent bytes: the head of the unfinished line, and the attributes of the open entry.
@@ -105,6 +105,17 @@ fn wide(b: u8) -> usize
     b as usize
 }
 
+// A letter of upper case as one of lower case, which stands 32 after it.
+fn folded(v: usize) -> usize
+    requires { ⌜ v < 256 ⌝ }
+    ensures { λ r. ⌜ r ≡ folded v ⌝ }
+{
+    if v < 97 {
+        return v + 32;
+    }
+    v
+}
+
 // A hex digit of either case, else 16.
 pub fn digit(b: u8) -> usize
     ensures { λ r. ⌜ (r ≡ digit b) × (r ≤ 16) ⌝ }
@@ -116,17 +127,12 @@ pub fn digit(b: u8) -> usize
     if v <= 57 {
         return v - 48;
     }
-    if v < 65 {
+    let u = folded(v);
+    if u < 97 {
         return 16;
     }
-    if v <= 70 {
-        return v - 55;
-    }
-    if v < 97 {
-        return 16;
-    }
-    if v <= 102 {
-        return v - 87;
+    if u <= 102 {
+        return u - 87;
     }
     16
 }
@@ -259,42 +265,39 @@ pub fn most_of(k: Kind, m: Marks, size: usize) -> usize
     }
 }
 
-// One more byte of the line.
-pub fn line_byte(buf: &mut [u8], m: Marks, x: Unfinished, b: u8) -> Unfinished
-    requires { ⌜ (layoutAt ≤ length (now buf)) × Held (wantOf m (length (now buf))) (now buf) x × (x .size < maxCount) ⌝ }
+// One more byte of the line's head; the last one tells where the value goes.
+pub fn head_byte(buf: &mut [u8], m: Marks, x: Unfinished, b: u8) -> Unfinished
+    requires { ⌜ (layoutAt ≤ length (now buf)) × Held (wantOf m (length (now buf))) (now buf) x × (x .seen < headSize) ⌝ }
     ensures { λ r. ⌜ LineStep (wantOf m (length (now (buf .entry)))) (now (buf .entry)) x b (now (buf .exit)) r ⌝ }
 {
     let seen = x.seen;
-    if seen < HEAD_SIZE {
-        let at = HEAD_AT + seen;
-        buf[at] = b;
-        if seen < HEAD_LAST {
-            return Unfinished {
-                seen: seen + 1,
-                base: x.base,
-                most: x.most,
-                half: 0,
-                size: 0,
-            };
-        }
-        let k = kind_of(&buf[HEAD_AT..HEAD_END]);
-        let base = base_of(k);
-        let most = most_of(k, m, buf.len());
+    let at = HEAD_AT + seen;
+    buf[at] = b;
+    if seen < HEAD_LAST {
         return Unfinished {
-            seen: HEAD_SIZE,
-            base: base,
-            most: most,
+            seen: seen + 1,
+            base: x.base,
+            most: x.most,
             half: 0,
             size: 0,
         };
     }
-    digit_byte(buf, x, b)
+    let k = kind_of(&buf[HEAD_AT..HEAD_END]);
+    let base = base_of(k);
+    let most = most_of(k, m, buf.len());
+    Unfinished {
+        seen: HEAD_SIZE,
+        base: base,
+        most: most,
+        half: 0,
+        size: 0,
+    }
 }
 
-// The bytes of a piece up to the line's end.
-pub fn feed_line(buf: &mut [u8], m: Marks, line: Unfinished, piece: &[u8], from: usize) -> Fed
-    requires { ⌜ (layoutAt ≤ length (now buf)) × Held (wantOf m (length (now buf))) (now buf) line × (line .size + length (now piece) < maxCount) × (from ≤ length (now piece)) ⌝ }
-    ensures { λ r. ⌜ LineFed (wantOf m (length (now (buf .entry)))) (now (buf .entry)) line (now (piece .entry)) from (now (buf .exit)) r ⌝ }
+// The bytes of a piece after a line's head, up to the line's end.
+fn feed_value(buf: &mut [u8], line: Unfinished, piece: &[u8], from: usize) -> Fed
+    requires { ⌜ PastHead (length (now buf)) line (length (now piece)) from ⌝ }
+    ensures { λ r. ⌜ ValueFed (now (buf .entry)) line (now (piece .entry)) from (now (buf .exit)) r ⌝ }
 {
     let mut x = line;
     let mut at = from;
@@ -303,7 +306,28 @@ pub fn feed_line(buf: &mut [u8], m: Marks, line: Unfinished, piece: &[u8], from:
         if b == NEWLINE {
             return Fed { at: at, line: x };
         }
-        x = line_byte(buf, m, x, b);
+        x = digit_byte(buf, x, b);
+        at += 1;
+    }
+    Fed { at: at, line: x }
+}
+
+// The bytes of a piece up to the line's end.
+pub fn feed_line(buf: &mut [u8], m: Marks, line: Unfinished, piece: &[u8], from: usize) -> Fed
+    requires { ⌜ Feeds (now buf) m line (now piece) from ⌝ }
+    ensures { λ r. ⌜ LineFed (wantOf m (length (now (buf .entry)))) (now (buf .entry)) line (now (piece .entry)) from (now (buf .exit)) r ⌝ }
+{
+    let mut x = line;
+    let mut at = from;
+    while at < piece.len() {
+        if HEAD_SIZE <= x.seen {
+            return feed_value(buf, x, piece, at);
+        }
+        let b = piece[at];
+        if b == NEWLINE {
+            return Fed { at: at, line: x };
+        }
+        x = head_byte(buf, m, x, b);
         at += 1;
     }
     Fed { at: at, line: x }

@@ -1,6 +1,8 @@
 use borrow.Author.Needs.{needs}
 use native.Mathlib.Omega.{arith}
-use Rattle.intake_line.proofs.StartsLaws.{digit-low, digit-number, digit-gap, digit-upper, digit-gap-2, digit-lower, digit-high}
+use mathlib.Core.Path.{_∙_, ap}
+use Rattle.intake_line.specs.Lent.{folded}
+use Rattle.intake_line.proofs.StartsLaws.{digit-low, digit-number, fold-before, fold-digit, fold-after}
 use Rattle.intake_line.proofs.digit.Statement.{statement}
 use Rattle.intake_line.proofs.digit.Tie as tie
 
@@ -13,26 +15,20 @@ returns c = (digit-low _ (omega arith), omega arith)
 returns-2 : tie.Need-returns-2
 returns-2 c = (digit-number _ _ (omega arith) (omega arith) (omega arith), omega arith)
 
+folded-requires : tie.Need-folded-requires
+folded-requires c κs = search needs
+
 returns-3 : tie.Need-returns-3
-returns-3 c = (digit-gap _ (omega arith) (omega arith), omega arith)
+returns-3 c = (fold-before _ _ (c .before .folded .ensures ∙ ap folded (c .before .before .before .before .wide .ensures)) (omega arith) (omega arith), omega arith)
 
 sub-result : tie.Need-sub-result
 sub-result c = search needs
 
 returns-4 : tie.Need-returns-4
-returns-4 c = (digit-upper _ _ (omega arith) (omega arith) (omega arith), omega arith)
+returns-4 c = (fold-digit _ _ (c .before .before .folded .ensures ∙ ap folded (c .before .before .before .before .before .wide .ensures)) (omega arith) (omega arith) (omega arith), omega arith)
 
 returns-5 : tie.Need-returns-5
-returns-5 c = (digit-gap-2 _ (omega arith) (omega arith), omega arith)
-
-sub-result-2 : tie.Need-sub-result-2
-sub-result-2 c = search needs
-
-returns-6 : tie.Need-returns-6
-returns-6 c = (digit-lower _ _ (omega arith) (omega arith) (omega arith), omega arith)
-
-returns-7 : tie.Need-returns-7
-returns-7 c = (digit-high _ (omega arith), omega arith)
+returns-5 c = (fold-after _ _ (c .before .before .folded .ensures ∙ ap folded (c .before .before .before .before .before .wide .ensures)) (omega arith) (omega arith), omega arith)
 
 pub digit-spec : {M : Type 1} → statement M
 digit-spec =
@@ -41,10 +37,8 @@ digit-spec =
     wide-requires
     returns
     returns-2
+    folded-requires
     returns-3
     sub-result
     returns-4
-    returns-5
-    sub-result-2
-    returns-6
-    returns-7)
+    returns-5)

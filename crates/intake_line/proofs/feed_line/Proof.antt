@@ -4,7 +4,7 @@ use Prim.Native.Nat.{_-_}
 use mathlib.Core.Path.{_≡_, refl, sym, ap, _∙_}
 use lib.ListN.{length}
 use Rattle.intake_line.specs.Lent.{wantOf, Feeding}
-use Rattle.intake_line.proofs.FeedLaws.{feeding-start, feeding-step, held-at, step-at}
+use Rattle.intake_line.proofs.FeedLaws.{feeding-start, feeding-step, held-at, step-at, past-head, value-then}
 use Rattle.intake_line.proofs.feed_line.Statement.{statement}
 use Rattle.intake_line.proofs.feed_line.Tie as tie
 
@@ -15,20 +15,34 @@ abbrev μ-loop : tie.MeasureT-loop
 μ-loop buf₀ m piece from x₀ at₀ buf x at = length piece - at
 
 loop-holds : tie.Need-loop-holds Inv-loop μ-loop
-loop-holds c = let p = c .before .before in let a = p .args in feeding-start _ (a .buf .now) (a .line) (a .piece .now) (a .from) (p .pre .1) (p .pre .3)
+loop-holds c =
+    let p = c .before .before in let a = p .args in feeding-start _ (a .buf .now) (a .line) (a .piece .now) (a .from) (p .pre .held) (p .pre .within)
 
-shared-slice-read-b : tie.Need-shared-slice-read-b Inv-loop μ-loop
-shared-slice-read-b c = omega arith
+feed-value-requires : tie.Need-feed-value-requires Inv-loop μ-loop
+feed-value-requires c κs =
+    let l = c .before .before .before .before .loop in let p = c .before .before .before .before .before .before .before in let a = p .args in
+    past-head (a .m) (a .buf .now) (a .line) (a .piece .now) (a .from) (l .buf) (l .x) (l .at) (l .inv) (omega arith) (p .pre .counts)
 
 same-length : tie.Need-same-length Inv-loop μ-loop
 same-length c = search needs
 
 returns : tie.Need-returns Inv-loop μ-loop
-returns c = record { fed = c .before .before .before .loop .inv; stop = λ _. c .if1 .taken }
+returns c =
+    let l = c .before .before .before .before .before .before .before .loop in let p = c .before .before .before .before .before .before .before .before .before .before in let a = p .args in
+    value-then (a .m) (a .buf .now) (a .line) (a .piece .now) (a .from) (l .buf) (l .x) (l .at) (l .inv) _ _ (c .before .before .feed-value .ensures)
 
-line-byte-requires : tie.Need-line-byte-requires Inv-loop μ-loop
-line-byte-requires c κs =
-    let l = c .before .before .before .before .loop in let a = c .before .before .before .before .before .before .before .args in
+shared-slice-read-b : tie.Need-shared-slice-read-b Inv-loop μ-loop
+shared-slice-read-b c = omega arith
+
+same-length-2 : tie.Need-same-length-2 Inv-loop μ-loop
+same-length-2 c = search needs
+
+returns-2 : tie.Need-returns-2 Inv-loop μ-loop
+returns-2 c = record { fed = c .before .before .before .before .before .loop .inv; stop = λ _. c .if2 .taken }
+
+head-byte-requires : tie.Need-head-byte-requires Inv-loop μ-loop
+head-byte-requires c κs =
+    let l = c .before .before .before .before .before .before .loop in let a = c .before .before .before .before .before .before .before .before .before .args in
     (omega arith, held-at (a .m) _ _ (l .buf) (l .x) (sym (l .inv .long)) (l .inv .held), omega arith)
 
 add-at : tie.Need-add-at Inv-loop μ-loop
@@ -39,15 +53,15 @@ loop-less c = omega arith
 
 loop-again : tie.Need-loop-again Inv-loop μ-loop
 loop-again c =
-    let l = c .before .before .before .before .before .before .before .loop in let a = c .before .before .before .before .before .before .before .before .before .before .args in
-    feeding-step _ (a .buf .now) (a .line) (a .piece .now) (a .from) (l .buf) (l .x) (l .at) _ _ _ (l .inv) (omega arith) refl (c .before .before .before .before .if1 .left)
-    (step-at (a .m) _ _ (l .buf) (l .x) _ _ _ (l .inv .long) (c .before .before .line-byte .ensures))
+    let l = c .before .before .before .before .before .before .before .before .before .loop in let a = c .before .before .before .before .before .before .before .before .before .before .before .before .args in
+    feeding-step _ (a .buf .now) (a .line) (a .piece .now) (a .from) (l .buf) (l .x) (l .at) _ _ _ (l .inv) (omega arith) refl (c .before .before .before .before .if2 .left)
+    (step-at (a .m) _ _ (l .buf) (l .x) _ _ _ (l .inv .long) (c .before .before .head-byte .ensures))
 
-same-length-2 : tie.Need-same-length-2 Inv-loop μ-loop
-same-length-2 c = search needs
+same-length-3 : tie.Need-same-length-3 Inv-loop μ-loop
+same-length-3 c = search needs
 
-returns-2 : tie.Need-returns-2 Inv-loop μ-loop
-returns-2 c = record { fed = c .before .loop .inv; stop = λ h. absurd (omega arith) }
+returns-3 : tie.Need-returns-3 Inv-loop μ-loop
+returns-3 c = record { fed = c .before .loop .inv; stop = λ h. absurd (omega arith) }
 
 pub feed-line-spec : {M : Type 1} → statement M
 feed-line-spec =
@@ -56,12 +70,15 @@ feed-line-spec =
     Inv-loop
     μ-loop
     loop-holds
-    shared-slice-read-b
+    feed-value-requires
     same-length
     returns
-    line-byte-requires
+    shared-slice-read-b
+    same-length-2
+    returns-2
+    head-byte-requires
     add-at
     loop-less
     loop-again
-    same-length-2
-    returns-2)
+    same-length-3
+    returns-3)

@@ -25,7 +25,7 @@ feed-line-requires : tie.Need-feed-line-requires Inv-loop μ-loop
 feed-line-requires c κs =
     let p = c .before .before .before .before .before .before .before .before .before .before .before in
     let l = c .before .before .before .before .before .loop .inv .3 in
-    (l .going .kept .held .long, l .going .kept .held .held, omega (arith, l .size, l .within, p .pre .2), omega arith)
+    record { long = l .going .kept .held .long; held = l .going .kept .held .held; counts = omega (arith, l .size, l .within, p .pre .2); within = omega arith }
 
 with-line-requires : tie.Need-with-line-requires Inv-loop μ-loop
 with-line-requires c κs = search needs

@@ -3,10 +3,10 @@ use Prim.Native.Nat.{ℕ, _+_}
 use lib.ListN.{length, set, length-set}
 use mathlib.Core.Path.{_≡_, sym, ap, _∙_}
 use Rattle.intake_line.specs.Lent.{wantOf, baseOf}
-use Rattle.intake_line.proofs.HoldLaws.{head-step, full-step, want-fits, digit-step}
+use Rattle.intake_line.proofs.HoldLaws.{head-step, full-step, want-fits}
 use borrow.Author.Needs.{needs}
-use Rattle.intake_line.proofs.line_byte.Statement.{statement}
-use Rattle.intake_line.proofs.line_byte.Tie as tie
+use Rattle.intake_line.proofs.head_byte.Statement.{statement}
+use Rattle.intake_line.proofs.head_byte.Tie as tie
 
 add-at : tie.Need-add-at
 add-at c = search needs
@@ -14,15 +14,15 @@ add-at c = search needs
 slice-write-buf : tie.Need-slice-write-buf
 slice-write-buf c = search needs
 
-add-t13 : tie.Need-add-t13
-add-t13 c = search needs
+add-t12 : tie.Need-add-t12
+add-t12 c = search needs
 
 same-length : tie.Need-same-length
 same-length c = search needs
 
 returns : tie.Need-returns
 returns c =
-    let p = c .before .before .before in let a = p .args in
+    let p = c .before .before in let a = p .args in
     head-step (wantOf (a .m) _) (a .buf .now) (a .x) (a .b) (p .pre .0) (p .pre .1) (omega arith) (omega arith)
 
 sub-kind-of : tie.Need-sub-kind-of
@@ -48,7 +48,7 @@ same-length-2 c = search needs
 
 returns-2 : tie.Need-returns-2
 returns-2 c =
-    let p = c .before .before .before .before .before .before .before .before in let a = p .args in
+    let p = c .before .before .before .before .before .before .before in let a = p .args in
     let n : length (set (a .buf .now) (128 + a .x .seen) (a .b)) ≡ length (a .buf .now) = length-set (a .buf .now) (128 + a .x .seen) (a .b) in
     let most : c .most-of .result ≡ wantOf (a .m) (length (a .buf .now)) (c .before .before .kind-of .result) =
     c .most-of .ensures ∙ ap (λ (z : ℕ). wantOf (a .m) z (c .before .before .kind-of .result)) n in
@@ -57,24 +57,13 @@ returns-2 c =
     (most ∙ ap (wantOf (a .m) (length (a .buf .now))) (c .before .before .kind-of .ensures))
     (want-fits (a .m) (length (a .buf .now)) _ _ _ (p .pre .0) (c .before .base-of .ensures) most)
 
-digit-byte-requires : tie.Need-digit-byte-requires
-digit-byte-requires c κs = search needs
-
-same-length-3 : tie.Need-same-length-3
-same-length-3 c = search needs
-
-returns-3 : tie.Need-returns-3
-returns-3 c =
-    let p = c .before .before .before .before .before .before in let a = p .args in
-    digit-step (a .m) (a .buf .now) (a .x) (a .b) _ _ (p .pre .1) (omega arith) (c .before .before .digit-byte .ensures)
-
-pub line-byte-spec : {M : Type 1} → statement M
-line-byte-spec =
+pub head-byte-spec : {M : Type 1} → statement M
+head-byte-spec =
     tie.close
     (tie.spec
     add-at
     slice-write-buf
-    add-t13
+    add-t12
     same-length
     returns
     sub-kind-of
@@ -84,7 +73,4 @@ line-byte-spec =
     base-of-requires
     most-of-requires
     same-length-2
-    returns-2
-    digit-byte-requires
-    same-length-3
-    returns-3)
+    returns-2)
