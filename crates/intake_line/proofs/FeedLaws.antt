@@ -13,11 +13,12 @@ use Rattle.intake.specs.declared.Kind.{Kind}
 use Rattle.intake_line.specs.declared.Marks.{Marks}
 use Rattle.intake_line.specs.declared.Unfinished.{Unfinished}
 use Rattle.intake.specs.Reading.{Reading, isGoing}
-use Rattle.intake.specs.Says.{kindOf}
+use Rattle.intake.specs.Says.{kindOf, digit}
 use Rattle.intake.specs.Machine.{Digits, digitByte, Partial, lineByte, State, goingByte, byte, wantIn}
-use Rattle.intake_line.specs.Lent.{wantOf, partialIn, partOf, Room, DigitStep, Held, Others, LineStep, Feeding, PastHead, ValueFed, LineFed}
+use Rattle.intake_line.specs.Lent.{wantOf, partialIn, partOf, Room, valued, DigitStep, PairStep, Held, Others, LineStep, Feeding, PastHead, DigitsFed, ValueFed, LineFed}
 use Rattle.intake_line.specs.declared.Fed.{Fed}
 use Rattle.intake_line.proofs.HoldLaws.{digit-step}
+use Rattle.intake_line.proofs.StoreLaws.{first-half}
 
 -- the machine asks only how much is wanted of the line's own kind
 line-want : (want also : Kind → ℕ) (p : Partial) (b : ℕ) → ((k : Kind) → want k ≡ also k) → lineByte want p b ≡ lineByte also p b
@@ -95,18 +96,8 @@ feeding-then want before x piece from now y at after r end f g =
 
 -- ## The digits of a value
 
--- so far: where they go stands, and whatever the entry has, the reading is where these bytes put it
-pub record Digiting (before : List ℕ) (x : Unfinished) (piece : List ℕ) (from : ℕ) (now : List ℕ) (y : Unfinished) (at : ℕ) : Type 0 where
-  pub long : length now ≡ length before
-  pub room : Room (length now) y
-  pub full : 14 ≤ y .seen
-  pub least : from ≤ at
-  pub within : at ≤ length piece
-  pub counts : y .size ≤ x .size + (at - from)
-  pub fed : (m : Marks) → Held (wantOf m (length before)) before x → Feeding (wantOf m (length before)) before x piece from now y at
-
-pub digiting-start : (buf : List ℕ) (x : Unfinished) (piece : List ℕ) (from : ℕ) → PastHead (length buf) x (length piece) from → Digiting buf x piece from buf x from
-digiting-start buf x piece from h =
+pub digits-start : (buf : List ℕ) (x : Unfinished) (piece : List ℕ) (from : ℕ) → PastHead (length buf) x (length piece) from → DigitsFed buf x piece from buf x from
+digits-start buf x piece from h =
     record {
       long = refl;
       room = h .room;
@@ -118,10 +109,10 @@ digiting-start buf x piece from h =
     }
 
 module _ (before : List ℕ) (x : Unfinished) (piece : List ℕ) (from : ℕ) where
-  pub digiting-step : (now : List ℕ) (y : Unfinished) (at b : ℕ) (after : List ℕ) (r : Unfinished) → Digiting before x piece from now y at
+  pub digits-step : (now : List ℕ) (y : Unfinished) (at b : ℕ) (after : List ℕ) (r : Unfinished) → DigitsFed before x piece from now y at
       → PastHead (length before) x (length piece) from → at < length piece → b ≡ getD piece at 0 → (b ≡ 10 → ⊥) → DigitStep now y b after r
-      → Digiting before x piece from after r (at + 1)
-  digiting-step now y at b after r d p h e n s =
+      → DigitsFed before x piece from after r (at + 1)
+  digits-step now y at b after r d p h e n s =
       record {
         long = s .within .long ∙ d .long;
         room = record {
@@ -142,6 +133,23 @@ module _ (before : List ℕ) (x : Unfinished) (piece : List ℕ) (from : ℕ) wh
           let f : Feeding (wantOf m (length before)) before x piece from now y at = d .fed m g in
           step-at m (length now) (length before) now y b after r (f .long)
           (digit-step m now y b after r (held-at m (length before) (length now) now y (sym (f .long)) (f .held)) (d .full) s)
+
+  -- byte 10 is no digit
+  not-newline : (b d : ℕ) → d ≡ digit b → d < 16 → b ≡ 10 → ⊥
+  unfolding digit
+  not-newline b d e h n = omega (arith, e ∙ ap digit n)
+
+  pub pair-step : (now : List ℕ) (y : Unfinished) (at high low : ℕ) (after : List ℕ) (r : Unfinished) → DigitsFed before x piece from now y at
+      → PastHead (length before) x (length piece) from → at + 2 ≤ length piece → y .half ≡ 0 → high ≡ digit (getD piece at 0) → high < 16
+      → low ≡ digit (getD piece (at + 1) 0) → low < 16 → PairStep now y high low after r → DigitsFed before x piece from after r (at + 2)
+  pair-step now y at high low after r d p h z e i f j s =
+      let one : DigitsFed before x piece from now (valued y (high + 1) (y .size)) (at + 1) =
+      digits-step now y at _ now (valued y (high + 1) (y .size)) d p (omega arith) refl (not-newline _ high e i) (first-half now y _ (d .room) z high e i) in
+      subst (DigitsFed before x piece from after r) (two at)
+      (digits-step now (valued y (high + 1) (y .size)) (at + 1) _ after r one p (omega arith) refl (not-newline _ low f j) (s .second _ f))
+    where
+      two : (n : ℕ) → n + 1 + 1 ≡ n + 2
+      two n = omega arith
 
 -- ## A line's head, and then its value
 
@@ -165,3 +173,9 @@ module _ (m : Marks) (before : List ℕ) (x : Unfinished) (piece : List ℕ) (fr
             (subst (λ (n : ℕ). Feeding (wantOf m n) now y piece at after (r .line) (r .at)) (f .long) (g .fed));
         stop = g .stop;
       }
+
+-- digits two at a time, and then the others
+pub pairs-then : (before : List ℕ) (x : Unfinished) (piece : List ℕ) (from : ℕ) (now : List ℕ) (y : Unfinished) (at : ℕ) (after : List ℕ) (r : Fed)
+    → DigitsFed before x piece from now y at → ValueFed now y piece at after r → ValueFed before x piece from after r
+unfolding ValueFed
+pairs-then before x piece from now y at after r d v = λ m g. value-then m before x piece from now y at (d .fed m g) after r v

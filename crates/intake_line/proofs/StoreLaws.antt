@@ -1,6 +1,6 @@
 -- One more digit in the lent bytes. Assumes nothing.
 use Prim.Native.Nat.{ℕ, zero, suc, _+_, _-_, _*_, _≤_, _<_}
-use mathlib.Core.Path.{_≡_, refl, sym, ap, _∙_}
+use mathlib.Core.Path.{_≡_, refl, sym, ap, subst, _∙_}
 use mathlib.Core.List.{List, [], _∷_, _++_}
 use mathlib.Core.Bool.{Bool, true, false, cond}
 use native.Mathlib.Numerals.{add-one}
@@ -12,7 +12,7 @@ use borrow.Author.Tests.{eq-eqb, ne-eqb, lt-ltb, le-ltb}
 use Rattle.intake_line.specs.declared.Unfinished.{Unfinished}
 use Rattle.intake.specs.Says.{digit, isDigit}
 use Rattle.intake.specs.Machine.{Digits, broken, even, odd, store, digitByte}
-use Rattle.intake_line.specs.Lent.{keptIn, digitsIn, valued, Room, Within, DigitStep}
+use Rattle.intake_line.specs.Lent.{keptIn, digitsIn, valued, Room, Within, DigitStep, PairStep}
 
 module _ (b : ℕ) where
   is-digit : digit b < 16 → isDigit b ≡ true
@@ -125,3 +125,24 @@ module _ (buf : List ℕ) (x : Unfinished) (b : ℕ) where
           halves = omega arith;
           counts = omega arith;
         }
+
+-- ## A whole byte at once
+
+module _ (buf : List ℕ) (x : Unfinished) (high low : ℕ) (g : Room (length buf) x) (h : high < 16) (l : low < 16) where
+  half-room : Room (length buf) (valued x (high + 1) (x .size))
+  half-room = record { fits = g .fits; past = g .past; halves = omega arith; counts = g .counts }
+
+  back : high + 1 - 1 ≡ high
+  back = omega arith
+
+  pub pair-stores : x .size < x .most → PairStep buf x high low (set buf (x .base + x .size) (16 * high + low)) (valued x 0 (x .size + 1))
+  pair-stores k =
+      record {
+        second = λ b e. subst (λ (n : ℕ). DigitStep buf (valued x (high + 1) (x .size)) b (set buf (x .base + x .size) (16 * n + low)) (valued x 0 (x .size + 1))) back
+            (stores buf (valued x (high + 1) (x .size)) b half-room low e l (λ z. omega arith) (λ z. omega arith) k);
+        half = refl;
+      }
+
+  pub pair-counts : x .most ≤ x .size → PairStep buf x high low buf (valued x 0 (x .size + 1))
+  pair-counts k =
+      record { second = λ b e. counts-on buf (valued x (high + 1) (x .size)) b half-room low e l (λ z. omega arith) (λ z. omega arith) k; half = refl }

@@ -14,7 +14,7 @@ use Rattle.intake_line.specs.declared.Unfinished.{Unfinished}
 use Rattle.intake_line.specs.declared.Fed.{Fed}
 use Rattle.intake_line.specs.declared.Said.{Said}
 use Rattle.intake_line.specs.declared.Said.the-variants.{Opens, Closes, Skipped, Bad, Takes}
-use Rattle.intake.specs.Says.{headSize, kindOf, goodSize, wanted, Line, opens, closes, skipped, bad, takes, Value, holds, wrong, judge}
+use Rattle.intake.specs.Says.{headSize, digit, kindOf, goodSize, wanted, Line, opens, closes, skipped, bad, takes, Value, holds, wrong, judge}
 use Rattle.intake.specs.Machine.{Digits, broken, even, odd, digitByte, Partial, lineByte, lineEnd, State, byte, wantIn}
 use Rattle.intake.specs.Reading.{Reading, isGoing}
 
@@ -102,6 +102,11 @@ pub record DigitStep (before : List ℕ) (x : Unfinished) (b : ℕ) (after : Lis
   pub halves : r .half ≤ 17
   pub counts : r .size ≤ suc (x .size)
 
+-- two digits of a whole byte: from the first one on, what the second does
+pub record PairStep (before : List ℕ) (x : Unfinished) (high low : ℕ) (after : List ℕ) (r : Unfinished) : Type 0 where
+  pub second : (b : ℕ) → low ≡ digit b → DigitStep before (valued x (high + 1) (x .size)) b after r
+  pub half : r .half ≡ 0
+
 -- what holds of the line so far, where so much is wanted of each kind
 pub record Held (want : Kind → ℕ) (buf : List ℕ) (x : Unfinished) : Type 0 where
   pub heads : x .seen ≤ headSize
@@ -158,7 +163,17 @@ pub record PastHead (n : ℕ) (x : Unfinished) (bytes from : ℕ) : Type 0 where
   pub counts : x .size + (bytes - from) < maxCount
   pub within : from ≤ bytes
 
--- the same of a value's digits, whatever the entry has
+-- digits of a value read so far: where they go stands, and whatever the entry has, the reading is where these bytes put it
+pub record DigitsFed (before : List ℕ) (x : Unfinished) (piece : List ℕ) (from : ℕ) (after : List ℕ) (r : Unfinished) (at : ℕ) : Type 0 where
+  pub long : length after ≡ length before
+  pub room : Room (length after) r
+  pub full : headSize ≤ r .seen
+  pub least : from ≤ at
+  pub within : at ≤ length piece
+  pub counts : r .size ≤ x .size + (at - from)
+  pub fed : (m : Marks) → Held (wantOf m (length before)) before x → Feeding (wantOf m (length before)) before x piece from after r at
+
+-- up to the line's end, or the piece's, whatever the entry has
 unfoldable pub ValueFed : List ℕ → Unfinished → List ℕ → ℕ → List ℕ → Fed → Type 0
 ValueFed before x piece from after r =
     (m : Marks) → Held (wantOf m (length before)) before x → LineFed (wantOf m (length before)) before x piece from after r

@@ -8,7 +8,7 @@ ghost use Prim.Native.Nat.{ℕ, _+_, _-_, _≤_, _<_};
 ghost use lib.Dec.{eqb};
 ghost use lib.ListN.{length};
 ghost use Rattle.intake.specs.Says.{starts, named, digit, headSize, kindOf, goodSize};
-ghost use Rattle.intake_line.specs.Lent.{layoutAt, maxCount, baseOf, markOf, wantOf, newLine, folded, valued, Room, DigitStep, Held, LineStep, Feeds, PastHead, LineFed, ValueFed, isOther, HeadSaid, LineSaid};
+ghost use Rattle.intake_line.specs.Lent.{layoutAt, maxCount, baseOf, markOf, wantOf, newLine, folded, valued, Room, DigitStep, PairStep, Held, LineStep, Feeds, PastHead, DigitsFed, LineFed, ValueFed, isOther, HeadSaid, LineSaid};
 ghost use Rattle.intake_line.specs.Entry.{noMarks, marksWith, EntryStep, ReaderHeld, TurnTaken};
 
 // Where things stand in the lent bytes: the head of the unfinished line, and the attributes of the open entry.
@@ -294,8 +294,45 @@ pub fn head_byte(buf: &mut [u8], m: Marks, x: Unfinished, b: u8) -> Unfinished
     }
 }
 
-// The bytes of a piece after a line's head, up to the line's end.
-fn feed_value(buf: &mut [u8], line: Unfinished, piece: &[u8], from: usize) -> Fed
+// A whole byte of a value, of two digits: past what is wanted it is counted alone.
+fn put_pair(buf: &mut [u8], x: Unfinished, high: usize, low: usize) -> Unfinished
+    requires { ⌜ Room (length (now buf)) x × (x .half ≡ 0) × (high < 16) × (low < 16) ⌝ }
+    ensures { λ r. ⌜ PairStep (now (buf .entry)) x high low (now (buf .exit)) r ⌝ }
+{
+    let size = x.size;
+    if size < x.most {
+        let at = x.base + size;
+        buf[at] = (16 * high + low) as u8;
+        return valued(x, 0, size + 1);
+    }
+    valued(x, 0, size + 1)
+}
+
+// Whole bytes of a value: two digits at a time, as long as they are digits.
+fn feed_pairs(buf: &mut [u8], line: Unfinished, piece: &[u8], from: usize) -> Fed
+    requires { ⌜ PastHead (length (now buf)) line (length (now piece)) from × (line .half ≡ 0) ⌝ }
+    ensures { λ r. ⌜ DigitsFed (now (buf .entry)) line (now (piece .entry)) from (now (buf .exit)) (r .line) (r .at) ⌝ }
+{
+    let mut x = line;
+    let mut at = from;
+    while 2 <= piece.len() - at {
+        let next = at + 1;
+        let high = digit(piece[at]);
+        let low = digit(piece[next]);
+        if high == 16 {
+            return Fed { at: at, line: x };
+        }
+        if low == 16 {
+            return Fed { at: at, line: x };
+        }
+        x = put_pair(buf, x, high, low);
+        at += 2;
+    }
+    Fed { at: at, line: x }
+}
+
+// The digits of a value one by one, up to the line's end.
+fn feed_digits(buf: &mut [u8], line: Unfinished, piece: &[u8], from: usize) -> Fed
     requires { ⌜ PastHead (length (now buf)) line (length (now piece)) from ⌝ }
     ensures { λ r. ⌜ ValueFed (now (buf .entry)) line (now (piece .entry)) from (now (buf .exit)) r ⌝ }
 {
@@ -310,6 +347,20 @@ fn feed_value(buf: &mut [u8], line: Unfinished, piece: &[u8], from: usize) -> Fe
         at += 1;
     }
     Fed { at: at, line: x }
+}
+
+// The bytes of a piece after a line's head, up to the line's end.
+fn feed_value(buf: &mut [u8], line: Unfinished, piece: &[u8], from: usize) -> Fed
+    requires { ⌜ PastHead (length (now buf)) line (length (now piece)) from ⌝ }
+    ensures { λ r. ⌜ ValueFed (now (buf .entry)) line (now (piece .entry)) from (now (buf .exit)) r ⌝ }
+{
+    if line.half != 0 {
+        return feed_digits(buf, line, piece, from);
+    }
+    let pairs = feed_pairs(buf, line, piece, from);
+    let x = pairs.line;
+    let at = pairs.at;
+    feed_digits(buf, x, piece, at)
 }
 
 // The bytes of a piece up to the line's end.
