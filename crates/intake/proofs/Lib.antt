@@ -1,6 +1,8 @@
 pub mod HeadLaws
 pub mod DigitLaws
+pub mod HexLaws
 pub mod LineLaws
+pub mod TellLaws
 pub mod TwiceLaws
 pub mod Simulation
 pub mod RowLaws
