@@ -3,7 +3,10 @@ pub mod DigitLaws
 pub mod HexLaws
 pub mod LineLaws
 pub mod TellLaws
+pub mod EntryLaws
 pub mod TwiceLaws
 pub mod Simulation
 pub mod RowLaws
+pub mod GivenLaws
+pub mod FreshLaws
 pub mod Example

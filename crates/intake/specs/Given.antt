@@ -15,7 +15,7 @@ use Rattle.intake.specs.declared.Kind.the-variants.{Lov}
 use Rattle.intake.specs.Lines.{lines}
 use Rattle.intake.specs.Says.{fileWord, trustedWord, lovWord, fidWord, lmaWord, valueWord, nameAt, headSize, starts, named, hex, hexBytes, goodSize, lmaSelfAt, lmaSize, olderSize, takes, lineSays}
 use Rattle.intake.specs.Owners.{owning, afterLine, nextOwner}
-use Rattle.intake.specs.Reading.{Reading, outside, going, parentFrom, objectFrom, dumpReading}
+use Rattle.intake.specs.Reading.{Reading, outside, parentFrom, objectFrom, dumpReading}
 
 -- ## Lines
 
@@ -124,10 +124,10 @@ pub record RowsGiven (room : ℕ) (all : List (List ℕ)) (R S : Reading) : Type
   pub parents : (r : ℕ) → Becomes (GivenParent room (R .owners) all) (getD (R .parents) r []) (getD (S .parents) r [])
   pub objects : (r : ℕ) → Becomes (GivenObject (R .owners) all) (getD (R .objects) r []) (getD (S .objects) r [])
 
--- of every dump, read from its start
+-- of every dump, read from outside an entry
 unfoldable pub EveryRowGiven : Type 0
 EveryRowGiven =
-    (room : ℕ) (R : Reading) (dump : List ℕ) → R .entry ≡ outside → R .stop ≡ going → RowsGiven room (lines dump .complete) R (dumpReading room R dump)
+    (room : ℕ) (R : Reading) (dump : List ℕ) → R .entry ≡ outside → RowsGiven room (lines dump .complete) R (dumpReading room R dump)
 
 -- ## Fresh
 
@@ -141,7 +141,7 @@ pub record NotFresh (before after : List ℕ) : Type 0 where
 -- "nothing is fresh": no object row that a dump gave
 unfoldable pub NothingFresh : Type 0
 NothingFresh =
-    (room : ℕ) (R : Reading) (dump : List ℕ) → R .entry ≡ outside → R .stop ≡ going →
+    (room : ℕ) (R : Reading) (dump : List ℕ) → R .entry ≡ outside →
     (r : ℕ) → Becomes NotFresh (getD (R .objects) r []) (getD (dumpReading room R dump .objects) r [])
 
 -- ## Digits there and back
