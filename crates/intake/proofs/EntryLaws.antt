@@ -1,5 +1,5 @@
 -- The open entry holds what its lines spell. Assumes nothing.
-use Prim.Native.Nat.{ℕ, zero, suc, _+_}
+use Prim.Native.Nat.{ℕ, suc, _+_}
 use mathlib.Core.Path.{_≡_, refl, sym, ap, _∙_}
 use mathlib.Core.List.{List, [], _∷_, _++_, append-assoc, cons≢nil}
 use mathlib.Core.Bool.{Bool, true, false, cond, true≢false}
@@ -8,7 +8,7 @@ use native.Mathlib.Numerals.{add-one}
 use lib.ListN.{length, take}
 use Rattle.intake.specs.declared.Kind.{Kind}
 use Rattle.intake.specs.declared.Kind.the-variants.{Lov, Fid, Lma, Other}
-use Rattle.intake.specs.Says.{fileWord, lovWord, fidWord, lmaWord, starts, isEmpty, kindOf, goodSize, wanted}
+use Rattle.intake.specs.Says.{fileWord, starts, isEmpty, kindOf, goodSize, wanted}
 use Rattle.intake.specs.Reading.{Attribute, none, had, Entry, Open, outside, inside, has, attributeOf, withAttribute}
 use Rattle.intake.specs.Given.{names, naming, Gives, closings, shut}
 use Rattle.intake.proofs.TellLaws.{wordOf, isLov, isFid, isLma, names-lov, names-fid, names-lma, Taken}

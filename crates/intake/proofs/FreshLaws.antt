@@ -1,19 +1,17 @@
 -- No object that a dump gave is fresh. Assumes nothing.
-use Prim.Native.Nat.{ℕ, zero, suc, _+_, _-_, _≤_}
-use mathlib.Core.Path.{_≡_, refl, sym, ap, _∙_}
+use Prim.Native.Nat.{ℕ, _-_}
+use mathlib.Core.Path.{_≡_, ap, _∙_}
 use mathlib.Core.List.{List, [], _∷_, _++_}
-use mathlib.Core.Bool.{Bool, true, false, cond}
 use native.Mathlib.Omega.{arith}
 use lib.ListN.{length, take, drop, getD, length-append, length-drop}
 use lib.Seq.{length-take-le, getD-at}
-use lib.Dec.{eqb}
 use Rattle.wire.specs.Numbers.{bytes}
 use Rattle.wire.proofs.NumberLaws.{length-bytes}
 use Rattle.fid.specs.Fid.{fidSize}
-use Rattle.tables.specs.Bytes.{isUsed, freshAt, decodeObject, parseRow, parseObject}
+use Rattle.tables.specs.Bytes.{freshAt, decodeObject, parseRow, parseObject}
 use Rattle.intake.specs.Lines.{lines}
 use Rattle.intake.specs.Says.{lmaSelfAt}
-use Rattle.intake.specs.Reading.{Reading, objectFrom, dumpReading}
+use Rattle.intake.specs.Reading.{Reading, objectFrom}
 use Rattle.intake.specs.Given.{FidSize, sixteen, older, GivenObject, Becomes, stands, given, EveryRowGiven, NotFresh, NothingFresh}
 use Rattle.intake.proofs.GivenLaws.{object-used, every-row-given}
 
@@ -34,8 +32,8 @@ module _ (all : List (List ℕ)) (R : Reading) where
   not-fresh before after s =
       let long : length (drop lmaSelfAt (s .lma)) ≡ fidSize = length-drop lmaSelfAt (s .lma) ∙ ap (λ (n : ℕ). n - lmaSelfAt) (s .lma-whole) in
       let zeroed : getD after freshAt 0 ≡ 0 =
-          ap (λ (row : List ℕ). getD row freshAt 0) (s .row)
-          ∙ mark-zero (drop lmaSelfAt (s .lma)) (take fidSize (s .fid)) (s .uid) (s .gid) (s .index) long (claim-long (s .fid) (s .fid-whole)) in
+      ap (λ (row : List ℕ). getD row freshAt 0) (s .row)
+      ∙ mark-zero (drop lmaSelfAt (s .lma)) (take fidSize (s .fid)) (s .uid) (s .gid) (s .index) long (claim-long (s .fid) (s .fid-whole)) in
       record {
         mark = zeroed;
         object = decodeObject after;

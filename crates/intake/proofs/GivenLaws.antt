@@ -1,5 +1,5 @@
 -- Every row of a dump's tables stands, or an entry of the dump gave it. Assumes nothing.
-use Prim.Native.Nat.{ℕ, zero, suc, _+_, _≤_, _<_}
+use Prim.Native.Nat.{ℕ, suc, _+_, _≤_, _<_}
 use mathlib.Core.Path.{_≡_, refl, sym, ap, subst, _∙_}
 use mathlib.Core.List.{List, [], _∷_, _++_}
 use mathlib.Core.Bool.{Bool, true, false, cond, _&&_, _||_, true≢false}
@@ -12,12 +12,11 @@ use borrow.Author.Tests.{leb-true, ltb-true, eqb-true, eqb-false}
 use Rattle.wire.proofs.Both.{and-first, and-second}
 use Rattle.fid.specs.Fid.{fidSize}
 use Rattle.tables.specs.Bytes.{isUsed}
-use Rattle.intake.specs.declared.Kind.{Kind}
-use Rattle.intake.specs.declared.Kind.the-variants.{Lov, Fid, Lma, Other}
+use Rattle.intake.specs.declared.Kind.the-variants.{Lov, Fid, Lma}
 use Rattle.intake.specs.Lines.{lines}
 use Rattle.intake.specs.Says.{Line, opens, closes, skipped, bad, takes, lineSays, isEmpty, lmaSelfAt, lmaSize, goodSize, wanted}
 use Rattle.intake.specs.Owners.{Owning, noOwner, owning, Number, noNumber, number, decimal, afterSpace, third, second, first, untilLine, afterLine, nextOwner}
-use Rattle.intake.specs.Reading.{Attribute, none, had, Entry, Open, outside, inside, Stop, going, stopped, Reading, stopsAt, goesOn, has, attributeOf, withAttribute, firstUnused, parentFrom, objectFrom, filled, fills, withSelf, closesEntry, onLine, isGoing, takeLine, readLine, readAll, dumpReading}
+use Rattle.intake.specs.Reading.{Attribute, none, had, Entry, Open, outside, inside, Reading, stopsAt, goesOn, has, attributeOf, withAttribute, firstUnused, parentFrom, objectFrom, filled, fills, withSelf, closesEntry, onLine, isGoing, takeLine, readLine, readAll, dumpReading}
 use Rattle.intake.specs.Given.{closings, shut, EntryAt, ownersFrom, GivenParent, FidSize, sixteen, older, GivenObject, Becomes, stands, given, RowsGiven, EveryRowGiven}
 use Rattle.intake.proofs.RowLaws.{unused-at}
 use Rattle.intake.proofs.TellLaws.{Tells, tells}

@@ -1,5 +1,5 @@
 -- What a line says is what its text is: its name, its digits, their number. Assumes nothing.
-use Prim.Native.Nat.{ℕ, zero, suc, _+_}
+use Prim.Native.Nat.{ℕ}
 use mathlib.Core.Path.{_≡_, refl, sym, ap, subst, _∙_}
 use mathlib.Core.List.{List, [], _∷_, _++_}
 use mathlib.Core.Bool.{Bool, true, false, cond, _&&_, true≢false}
@@ -9,7 +9,7 @@ use borrow.Author.Tests.{eqb-true}
 use Rattle.wire.proofs.Both.{and-first, and-second, and-both}
 use Rattle.intake.specs.declared.Kind.{Kind}
 use Rattle.intake.specs.declared.Kind.the-variants.{Lov, Fid, Lma, Other}
-use Rattle.intake.specs.Says.{Value, Line, opens, closes, skipped, bad, takes, fileWord, trustedWord, lovWord, fidWord, lmaWord, valueWord, starts, named, Hex, noHex, hex, hexBytes, keep, kindOf, goodSize, sized, attribute, isEmpty, judge, wanted, saying, lineSays}
+use Rattle.intake.specs.Says.{Line, opens, closes, skipped, bad, takes, fileWord, trustedWord, lovWord, fidWord, lmaWord, valueWord, starts, named, Hex, noHex, hex, hexBytes, keep, kindOf, goodSize, sized, attribute, isEmpty, judge, wanted, saying, lineSays}
 use Rattle.intake.specs.Given.{Spells, names}
 
 -- ## Words
@@ -67,9 +67,9 @@ unfolding named
 seconds-differ a c d u w [] e h = absurd (true≢false (sym h))
 seconds-differ a c d u w (b ∷ l) e h =
     rw (heads-differ c d u w l e (and-second (eqb b a) (named (c ∷ u) l) h)) (no (eqb b a)) where
-  no : (t : Bool) → (t && false) ≡ false
-  no true = refl
-  no false = refl
+      no : (t : Bool) → (t && false) ≡ false
+      no true = refl
+      no false = refl
 
 -- the kind that the three tests of a name tell
 abbrev told : Bool → Bool → Bool → Bool → Kind

@@ -13,7 +13,7 @@ use Rattle.tables.specs.Records.{used}
 use Rattle.tables.specs.Bytes.{isUsed, freshAt, parseObject}
 use Rattle.intake.specs.declared.Kind.the-variants.{Lov}
 use Rattle.intake.specs.Lines.{lines}
-use Rattle.intake.specs.Says.{fileWord, trustedWord, lovWord, fidWord, lmaWord, valueWord, nameAt, headSize, starts, named, hex, hexBytes, goodSize, lmaSelfAt, lmaSize, olderSize, takes, lineSays}
+use Rattle.intake.specs.Says.{fileWord, trustedWord, lovWord, fidWord, lmaWord, valueWord, nameAt, headSize, starts, named, hex, hexBytes, lmaSelfAt, lmaSize, olderSize, takes, lineSays}
 use Rattle.intake.specs.Owners.{owning, afterLine, nextOwner}
 use Rattle.intake.specs.Reading.{Reading, outside, parentFrom, objectFrom, dumpReading}
 
