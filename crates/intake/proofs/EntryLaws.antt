@@ -11,7 +11,8 @@ use Rattle.intake.specs.declared.Kind.the-variants.{Lov, Fid, Lma, Other
 use Rattle.intake.specs.Says.{fileWord, starts, isEmpty, kindOf, goodSize, wanted}
 use Rattle.intake.specs.Reading.{Attribute, none, had, Entry, Open, outside, inside, has, attributeOf, withAttribute}
 use Rattle.intake.specs.Given.{names, naming, Gives, closings, shut}
-use Rattle.intake.proofs.TellLaws.{wordOf, isLov, isFid, isLma, names-lov, names-fid, names-lma, Taken}
+use Rattle.intake.proofs.NameLaws.{wordOf, isLov, isFid, isLma, names-lov, names-fid, names-lma}
+use Rattle.intake.proofs.TellLaws.{Taken}
 
 -- ## Lines added
 
@@ -83,7 +84,8 @@ module _ (room : ℕ) (k : Kind) (entry : List (List ℕ)) (l : List ℕ) where
   }
 
   -- the first line of this name
-  kept-first : (a : Attribute) (n : ℕ) (v : List ℕ) → has a ≡ false → names (wordOf k) l ≡ true → Kept room k entry a → Taken room k l n v → Had room k (entry ++ l ∷ []) n v
+  kept-first : (a : Attribute) (n : ℕ) (v : List ℕ) → has a ≡ false → names (wordOf k) l ≡ true → Kept room k entry a → Taken room k l n v
+      → Had room k (entry ++ l ∷ []) n v
   unfolding has
   kept-first none n v f h e t = record {
     value = t .value;
@@ -169,9 +171,12 @@ module _ (room : ℕ) (done : List (List ℕ)) (e : Entry) (o : Opened room done
       → Opened room (done ++ l ∷ []) (withAttribute k (had n v) e)
   unfolding attributeOf withAttribute goodSize
   takes-line Lov n v h a t =
-      grown (had n v) (e .fid) (e .lma) (kept-first room Lov (o .entry) l (e .lov) n v a (names-lov l ∙ ap isLov h) (o .lov) t) (no-fid (ap isFid h)) (no-lma (ap isLma h))
+      let new = kept-first room Lov (o .entry) l (e .lov) n v a (names-lov l ∙ ap isLov h) (o .lov) t in
+      grown (had n v) (e .fid) (e .lma) new (no-fid (ap isFid h)) (no-lma (ap isLma h))
   takes-line Fid n v h a t =
-      grown (e .lov) (had n v) (e .lma) (no-lov (ap isLov h)) (kept-first room Fid (o .entry) l (e .fid) n v a (names-fid l ∙ ap isFid h) (o .fid) t) (no-lma (ap isLma h))
+      let new = kept-first room Fid (o .entry) l (e .fid) n v a (names-fid l ∙ ap isFid h) (o .fid) t in
+      grown (e .lov) (had n v) (e .lma) (no-lov (ap isLov h)) new (no-lma (ap isLma h))
   takes-line Lma n v h a t =
-      grown (e .lov) (e .fid) (had n v) (no-lov (ap isLov h)) (no-fid (ap isFid h)) (kept-first room Lma (o .entry) l (e .lma) n v a (names-lma l ∙ ap isLma h) (o .lma) t)
+      let new = kept-first room Lma (o .entry) l (e .lma) n v a (names-lma l ∙ ap isLma h) (o .lma) t in
+      grown (e .lov) (e .fid) (had n v) (no-lov (ap isLov h)) (no-fid (ap isFid h)) new
   takes-line Other n v h a t = absurd (true≢false (sym (t .good)))

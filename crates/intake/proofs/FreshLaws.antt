@@ -13,7 +13,8 @@ use Rattle.intake.specs.Lines.{lines}
 use Rattle.intake.specs.Says.{lmaSelfAt}
 use Rattle.intake.specs.Reading.{Reading, objectFrom}
 use Rattle.intake.specs.Given.{FidSize, sixteen, older, GivenObject, Becomes, stands, given, EveryRowGiven, NotFresh, NothingFresh}
-use Rattle.intake.proofs.GivenLaws.{object-used, every-row-given}
+use Rattle.intake.proofs.FilledLaws.{object-used}
+use Rattle.intake.proofs.GivenLaws.{every-row-given}
 
 -- the parts of an object row fill it to the mark
 mark-zero : (self claim : List ℕ) (u g i : ℕ) → length self ≡ fidSize → length claim ≡ fidSize → getD (objectFrom self claim u g i) freshAt 0 ≡ 0

@@ -5,7 +5,7 @@ use mathlib.Core.List.{List, [], _∷_, _++_}
 use mathlib.Core.Bool.{Bool, true, false, cond}
 use native.Mathlib.Omega.{arith}
 use lib.ListN.{length, take}
-use lib.Dec.{ltb}
+use lib.Dec.{ltb, leb}
 use borrow.Author.Tests.{ltb-true, ltb-false, lt-ltb, le-leb, lt-leb}
 use Rattle.wire.specs.Numbers.{Bytes}
 use Rattle.wire.proofs.NumberLaws.{bytes-head, bytes-tail}
@@ -26,7 +26,9 @@ lower-back d h = go (ltb d 10) refl where
   go true e = decimal-back d (ltb-true d 10 e)
   go false e =
       let k : 10 ≤ d = ltb-false d 10 e in
-      rw (le-leb 48 (87 + d) (omega arith), lt-leb (87 + d) 57 (omega arith), le-leb 65 (87 + d) (omega arith), lt-leb (87 + d) 70 (omega arith), le-leb 97 (87 + d) (omega arith), le-leb (87 + d) 102 (omega arith))
+      let above : leb (87 + d) 70 ≡ false = lt-leb (87 + d) 70 (omega arith) in
+      let here : leb (87 + d) 102 ≡ true = le-leb (87 + d) 102 (omega arith) in
+      rw (le-leb 48 (87 + d) (omega arith), lt-leb (87 + d) 57 (omega arith), le-leb 65 (87 + d) (omega arith), above, le-leb 97 (87 + d) (omega arith), here)
       (omega arith)
 
 upper-back : (d : ℕ) → d < 16 → digit (upperDigit d) ≡ d
