@@ -36,10 +36,15 @@ unfolding restOf first
 first-rest after noNumber = refl
 first-rest after (number u l) = second-rest u after (afterSpace l)
 
--- "its next line as each entry closes": what is left is what follows that line
+-- what is left of the owners file is what follows the line that was read
+left : (o : List ℕ) → restOf (afterLine o) (nextOwner o) ≡ afterLine o
+unfolding nextOwner
+left o = first-rest (afterLine o) (decimal false 0 (untilLine o))
+
+-- "its next line as each entry closes"
 pub next-rest : (o : List ℕ) (u g i : ℕ) (rest : List ℕ) → nextOwner o ≡ owning u g i rest → rest ≡ afterLine o
-unfolding restOf nextOwner
-next-rest o u g i rest e = sym (ap (restOf (afterLine o)) e) ∙ first-rest (afterLine o) (decimal false 0 (untilLine o))
+unfolding restOf
+next-rest o u g i rest e = sym (ap (restOf (afterLine o)) e) ∙ left o
 
 -- ## A row that is given
 
