@@ -15,7 +15,7 @@ use Rattle.intake.specs.declared.Kind.the-variants.{Lov, Fid, Lma}
 use Rattle.intake.specs.Says.{lmaSelfAt, lmaSize, olderSize, goodSize, wanted}
 use Rattle.intake.specs.Owners.{Owning, noOwner, owning, afterLine, nextOwner}
 use Rattle.intake.specs.Reading.{Attribute, none, had, Entry, Reading, stopsAt, firstUnused, parentFrom, objectFrom, filled, fills, withSelf, closesEntry, isGoing}
-use Rattle.intake.specs.Given.{closings, EntryAt, ownersFrom, GivenParent, FidSize, sixteen, older, GivenObject, RowsGiven}
+use Rattle.intake.specs.Given.{closings, EntryAt, ownersFrom, ClosedEntry, GivenParent, FidSize, sixteen, older, GivenObject, RowsGiven}
 use Rattle.intake.proofs.TestLaws.{by-test}
 use Rattle.intake.proofs.EntryLaws.{closings-append, closings-full, closings-empty, shut-empty, Had, Kept, Opened, Stage}
 use Rattle.intake.proofs.FilledLaws.{next-rest, parent-used, object-used, fill}
@@ -27,6 +27,7 @@ pub record Goes (room : ℕ) (R : Reading) (done : List (List ℕ)) (S : Reading
   pub owners : S .owners ≡ ownersFrom (closings done) (R .owners)
   pub stage : Stage room done (S .entry)
 
+-- its rows, and where it goes on
 pub record After (room : ℕ) (all : List (List ℕ)) (R : Reading) (done : List (List ℕ)) (S : Reading) : Type 0 where
   pub rows : RowsGiven room all R S
   pub goes : isGoing (S .stop) ≡ true → Goes room R done S
@@ -63,9 +64,6 @@ module _ (room : ℕ) (all : List (List ℕ)) (R S : Reading) (line : ℕ) (done
   }
 
   module _ (u g i : ℕ) (rest : List ℕ) (x : nextOwner (S .owners) ≡ owning u g i rest) where
-    owner : nextOwner (ownersFrom (closings done) (R .owners)) ≡ owning u g i rest
-    owner = ap nextOwner (sym own) ∙ x
-
     -- the next entry's owner is on the next line
     moves-on : (parents objects : List (List ℕ)) → RowsGiven room all R (filled S line rest parents objects) → Closed (filled S line rest parents objects)
     unfolding filled ownersFrom
@@ -88,6 +86,21 @@ module _ (room : ℕ) (all : List (List ℕ)) (R S : Reading) (line : ℕ) (done
       unfolding wanted
       lma-kept = lma .kept ∙ take-all lmaSize (lma .value) (omega (arith, lma-long))
 
+      closed-entry : ClosedEntry (R .owners) all
+      closed-entry = record {
+        entry = o .entry;
+        n = closings done;
+        at = entry-at;
+        lma = lma .value;
+        has-lma = lma .gives;
+        lma-whole = lma-long;
+        uid = u;
+        gid = g;
+        index = i;
+        rest = rest;
+        owner = ap nextOwner (sym own) ∙ x;
+      }
+
       -- ### A parent
 
       module _ (n : ℕ) (v : List ℕ) (lov : Had room Lov (o .entry) n v) (nothing : Kept room Fid (o .entry) none) where
@@ -100,22 +113,13 @@ module _ (room : ℕ) (all : List (List ℕ)) (R S : Reading) (line : ℕ) (done
         layout-kept h = lov .kept ∙ take-all room (lov .value) (layout-fits h)
 
         parent-given : n ≤ room → (before : List ℕ) → GivenParent room (R .owners) all before (parentFrom (drop lmaSelfAt z) v u g before)
+        unfolding closed-entry
         parent-given h before = record {
-          entry = o .entry;
-          n = closings done;
-          at = entry-at;
+          from = closed-entry;
           layout = lov .value;
-          lma = lma .value;
           has-layout = lov .gives;
-          has-lma = lma .gives;
           no-fid = nothing;
-          lma-whole = lma-long;
           fits = layout-fits h;
-          uid = u;
-          gid = g;
-          index = i;
-          rest = rest;
-          owner = owner;
           row = rw (lma-kept, layout-kept h);
         }
 
@@ -151,22 +155,13 @@ module _ (room : ℕ) (all : List (List ℕ)) (R S : Reading) (line : ℕ) (done
         claim-kept = fid .kept
 
         object-given : (before : List ℕ) → GivenObject (R .owners) all before (objectFrom (drop lmaSelfAt z) v u g i)
+        unfolding closed-entry
         object-given before = record {
-          entry = o .entry;
-          n = closings done;
-          at = entry-at;
+          from = closed-entry;
           fid = fid .value;
-          lma = lma .value;
           has-fid = fid .gives;
-          has-lma = lma .gives;
           no-layout = nothing;
           fid-whole = fid-long;
-          lma-whole = lma-long;
-          uid = u;
-          gid = g;
-          index = i;
-          rest = rest;
-          owner = owner;
           row = rw (lma-kept, claim-kept);
         }
 

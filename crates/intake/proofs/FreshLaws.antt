@@ -31,10 +31,11 @@ module _ (all : List (List ℕ)) (R : Reading) where
   not-fresh : (before after : List ℕ) → GivenObject (R .owners) all before after → NotFresh before after
   unfolding parseObject parseRow decodeObject
   not-fresh before after s =
-      let long : length (drop lmaSelfAt (s .lma)) ≡ fidSize = length-drop lmaSelfAt (s .lma) ∙ ap (λ (n : ℕ). n - lmaSelfAt) (s .lma-whole) in
-      let zeroed : getD after freshAt 0 ≡ 0 =
-      ap (λ (row : List ℕ). getD row freshAt 0) (s .row)
-      ∙ mark-zero (drop lmaSelfAt (s .lma)) (take fidSize (s .fid)) (s .uid) (s .gid) (s .index) long (claim-long (s .fid) (s .fid-whole)) in
+      let c = s .from in
+      let self : List ℕ = drop lmaSelfAt (c .lma) in
+      let long : length self ≡ fidSize = length-drop lmaSelfAt (c .lma) ∙ ap (λ (n : ℕ). n - lmaSelfAt) (c .lma-whole) in
+      let here = mark-zero self (take fidSize (s .fid)) (c .uid) (c .gid) (c .index) long (claim-long (s .fid) (s .fid-whole)) in
+      let zeroed : getD after freshAt 0 ≡ 0 = ap (λ (row : List ℕ). getD row freshAt 0) (s .row) ∙ here in
       record {
         mark = zeroed;
         object = decodeObject after;

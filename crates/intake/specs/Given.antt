@@ -70,56 +70,52 @@ unfoldable pub ownersFrom : ℕ → List ℕ → List ℕ
 ownersFrom zero owners = owners
 ownersFrom (suc n) owners = afterLine (ownersFrom n owners)
 
--- ## Rows
-
--- a parent's row: the self FID of its lma, its layout whole, "`uid gid index` .. its next line as each entry closes"
-pub record GivenParent (room : ℕ) (owners : List ℕ) (all : List (List ℕ)) (before after : List ℕ) : Type 0 where
+-- an entry that closed, with its lma whole and its line of the owners file: "`uid gid index` in decimal, its next line as each entry closes"
+pub record ClosedEntry (owners : List ℕ) (all : List (List ℕ)) : Type 0 where
   pub entry : List (List ℕ)
   pub n : ℕ
   pub at : EntryAt all entry n
-  pub layout : List ℕ
   pub lma : List ℕ
-  pub has-layout : Gives entry lovWord layout
   pub has-lma : Gives entry lmaWord lma
-  pub no-fid : naming fidWord entry ≡ []
   pub lma-whole : length lma ≡ lmaSize
-  pub fits : length layout ≤ room
   pub uid : ℕ
   pub gid : ℕ
   pub index : ℕ
   pub rest : List ℕ
   pub owner : nextOwner (ownersFrom n owners) ≡ owning uid gid index rest
-  pub row : after ≡ parentFrom (drop lmaSelfAt lma) layout uid gid before
 
--- "`trusted.fid` (16 bytes, or the older 32, of which only the parent counts)"
+-- ## Rows
+
+-- a parent's row: the self FID of its lma, its owner, and its layout whole; the entry names no `trusted.fid`
+pub record GivenParent (room : ℕ) (owners : List ℕ) (all : List (List ℕ)) (before after : List ℕ) : Type 0 where
+  pub from : ClosedEntry owners all
+  pub layout : List ℕ
+  pub has-layout : Gives (from .entry) lovWord layout
+  pub no-fid : naming fidWord (from .entry) ≡ []
+  pub fits : length layout ≤ room
+  pub row : after ≡ parentFrom (drop lmaSelfAt (from .lma)) layout (from .uid) (from .gid) before
+
+-- "`trusted.fid` (16 bytes, or the older 32 ..)"
 pub data FidSize (size : ℕ) : Type 0 where
   sixteen : size ≡ fidSize → FidSize size
   older : size ≡ olderSize → FidSize size
 
--- an object's row: the self FID of its lma, the first 16 bytes of its fid as the claim, the owner and the OST index of its owners line
+-- an object's row: the self FID of its lma, its owner and OST index, and as the claim the first 16 bytes of its fid, "of which only the parent counts"; the
+-- entry names no `trusted.lov`
 pub record GivenObject (owners : List ℕ) (all : List (List ℕ)) (before after : List ℕ) : Type 0 where
-  pub entry : List (List ℕ)
-  pub n : ℕ
-  pub at : EntryAt all entry n
+  pub from : ClosedEntry owners all
   pub fid : List ℕ
-  pub lma : List ℕ
-  pub has-fid : Gives entry fidWord fid
-  pub has-lma : Gives entry lmaWord lma
-  pub no-layout : naming lovWord entry ≡ []
+  pub has-fid : Gives (from .entry) fidWord fid
+  pub no-layout : naming lovWord (from .entry) ≡ []
   pub fid-whole : FidSize (length fid)
-  pub lma-whole : length lma ≡ lmaSize
-  pub uid : ℕ
-  pub gid : ℕ
-  pub index : ℕ
-  pub rest : List ℕ
-  pub owner : nextOwner (ownersFrom n owners) ≡ owning uid gid index rest
-  pub row : after ≡ objectFrom (drop lmaSelfAt lma) (take fidSize fid) uid gid index
+  pub row : after ≡ objectFrom (drop lmaSelfAt (from .lma)) (take fidSize fid) (from .uid) (from .gid) (from .index)
 
 -- a row before and after a dump: it stands, or it was unused and came to be so
 pub data Becomes (So : List ℕ → List ℕ → Type 0) (before after : List ℕ) : Type 0 where
   stands : after ≡ before → Becomes So before after
   given : isUsed before ≡ false → So before after → Becomes So before after
 
+-- each row of both tables
 pub record RowsGiven (room : ℕ) (all : List (List ℕ)) (R S : Reading) : Type 0 where
   pub parents : (r : ℕ) → Becomes (GivenParent room (R .owners) all) (getD (R .parents) r []) (getD (S .parents) r [])
   pub objects : (r : ℕ) → Becomes (GivenObject (R .owners) all) (getD (R .objects) r []) (getD (S .objects) r [])
