@@ -1,7 +1,16 @@
 pub mod HeadLaws
 pub mod DigitLaws
+pub mod HexLaws
 pub mod LineLaws
+pub mod TestLaws
+pub mod NameLaws
+pub mod TellLaws
+pub mod EntryLaws
 pub mod TwiceLaws
 pub mod Simulation
 pub mod RowLaws
+pub mod FilledLaws
+pub mod ClosedLaws
+pub mod GivenLaws
+pub mod FreshLaws
 pub mod Example

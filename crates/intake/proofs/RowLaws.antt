@@ -24,7 +24,7 @@ then : (a b c : List (List ℕ)) → Stands a b → Stands b c → Stands a c
 then a b c p q = record { long = q .long ∙ p .long; rows = λ r u. q .rows r (ap isUsed (p .rows r u) ∙ u) ∙ p .rows r u }
 
 -- the first unused row isn't used
-unused-at : (l : List (List ℕ)) → firstUnused l < length l → isUsed (getD l (firstUnused l) []) ≡ false
+pub unused-at : (l : List (List ℕ)) → firstUnused l < length l → isUsed (getD l (firstUnused l) []) ≡ false
 unfolding firstUnused
 unused-at [] h = absurd (omega arith)
 unused-at (row ∷ l) h = go (isUsed row) refl h (unused-at l) where

@@ -4,3 +4,4 @@ pub mod Owners
 pub mod Reading
 pub mod Machine
 pub mod Rows
+pub mod Given
