@@ -186,7 +186,7 @@ module _ (room : ℕ) (all : List (List ℕ)) (R S : Reading) (line : ℕ) (done
 
   self-given : (x : Owning) → nextOwner (S .owners) ≡ x → (a : Attribute) → Kept room Lma (o .entry) a → Closed (withSelf room S line e x a)
   unfolding withSelf
-  self-given noOwner h a k = refused 33
+  self-given noOwner h a k = refused _
   self-given (owning u g i rest) h none k = refused 35
   self-given (owning u g i rest) h (had m z) k = fills-given u g i rest h m z k (e .lov) (e .fid) (o .lov) (o .fid)
 

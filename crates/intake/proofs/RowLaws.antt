@@ -71,7 +71,7 @@ module _ (room : ℕ) (R : Reading) (line : ℕ) where
 
   self-stand : (e : Entry) (x : Owning) (a : Attribute) → RowsStand R (withSelf room R line e x a)
   unfolding withSelf
-  self-stand e noOwner a = stopped-stand 33
+  self-stand e noOwner a = stopped-stand _
   self-stand e (owning u g i owners) none = stopped-stand 35
   self-stand e (owning u g i owners) (had n v) = fills-stand _ u g i owners (e .lov) (e .fid)
 

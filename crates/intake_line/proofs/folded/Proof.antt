@@ -1,4 +1,7 @@
 use borrow.Author.Needs.{needs}
+use Prim.Native.Nat.{_+_}
+use mathlib.Core.Path.{sym, ap}
+use mathlib.Core.Bool.{Bool, cond}
 use borrow.Author.Tests.{lt-ltb, le-ltb}
 use Rattle.intake_line.specs.Lent.{folded}
 use Rattle.intake_line.proofs.folded.Statement.{statement}
@@ -9,11 +12,11 @@ add-result c = search needs
 
 returns : tie.Need-returns
 unfolding folded
-returns c = rw (lt-ltb _ 97 (c .if1 .taken))
+returns c = let v = c .before .args .v in sym (ap (λ (t : Bool). cond t (v + 32) v) (lt-ltb v 97 (c .if1 .taken)))
 
 returns-2 : tie.Need-returns-2
 unfolding folded
-returns-2 c = rw (le-ltb _ 97 (c .if1 .left))
+returns-2 c = let v = c .before .args .v in sym (ap (λ (t : Bool). cond t (v + 32) v) (le-ltb v 97 (c .if1 .left)))
 
 pub folded-spec : {M : Type 1} → statement M
 folded-spec = tie.close (tie.spec add-result returns returns-2)

@@ -1,5 +1,7 @@
 use borrow.Author.Needs.{needs}
 use native.Mathlib.Omega.{arith}
+use mathlib.Core.Path.{sym, subst}
+use Rattle.intake_line.specs.Lent.{PairStep}
 use Rattle.intake_line.proofs.StoreLaws.{pair-stores, pair-counts}
 use Rattle.intake_line.proofs.put_pair.Statement.{statement}
 use Rattle.intake_line.proofs.put_pair.Tie as tie
@@ -31,7 +33,7 @@ same-length c = search needs
 returns : tie.Need-returns
 returns c =
     let p = c .before .before .before .before .before in let a = p .args in
-    rw (c .valued .ensures) (pair-stores (a .buf .now) (a .x) (a .high) (a .low) (p .pre .0) (p .pre .2) (p .pre .3) (omega arith))
+    subst (PairStep (a .buf .now) (a .x) (a .high) (a .low) _) (sym (c .valued .ensures)) (pair-stores (a .buf .now) (a .x) (a .high) (a .low) (p .pre .0) (p .pre .2) (p .pre .3) (omega arith))
 
 add-valued-2 : tie.Need-add-valued-2
 add-valued-2 c = search needs
@@ -42,7 +44,7 @@ valued-requires-2 c κs = search needs
 returns-2 : tie.Need-returns-2
 returns-2 c =
     let p = c .before .before .before .before in let a = p .args in
-    rw (c .valued2 .ensures) (pair-counts (a .buf .now) (a .x) (a .high) (a .low) (p .pre .0) (p .pre .2) (p .pre .3) (omega arith))
+    subst (PairStep (a .buf .now) (a .x) (a .high) (a .low) _) (sym (c .valued2 .ensures)) (pair-counts (a .buf .now) (a .x) (a .high) (a .low) (p .pre .0) (p .pre .2) (p .pre .3) (omega arith))
 
 pub put-pair-spec : {M : Type 1} → statement M
 put-pair-spec =
