@@ -1,0 +1,5 @@
+pub mod KeptLaws
+pub mod MarkLaws
+pub mod LentLaws
+pub mod WholeLaws
+pub mod EveryCut
