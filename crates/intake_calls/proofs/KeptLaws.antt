@@ -1,15 +1,15 @@
 -- What is kept of a value is at most what is wanted of its kind, byte by byte. Assumes nothing.
 use Prim.Native.Nat.{ℕ, suc, _+_, _*_, _≤_, _<_}
-use mathlib.Core.Path.{_≡_, refl, sym, ap, subst, _∙_}
+use mathlib.Core.Path.{_≡_, refl}
 use mathlib.Core.List.{List, [], _∷_, _++_}
 use mathlib.Core.Bool.{Bool, true, false, cond}
 use native.Mathlib.Omega.{arith}
-use lib.ListN.{length, take, drop, length-append}
-use lib.Dec.{ltb, eqb}
+use lib.ListN.{length, drop, length-append}
+use lib.Dec.{ltb}
 use borrow.Author.Tests.{ltb-true, ltb-false}
 use Rattle.intake.specs.declared.Kind.{Kind}
 use Rattle.intake.specs.declared.Kind.the-variants.{Lov, Fid, Lma, Other}
-use Rattle.intake.specs.Says.{Value, wrong, holds, Line, opens, closes, skipped, bad, takes, starts, isDigit, digit, kindOf, goodSize, sized, attribute, isEmpty, judge, wanted, fileWord, trustedWord, valueWord, markAt}
+use Rattle.intake.specs.Says.{Line, opens, closes, skipped, bad, takes, starts, isDigit, digit, kindOf, goodSize, sized, attribute, isEmpty, judge, wanted, fileWord, trustedWord, valueWord}
 use Rattle.intake.specs.Reading.{Attribute, none, had, Entry, Open, outside, inside, has, attributeOf, withAttribute}
 use Rattle.intake.specs.Machine.{Digits, broken, even, odd, store, digitByte, valueOf, Partial, fresh, lineByte, lineEnd, wantIn}
 

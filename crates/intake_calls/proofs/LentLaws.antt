@@ -1,5 +1,5 @@
 -- What the lent bytes keep of each value is at most what is wanted of its kind. Assumes nothing.
-use Prim.Native.Nat.{ℕ, zero, suc, _-_, _≤_, _<_}
+use Prim.Native.Nat.{ℕ, zero, suc, _-_, _≤_}
 use mathlib.Core.Path.{_≡_, refl, ap, subst}
 use mathlib.Core.List.{List, [], _∷_}
 use mathlib.Core.Bool.{Bool, true, false, cond}
@@ -58,7 +58,8 @@ few-open s from m e = go (eqb from 0) where
 
 -- ## The unfinished line
 
-few-digits : (s : List ℕ) (x : Unfinished) → (length (keptDigits (digitsIn s x)) ≤ counted (digitsIn s x)) × (length (keptDigits (digitsIn s x)) ≤ length (keptIn s x))
+few-digits : (s : List ℕ) (x : Unfinished)
+    → (length (keptDigits (digitsIn s x)) ≤ counted (digitsIn s x)) × (length (keptDigits (digitsIn s x)) ≤ length (keptIn s x))
 unfolding digitsIn keptDigits counted keptIn
 few-digits s x = go (eqb (x .half) 0) (eqb (x .half) 17) where
   v : List ℕ

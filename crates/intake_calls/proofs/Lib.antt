@@ -2,4 +2,5 @@ pub mod KeptLaws
 pub mod MarkLaws
 pub mod LentLaws
 pub mod WholeLaws
+pub mod CallLaws
 pub mod EveryCut

@@ -1,7 +1,7 @@
 -- Marks stay good: a row that is filled is marked used and isn't fresh, the other rows stay. Assumes nothing.
-use Prim.Native.Nat.{ℕ, zero, suc, _+_, _≤_, _<_}
-use mathlib.Core.Path.{_≡_, refl, sym, ap, subst, _∙_}
-use mathlib.Core.List.{List, [], _∷_, _++_, foldl}
+use Prim.Native.Nat.{ℕ, zero, suc, _≤_}
+use mathlib.Core.Path.{_≡_, refl, ap}
+use mathlib.Core.List.{List, [], _∷_, _++_}
 use mathlib.Core.Bool.{Bool, true, false, cond, _&&_}
 use native.Mathlib.Omega.{arith}
 use lib.ListN.{length, drop, set, getD, length-append, length-drop, length-set}
@@ -64,11 +64,25 @@ module _ (room : ℕ) where
   module _ (R : Reading) (m : Marked R) (line : ℕ) where
     marked-stop : (q : ℕ) → Marked (stopsAt R q line)
     unfolding stopsAt
-    marked-stop q = record { entry = m .entry; mostParents = m .mostParents; mostObjects = m .mostObjects; parents = m .parents; objects = m .objects; fresh = m .fresh }
+    marked-stop q = record {
+      entry = m .entry;
+      mostParents = m .mostParents;
+      mostObjects = m .mostObjects;
+      parents = m .parents;
+      objects = m .objects;
+      fresh = m .fresh;
+    }
 
     marked-on : (e : Open) → FewOpen room e → Marked (goesOn R line e)
     unfolding goesOn
-    marked-on e f = record { entry = f; mostParents = m .mostParents; mostObjects = m .mostObjects; parents = m .parents; objects = m .objects; fresh = m .fresh }
+    marked-on e f = record {
+      entry = f;
+      mostParents = m .mostParents;
+      mostObjects = m .mostObjects;
+      parents = m .parents;
+      objects = m .objects;
+      fresh = m .fresh;
+    }
 
     marked-fills : (self : List ℕ) (u g i : ℕ) (owners : List ℕ) (a b : Attribute) → length self ≤ 16 → length (keptOf b) ≤ 16
         → Marked (fills room R line self u g i owners a b)
@@ -145,7 +159,8 @@ module _ (room : ℕ) where
     next = onLine room R (suc (R .count)) (R .entry) (lineEnd (S .line))
 
     go : (t u : Bool)
-        → MarkedState (cond t (cond u (record { reading = cond t next R; line = fresh }) (record { reading = R; line = lineByte (wantIn room (R .entry)) (S .line) b })) S)
+        → MarkedState (cond t (cond u (record { reading = cond t next R; line = fresh })
+        (record { reading = R; line = lineByte (wantIn room (R .entry)) (S .line) b })) S)
     go true true = record {
       reading = marked-line R (m .reading) (suc (R .count)) (R .entry) (m .reading .entry) (lineEnd (S .line)) (few-said room (S .line) (m .line));
       line = few-fresh room;

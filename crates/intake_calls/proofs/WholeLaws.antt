@@ -1,14 +1,14 @@
 -- Whole tables stay whole, whatever is fed. Assumes nothing.
 use Prim.Native.Nat.{ℕ, zero, suc, _+_, _*_, _/_, _≤_}
 use mathlib.Core.Path.{_≡_, refl, sym, ap, subst, _∙_}
-use mathlib.Core.List.{List, [], _∷_}
-use mathlib.Core.Bool.{Bool, true, false, cond, _&&_}
+use mathlib.Core.List.{List}
+use mathlib.Core.Bool.{Bool, true, false, _&&_}
 use native.Mathlib.Nat.{mul-suc, mul-zero}
 use native.Mathlib.Omega.{arith}
 use lib.ListN.{length, drop, length-append, length-drop}
 use lib.Seq.{length-take-le}
 use lib.Dec.{leb, eqb}
-use borrow.Author.Tests.{eq-eqb, ne-eqb, eqb-true, eqb-false, le-leb, leb-true}
+use borrow.Author.Tests.{eq-eqb, eqb-true, le-leb, leb-true}
 use Rattle.wire.specs.Rows.{rows}
 use Rattle.wire.proofs.Both.{and-first, and-second, and-both}
 use Rattle.wire.proofs.RowLaws.{rows-length}
@@ -19,12 +19,13 @@ use Rattle.intake_feed.specs.Piece.{machineOf, KeptHeld}
 use Rattle.intake_feed.specs.State.{keptOf, goodState, machineIn}
 use Rattle.intake_feed.specs.Feed.{stateStands, feedRefusal, stopNumber, stopLine, fedMachine, fedAnswer, fedLine, fedTable, Fed, PieceFed}
 use Rattle.intake_feed.proofs.TestLaws.{state-holds}
-use Rattle.intake_feed.proofs.FedLaws.{Passed, passed}
+use Rattle.intake_feed.proofs.FedLaws.{passed}
 use Rattle.intake_calls.proofs.LentLaws.{few-open, few-line}
 use Rattle.intake_calls.proofs.MarkLaws.{Marked, MarkedState, marked-feed}
 
 -- ## Whole rows
 
+-- rows within a list, one after another
 length-joined : (size n : ℕ) (l : List ℕ) → size * n ≤ length l → length (join (rows size n l)) ≡ size * n
 unfolding join rows
 length-joined size zero l h = rw mul-zero
@@ -78,9 +79,11 @@ marks-objects : (l : List ℕ) → objectsWhole l ≡ true
 unfolding objectsWhole
 marks-objects l w =
     let f : (wholeRows objectSize maxObjects l && all usedMark (objectRows l)) ≡ true =
-    and-first (wholeRows objectSize maxObjects l && all usedMark (objectRows l)) (all (whenUsed freshMark) (objectRows l)) w in
-    (and-first (wholeRows objectSize maxObjects l) (all usedMark (objectRows l)) f, and-second (wholeRows objectSize maxObjects l) (all usedMark (objectRows l)) f,
-    and-second (wholeRows objectSize maxObjects l && all usedMark (objectRows l)) (all (whenUsed freshMark) (objectRows l)) w)
+    and-first (wholeRows objectSize maxObjects l && all usedMark (objectRows l)) (all (whenUsed freshMark) (objectRows l)) w in (
+      and-first (wholeRows objectSize maxObjects l) (all usedMark (objectRows l)) f,
+      and-second (wholeRows objectSize maxObjects l) (all usedMark (objectRows l)) f,
+      and-second (wholeRows objectSize maxObjects l && all usedMark (objectRows l)) (all (whenUsed freshMark) (objectRows l)) w,
+    )
 
 most-objects : (l : List ℕ) → wholeRows objectSize maxObjects l ≡ true → length (objectRows l) ≤ maxObjects
 unfolding wholeRows objectRows
@@ -90,7 +93,9 @@ most-objects l w =
 
 -- ## A call
 
-marked-begin : (s file p o : List ℕ) → KeptHeld s file (keptOf s) → parentsWhole p ≡ true → objectsWhole o ≡ true → MarkedState layoutRoom (machineIn s file p o)
+-- a state that is held stands for a reading that keeps no more than is wanted
+marked-begin : (s file p o : List ℕ) → KeptHeld s file (keptOf s) → parentsWhole p ≡ true → objectsWhole o ≡ true
+    → MarkedState layoutRoom (machineIn s file p o)
 unfolding machineIn machineOf
 marked-begin s file p o h w v =
     let k = keptOf s in
@@ -107,6 +112,7 @@ marked-begin s file p o h w v =
       line = few-line s (k .reader .from) (k .reader .marks) (k .reader .line) (h .size) (h .held .marked) (h .held .held);
     }
 
+-- the machine's rows are the table's
 pub rows-are : (s file p o : List ℕ) (S : State) → machineIn s file p o ≡ S → (parentRows p ≡ S .reading .parents) × (objectRows o ≡ S .reading .objects)
 unfolding machineIn machineOf
 rows-are s file p o S e = (ap (λ (T : State). T .reading .parents) e, ap (λ (T : State). T .reading .objects) e)
@@ -135,9 +141,10 @@ module _ (s piece file p o out s′ p′ o′ out′ : List ℕ) (r : ℕ) where
         (leb-true (keptOf s .taken) (length file) (and-second (goodState s) (leb (keptOf s .taken) (length file)) g)) in
         let S : State = feed layoutRoom (machineIn s file p o) piece in
         let m : Marked layoutRoom (S .reading) = marked-feed layoutRoom (machineIn s file p o) piece (marked-begin s file p o h w v) .reading in
-        let e = rows-are s′ file p′ o′ S (t .machine) in
-        (whole-parents p′ (t .parents ∙ ap join (sym (e .0))) (rw (e .0) (m .mostParents)) (rw (e .0) (m .parents)),
-        whole-objects o′ (t .objects ∙ ap join (sym (e .1))) (rw (e .1) (m .mostObjects)) (rw (e .1) (m .objects)) (rw (e .1) (m .fresh)))
+        let e = rows-are s′ file p′ o′ S (t .machine) in (
+          whole-parents p′ (t .parents ∙ ap join (sym (e .0))) (rw (e .0) (m .mostParents)) (rw (e .0) (m .parents)),
+          whole-objects o′ (t .objects ∙ ap join (sym (e .1))) (rw (e .1) (m .mostObjects)) (rw (e .1) (m .objects)) (rw (e .1) (m .fresh)),
+        )
 
     -- THE LAW: of every call, refused or not
     pub whole-stays : PieceFed s piece file p o out s′ p′ o′ out′ r → (parentsWhole p′ ≡ true) × (objectsWhole o′ ≡ true)

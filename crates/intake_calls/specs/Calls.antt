@@ -1,5 +1,5 @@
--- "Input arrives in pieces of at most 64 KiB .. and cutting it anywhere gives the same tables": what calls of `feed` one after another come to. Document 02,
--- 2026-03.
+-- What calls of `feed` one after another come to. Document 02, 2026-03: "Input arrives in pieces of at most 64 KiB, else 11, and cutting it anywhere gives
+-- the same tables".
 use Prim.Native.Nat.{ℕ, _≤_}
 use mathlib.Core.Path.{_≡_}
 use mathlib.Core.List.{List, [], _∷_}
@@ -57,7 +57,7 @@ EveryCut =
     (file : List ℕ) (cut : List (List ℕ)) (p o out s′ p′ o′ out′ : List ℕ) (r′ : ℕ) → Lent cut p o out
     → Calls file cut zeroState p o out 0 s′ p′ o′ out′ r′ → CutAnywhere file cut p o out s′ p′ o′ out′ r′
 
--- "After 33 to 37 every further call gives the same answer and line and changes nothing": what calls leave of a reading that has stopped
+-- 33 to 37 "stop the reading": every further call gives the same answer and line, and leaves state and tables as they are
 pub record NothingAfter (s p o out : List ℕ) (r : ℕ) (s′ p′ o′ out′ : List ℕ) (r′ : ℕ) : Type 0 where
   pub state : s′ ≡ s
   pub parents : p′ ≡ p
@@ -65,7 +65,7 @@ pub record NothingAfter (s p o out : List ℕ) (r : ℕ) (s′ p′ o′ out′ 
   pub line : out′ ≡ out
   pub answer : r′ ≡ r
 
--- of a cut that came to 33 to 37, and of any short pieces fed after it, however many
+-- of calls that came to such a stop, and of any short pieces fed after them, however many
 unfoldable pub NothingAfterStop : Type 0
 NothingAfterStop =
     (file : List ℕ) (cut more : List (List ℕ)) (p o out s₁ p₁ o₁ out₁ : List ℕ) (r₁ : ℕ) (s₂ p₂ o₂ out₂ : List ℕ) (r₂ : ℕ) → Lent cut p o out

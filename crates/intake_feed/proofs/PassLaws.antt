@@ -1,12 +1,12 @@
 -- A state that is held and stored passes its own test while its counts do. Assumes nothing.
-use Prim.Native.Nat.{ℕ, _+_, _≤_, _<_}
-use mathlib.Core.Path.{_≡_, refl, sym, ap, subst, _∙_}
+use Prim.Native.Nat.{ℕ, _≤_}
+use mathlib.Core.Path.{_≡_, refl, ap, _∙_}
 use mathlib.Core.List.{List}
 use mathlib.Core.Bool.{Bool, true, false, cond, _&&_}
 use native.Mathlib.Omega.{arith}
 use lib.ListN.{length, take, drop}
 use lib.Dec.{eqb, leb, ltb}
-use borrow.Author.Tests.{eq-eqb, ne-eqb, eqb-true, eqb-false, le-leb}
+use borrow.Author.Tests.{eq-eqb, eqb-true, eqb-false, le-leb}
 use Rattle.wire.proofs.Both.{and-both}
 use Rattle.intake.specs.Says.{kindOf}
 use Rattle.intake.specs.declared.Kind.{Kind}
@@ -114,7 +114,8 @@ module _ (s : List ℕ) (k : Kept) (s′ : List ℕ) (t : Stored s k s′) where
       L = lineIn s′ (k .reader .marks) (k .reader .line .seen) (k .reader .line .half) (k .reader .line .size)
 
   -- THE LAW: what a piece leaves in the state passes
-  pub stored-stands : (file : List ℕ) → KeptHeld s file k → keptOf s′ .reader .count ≤ maxRead → keptOf s′ .reader .line .size ≤ maxRead → stateStands s′ file ≡ true
+  pub stored-stands : (file : List ℕ) → KeptHeld s file k → keptOf s′ .reader .count ≤ maxRead → keptOf s′ .reader .line .size ≤ maxRead
+      → stateStands s′ file ≡ true
   unfolding stateStands goodState
   stored-stands file h c z =
       let n : length s′ ≡ stateSize = t .long ∙ h .size in
