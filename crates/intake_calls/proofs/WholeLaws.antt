@@ -34,32 +34,24 @@ length-joined size (suc n) l h =
     rw (length-append, length-take-le size l (omega arith), length-joined size n (drop size l) (rw length-drop (omega arith))) (omega arith)
 
 -- a table that is the rows it is read as, one after another, is whole rows
-joined-parents : (l : List ℕ) → l ≡ join (parentRows l) → length (parentRows l) ≤ maxParents → wholeRows parentSize maxParents l ≡ true
-unfolding wholeRows parentRows
-joined-parents l e h =
-    let n : ℕ = length l / parentSize in
-    let long : length l ≡ parentSize * n = ap length e ∙ length-joined parentSize n l (omega arith) in
-    and-both (eqb (parentSize * n) (length l)) (leb n maxParents) (eq-eqb (parentSize * n) (length l) (sym long))
-    (le-leb n maxParents (omega (arith, h, rows-length parentSize n l)))
-
-joined-objects : (l : List ℕ) → l ≡ join (objectRows l) → length (objectRows l) ≤ maxObjects → wholeRows objectSize maxObjects l ≡ true
-unfolding wholeRows objectRows
-joined-objects l e h =
-    let n : ℕ = length l / objectSize in
-    let long : length l ≡ objectSize * n = ap length e ∙ length-joined objectSize n l (omega arith) in
-    and-both (eqb (objectSize * n) (length l)) (leb n maxObjects) (eq-eqb (objectSize * n) (length l) (sym long))
-    (le-leb n maxObjects (omega (arith, h, rows-length objectSize n l)))
+joined : (size most : ℕ) (l : List ℕ) → size * (length l / size) ≤ length l → l ≡ join (rows size (length l / size) l)
+    → length (rows size (length l / size) l) ≤ most → wholeRows size most l ≡ true
+unfolding wholeRows
+joined size most l k e h =
+    let n : ℕ = length l / size in
+    and-both (eqb (size * n) (length l)) (leb n most) (eq-eqb (size * n) (length l) (sym (ap length e ∙ length-joined size n l k)))
+    (le-leb n most (omega (arith, h, rows-length size n l)))
 
 whole-parents : (l : List ℕ) → l ≡ join (parentRows l) → length (parentRows l) ≤ maxParents → all usedMark (parentRows l) ≡ true → parentsWhole l ≡ true
-unfolding parentsWhole
-whole-parents l e h a = and-both (wholeRows parentSize maxParents l) (all usedMark (parentRows l)) (joined-parents l e h) a
+unfolding parentsWhole parentRows
+whole-parents l e h a = and-both (wholeRows parentSize maxParents l) (all usedMark (parentRows l)) (joined parentSize maxParents l (omega arith) e h) a
 
 whole-objects : (l : List ℕ) → l ≡ join (objectRows l) → length (objectRows l) ≤ maxObjects → all usedMark (objectRows l) ≡ true
     → all (whenUsed freshMark) (objectRows l) ≡ true → objectsWhole l ≡ true
-unfolding objectsWhole
+unfolding objectsWhole objectRows
 whole-objects l e h a b =
     and-both (wholeRows objectSize maxObjects l && all usedMark (objectRows l)) (all (whenUsed freshMark) (objectRows l))
-    (and-both (wholeRows objectSize maxObjects l) (all usedMark (objectRows l)) (joined-objects l e h) a) b
+    (and-both (wholeRows objectSize maxObjects l) (all usedMark (objectRows l)) (joined objectSize maxObjects l (omega arith) e h) a) b
 
 -- and back
 most-parents : (l : List ℕ) → parentsWhole l ≡ true → length (parentRows l) ≤ maxParents
