@@ -21,6 +21,7 @@ use Rattle.intake_feed.specs.Feed.{maxPiece, stateStands, feedRefusal, s
 use Rattle.intake_feed.proofs.PieceLaws.{stays, stopped-is}
 use Rattle.intake_feed.proofs.TestLaws.{state-holds, state-bounds, state-long}
 use Rattle.intake_feed.proofs.ReloadLaws.{reload}
+use Rattle.intake_feed.proofs.PassLaws.{count-back, size-back, stored-stands}
 
 pub stands-not : (s file : List ℕ) → goodState s ≡ false → false ≡ stateStands s file
 unfolding stateStands
@@ -140,6 +141,12 @@ rows-of-objects s file p o = refl
 
 -- ## What a call leaves
 
+-- the state that is left, where the one lent passes
+record Counted (s piece file s′ : List ℕ) : Type 0 where
+  pub count : keptOf s′ .reader .count ≤ keptOf s .reader .count + length piece
+  pub size : keptOf s′ .reader .line .size ≤ keptOf s .reader .line .size + length piece
+  pub passes : keptOf s′ .reader .count ≤ maxRead → keptOf s′ .reader .line .size ≤ maxRead → stateStands s′ file ≡ true
+
 module _ (s piece file p o out : List ℕ) where
   pub fed-refused : (n : ℕ) → (n ≡ 0 → ⊥) → Fed n s piece file p o out s p o out n
   unfolding fedAnswer fedLine fedMachine fedTable
@@ -151,15 +158,18 @@ module _ (s piece file p o out : List ℕ) where
     objects = rw (ne-eqb n 0 e);
     refused = λ z. refl;
     stays = λ z. refl;
+    count = omega arith;
+    size = omega arith;
+    passes = λ z c d. z;
   }
 
   -- where the machine after the piece is the one that this state stands for
   leaves : (s′ p′ o′ out′ : List ℕ) (a l r : ℕ) → machineIn s′ file p′ o′ ≡ feed layoutRoom (machineIn s file p o) piece
       → machineIn s′ file p′ o′ .reading .stop ≡ stopIs a l → r ≡ a → out′ ≡ outLine a l out
       → (parentsWhole p && objectsWhole o) ≡ true → length p′ ≡ length p → length o′ ≡ length o
-      → ((keptOf s .answer ≡ 0 → ⊥) → s′ ≡ s) → Fed 0 s piece file p o out s′ p′ o′ out′ r
+      → ((keptOf s .answer ≡ 0 → ⊥) → s′ ≡ s) → Counted s piece file s′ → Fed 0 s piece file p o out s′ p′ o′ out′ r
   unfolding fedAnswer fedLine fedMachine fedTable
-  leaves s′ p′ o′ out′ a l r m q e f w lp lo st = record {
+  leaves s′ p′ o′ out′ a l r m q e f w lp lo st ct = record {
     answer = e ∙ sym (stop-number a l) ∙ ap stopNumber (sym q) ∙ ap (λ (S : State). stopNumber (S .reading .stop)) m;
     line = f ∙ sym (stop-line a l out) ∙ ap (λ (S : Stop). stopLine S out) (sym q) ∙ ap (λ (S : State). stopLine (S .reading .stop) out) m;
     state = m;
@@ -167,6 +177,9 @@ module _ (s piece file p o out : List ℕ) where
     objects = sym (join-objects p o o′ w lo) ∙ rows-o ∙ ap (λ (S : State). join (S .reading .objects)) m;
     refused = λ z. absurd (z refl);
     stays = st;
+    count = ct .count;
+    size = ct .size;
+    passes = λ z. ct .passes;
   } where
     rows-p : join (parentRows p′) ≡ join (machineIn s′ file p′ o′ .reading .parents)
     rows-p = rows-of-parents s′ file p′ o′
@@ -181,7 +194,8 @@ module _ (s piece file p o out : List ℕ) where
       let y : keptOf s .answer ≡ 0 → ⊥ = λ w. z (ap (λ (x : Kept). x .answer) q ∙ w) in
       subst (λ (m : ℕ). Fed m s piece file p o out s p o out′ r) (sym e)
       (leaves s p o out′ (keptOf s .answer) (keptOf s .named) r (sym (stays (machineOf s (keptOf s) file p o) piece (stopped-is s (keptOf s) file p o y)))
-      (stop-of s (keptOf s) file p o) (t .0 ∙ ap (λ (x : Kept). x .answer) q) (t .1 ∙ ap (λ (x : Kept). outLine (x .answer) (x .named) out) q) (g .tables) refl refl (λ w. refl))
+      (stop-of s (keptOf s) file p o) (t .0 ∙ ap (λ (x : Kept). x .answer) q) (t .1 ∙ ap (λ (x : Kept). outLine (x .answer) (x .named) out) q) (g .tables) refl refl (λ w. refl)
+      (record { count = omega arith; size = omega arith; passes = λ c d. g .state }))
 
   pub fed-piece : (n r : ℕ) (k after : Kept) (s₁ s′ p′ o′ out′ : List ℕ) → Passed s piece file p o (length out) → n ≡ 0 → k ≡ keptOf s → k .answer ≡ 0
       → PieceRead s k piece file p o s₁ p′ o′ after → Stored s₁ after s′ → (r ≡ after .answer) × (out′ ≡ outLine (after .answer) (after .named) out)
@@ -193,7 +207,12 @@ module _ (s piece file p o out : List ℕ) where
       (leaves s′ p′ o′ out′ (after .answer) (after .named) r
       (back ∙ sym (read .machine) ∙ ap (λ (x : Kept). foldl (byte layoutRoom) (machineOf s x file p o) piece) q)
       (ap (λ (S : State). S .reading .stop) back ∙ stop-of s₁ after file p′ o′) (t .0) (t .1) (g .tables) lp lo
-      (λ w. absurd (w (sym (ap (λ (x : Kept). x .answer) q) ∙ z))))
+      (λ w. absurd (w (sym (ap (λ (x : Kept). x .answer) q) ∙ z)))
+      (record {
+        count = omega (arith, read .count, count-back s₁ after s′ st, ap (λ (x : Kept). x .reader .count) q);
+        size = omega (arith, read .size, size-back s₁ after s′ st, ap (λ (x : Kept). x .reader .line .size) q);
+        passes = stored-stands s₁ after s′ st file (read .kept);
+      }))
 
 -- what a piece relies on, of a call that isn't refused
 pub goes-in : (s piece file p o : List ℕ) (places : ℕ) (k : Kept) → Passed s piece file p o places → k ≡ keptOf s → k .answer ≡ 0

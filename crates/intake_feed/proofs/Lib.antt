@@ -3,6 +3,6 @@ pub mod PieceLaws
 pub mod NumberLaws
 pub mod TestLaws
 pub mod ReloadLaws
+pub mod PassLaws
 pub mod FedLaws
-pub mod CutLaws
 pub mod EndLaws

@@ -1,6 +1,6 @@
 -- What a piece that is fed leaves, for every input: refusals first, then the machine's state after the piece. Document 02, 2026-03: "Input arrives in pieces
 -- of at most 64 KiB, else 11".
-use Prim.Native.Nat.{ℕ, _≤_}
+use Prim.Native.Nat.{ℕ, _+_, _≤_}
 use mathlib.Core.Path.{_≡_}
 use mathlib.Core.List.{List, [], _∷_}
 use mathlib.Core.Bool.{Bool, true, cond, _&&_}
@@ -10,7 +10,7 @@ use Rattle.tables.specs.Bytes.{layoutRoom, join}
 use Rattle.tables.specs.Check.{parentsWhole, objectsWhole, test, firstFailing}
 use Rattle.intake.specs.Reading.{Stop, going, stopped}
 use Rattle.intake.specs.Machine.{State, feed}
-use Rattle.intake_feed.specs.State.{keptOf, goodState, machineIn}
+use Rattle.intake_feed.specs.State.{keptOf, maxRead, goodState, machineIn}
 
 abbrev pub maxPiece : ℕ
 maxPiece = 65536
@@ -59,6 +59,10 @@ pub record Fed (n : ℕ) (s piece file p o out : List ℕ) (s′ p′ o′ out�
   -- a call that is refused, and one after the reading stopped, change nothing
   pub refused : (n ≡ 0 → ⊥) → s′ ≡ s
   pub stays : (keptOf s .answer ≡ 0 → ⊥) → s′ ≡ s
+  -- the lines read and the bytes of a value grow by at most the piece's bytes, and while they can be counted a state that passes leaves one that passes
+  pub count : keptOf s′ .reader .count ≤ keptOf s .reader .count + length piece
+  pub size : keptOf s′ .reader .line .size ≤ keptOf s .reader .line .size + length piece
+  pub passes : stateStands s file ≡ true → keptOf s′ .reader .count ≤ maxRead → keptOf s′ .reader .line .size ≤ maxRead → stateStands s′ file ≡ true
 
 unfoldable pub PieceFed : List ℕ → List ℕ → List ℕ → List ℕ → List ℕ → List ℕ → List ℕ → List ℕ → List ℕ → List ℕ → ℕ → Type 0
 PieceFed s piece file p o out s′ p′ o′ out′ r = Fed (feedRefusal s piece file p o (length out)) s piece file p o out s′ p′ o′ out′ r

@@ -2,4 +2,3 @@ pub mod Piece
 pub mod State
 pub mod Feed
 pub mod End
-pub mod Cut

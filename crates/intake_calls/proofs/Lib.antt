@@ -1,0 +1,6 @@
+pub mod KeptLaws
+pub mod MarkLaws
+pub mod LentLaws
+pub mod WholeLaws
+pub mod CallLaws
+pub mod EveryCut
