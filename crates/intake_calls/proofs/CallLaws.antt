@@ -17,9 +17,8 @@ use Rattle.intake.specs.Machine.{State, feed, begin, fresh}
 use Rattle.intake.proofs.Simulation.{feed-append}
 use Rattle.intake_line.specs.Lent.{keptIn, digitsIn, partialIn}
 use Rattle.intake_line.specs.Entry.{openIn, goodMark}
-use Rattle.intake_feed.specs.Piece.{stopIs, machineOf}
-use Rattle.intake_feed.specs.State.{numberAt, lineIn, marksIn, readerIn, keptOf, machineIn, maxRead, goodStop, bareMarks, goodOpen, goodLine, goodKept, goodState}
-use Rattle.intake_feed.specs.Feed.{maxPiece, stateStands, feedRefusal, stopNumber, stopLine, PieceFed}
+use Rattle.intake_state.specs.State.{stopIs, machineOf, numberAt, lineIn, marksIn, readerIn, keptOf, machineIn, maxRead, goodStop, bareMarks, goodOpen, goodLine, goodKept, goodState, stateStands}
+use Rattle.intake_feed.specs.Feed.{maxPiece, feedRefusal, stopNumber, stopLine, PieceFed}
 use Rattle.intake_feed.proofs.PieceLaws.{stays}
 use Rattle.intake_feed.proofs.FedLaws.{refuse-none}
 use Rattle.intake_calls.specs.Calls.{Calls, zeroState, beginning, Short, Lent}

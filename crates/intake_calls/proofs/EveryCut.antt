@@ -13,9 +13,8 @@ use Rattle.tables.specs.Check.{parentsWhole, objectsWhole, firstFailing}
 use Rattle.intake.specs.Reading.{badDump, Reading, Stop, going, stopped, dumpReading, dumpEnds, ended}
 use Rattle.intake.specs.Machine.{State, feed, begin, finish}
 use Rattle.intake.proofs.Simulation.{feedAll, pieces, cut-anywhere, end-anywhere}
-use Rattle.intake_feed.specs.Piece.{machineOf}
-use Rattle.intake_feed.specs.State.{keptOf, machineIn, goodState}
-use Rattle.intake_feed.specs.Feed.{maxPiece, stateStands, stopNumber, stopLine, PieceFed}
+use Rattle.intake_state.specs.State.{machineOf, keptOf, machineIn, goodState, stateStands}
+use Rattle.intake_feed.specs.Feed.{maxPiece, stopNumber, stopLine, PieceFed}
 use Rattle.intake_feed.specs.End.{endRefusal, endStop, DumpEnded}
 use Rattle.intake_feed.proofs.FedLaws.{join-parents, join-objects, stop-number}
 use Rattle.intake_calls.specs.Calls.{Calls, beginning, Short, CutAnywhere, EveryCut, NothingAfter, NothingAfterStop}

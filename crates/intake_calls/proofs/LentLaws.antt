@@ -19,7 +19,7 @@ use Rattle.intake_line.specs.declared.Unfinished.{Unfinished}
 use Rattle.intake_line.specs.Lent.{baseOf, wantOf, keptIn, digitsIn, partialIn, partOf, Held}
 use Rattle.intake_line.specs.Entry.{attributeIn, entryIn, openIn, MarksHeld}
 use Rattle.intake_line.proofs.GlueLaws.{want-open}
-use Rattle.intake_feed.specs.Piece.{stateSize}
+use Rattle.intake_state.specs.State.{stateSize}
 use Rattle.intake_calls.proofs.KeptLaws.{keptOf, keptDigits, counted, FewOpen, FewLine, want-few}
 
 -- no more than asked for, and no more than there are

@@ -15,10 +15,9 @@ use Rattle.wire.proofs.RowLaws.{rows-length}
 use Rattle.tables.specs.Bytes.{parentSize, objectSize, layoutRoom, parentRows, objectRows, join}
 use Rattle.tables.specs.Check.{maxParents, maxObjects, all, whenUsed, wholeRows, usedMark, freshMark, parentsWhole, objectsWhole}
 use Rattle.intake.specs.Machine.{State, feed}
-use Rattle.intake_feed.specs.Piece.{machineOf, KeptHeld}
-use Rattle.intake_feed.specs.State.{keptOf, goodState, machineIn}
-use Rattle.intake_feed.specs.Feed.{stateStands, feedRefusal, stopNumber, stopLine, fedMachine, fedAnswer, fedLine, fedTable, Fed, PieceFed}
-use Rattle.intake_feed.proofs.TestLaws.{state-holds}
+use Rattle.intake_state.specs.State.{machineOf, KeptHeld, keptOf, goodState, machineIn, stateStands}
+use Rattle.intake_feed.specs.Feed.{feedRefusal, stopNumber, stopLine, fedMachine, fedAnswer, fedLine, fedTable, Fed, PieceFed}
+use Rattle.intake_state.proofs.TestLaws.{state-holds}
 use Rattle.intake_feed.proofs.FedLaws.{passed}
 use Rattle.intake_calls.proofs.LentLaws.{few-open, few-line}
 use Rattle.intake_calls.proofs.MarkLaws.{Marked, MarkedState, marked-feed}

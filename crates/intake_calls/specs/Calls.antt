@@ -8,9 +8,8 @@ use lib.ListN.{length, replicate}
 use Rattle.tables.specs.Bytes.{layoutRoom, parentRows, objectRows, join}
 use Rattle.tables.specs.Check.{parentsWhole, objectsWhole}
 use Rattle.intake.specs.Reading.{badDump, Reading, outside, going, dumpReading, dumpEnds}
-use Rattle.intake_feed.specs.Piece.{stateSize}
-use Rattle.intake_feed.specs.State.{maxRead}
-use Rattle.intake_feed.specs.Feed.{maxPiece, stateStands, stopNumber, stopLine, PieceFed}
+use Rattle.intake_state.specs.State.{stateSize, maxRead, stateStands}
+use Rattle.intake_feed.specs.Feed.{maxPiece, stopNumber, stopLine, PieceFed}
 use Rattle.intake_feed.specs.End.{DumpEnded}
 
 -- calls of `feed` one after another, each on what the last one left, each as its contract says: state, tables, line and answer before and after

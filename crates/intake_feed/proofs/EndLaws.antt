@@ -16,12 +16,11 @@ use Rattle.intake.specs.Machine.{finish}
 use Rattle.intake_line.specs.declared.Marks.{Marks}
 use Rattle.intake_line.specs.Lent.{maxCount, partialIn}
 use Rattle.intake_line.specs.Entry.{entryIn, openIn}
-use Rattle.intake_feed.specs.declared.Kept.{Kept}
-use Rattle.intake_feed.specs.Piece.{stateSize, stopIs, machineOf, KeptHeld}
-use Rattle.intake_feed.specs.State.{keptOf, goodState, machineIn}
+use Rattle.intake_state.specs.declared.Kept.{Kept}
+use Rattle.intake_state.specs.State.{stateSize, stopIs, machineOf, KeptHeld, keptOf, goodState, machineIn}
 use Rattle.intake_feed.specs.Feed.{stopNumber, outLine, stopLine}
 use Rattle.intake_feed.specs.End.{unclosedAt, endIs, EndTold, endRefusal, endStop, Ended, DumpEnded}
-use Rattle.intake_feed.proofs.TestLaws.{state-long, state-end}
+use Rattle.intake_state.proofs.TestLaws.{state-long, state-end}
 use Rattle.intake_feed.proofs.FedLaws.{stop-number, stop-line}
 
 module _ (k : Kept) where

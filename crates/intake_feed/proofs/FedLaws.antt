@@ -14,14 +14,14 @@ use Rattle.stores.proofs.TableLaws.{join-rows}
 use Rattle.intake.specs.Reading.{Stop, going, stopped, isGoing}
 use Rattle.intake.specs.Machine.{State, byte, feed}
 use Rattle.intake_line.specs.Lent.{maxCount}
-use Rattle.intake_feed.specs.declared.Kept.{Kept}
-use Rattle.intake_feed.specs.Piece.{stopIs, machineOf, KeptHeld, Going, PieceRead}
-use Rattle.intake_feed.specs.State.{keptOf, maxRead, goodKept, goodState, machineIn, Stored}
-use Rattle.intake_feed.specs.Feed.{maxPiece, stateStands, feedRefusal, stopNumber, outLine, stopLine, fedMachine, fedAnswer, fedLine, fedTable, Fed, PieceFed}
+use Rattle.intake_state.specs.declared.Kept.{Kept}
+use Rattle.intake_feed.specs.Piece.{Going, PieceRead}
+use Rattle.intake_state.specs.State.{stopIs, machineOf, KeptHeld, keptOf, maxRead, goodKept, goodState, machineIn, Stored, stateStands}
+use Rattle.intake_feed.specs.Feed.{maxPiece, feedRefusal, stopNumber, outLine, stopLine, fedMachine, fedAnswer, fedLine, fedTable, Fed, PieceFed}
 use Rattle.intake_feed.proofs.PieceLaws.{stays, stopped-is}
-use Rattle.intake_feed.proofs.TestLaws.{state-holds, state-bounds, state-long}
-use Rattle.intake_feed.proofs.ReloadLaws.{reload}
-use Rattle.intake_feed.proofs.PassLaws.{count-back, size-back, stored-stands}
+use Rattle.intake_state.proofs.TestLaws.{state-holds, state-bounds, state-long}
+use Rattle.intake_state.proofs.ReloadLaws.{reload}
+use Rattle.intake_state.proofs.PassLaws.{count-back, size-back, stored-stands}
 
 pub stands-not : (s file : List ℕ) → goodState s ≡ false → false ≡ stateStands s file
 unfolding stateStands

@@ -29,8 +29,9 @@ use Rattle.intake_close.specs.declared.Closed.{Closed}
 use Rattle.intake_close.specs.declared.Closed.the-variants.{Filled, Refused}
 use Rattle.intake_close.specs.OwnerLine.{LineAfter}
 use Rattle.intake_close.specs.Closing.{withTables, closedAs, stopOf, EntryClosed}
-use Rattle.intake_feed.specs.declared.Kept.{Kept}
-use Rattle.intake_feed.specs.Piece.{stateSize, stopIs, machineOf, stoppedAt, closedAt, withLine, KeptHeld, Going, closingOf, LineClosed, LineEnded, PieceRead}
+use Rattle.intake_state.specs.declared.Kept.{Kept}
+use Rattle.intake_feed.specs.Piece.{stoppedAt, closedAt, withLine, Going, closingOf, LineClosed, LineEnded, PieceRead}
+use Rattle.intake_state.specs.State.{stateSize, stopIs, machineOf, KeptHeld}
 
 -- the reading of a state that goes on
 goes-on : (n : ℕ) → stopIs 0 n ≡ going

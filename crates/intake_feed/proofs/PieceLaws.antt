@@ -21,8 +21,9 @@ use Rattle.intake_line.specs.Lent.{maxCount, partialIn, wantOf, Held, Others, F
 use Rattle.intake_line.specs.Entry.{openIn, ReaderHeld}
 use Rattle.intake_line.proofs.FeedLaws.{held-at}
 use Rattle.intake_line.proofs.GlueLaws.{want-open, open-stays}
-use Rattle.intake_feed.specs.declared.Kept.{Kept}
-use Rattle.intake_feed.specs.Piece.{stateSize, stopIs, machineOf, withLine, KeptHeld, Going, LineEnded, PieceRead}
+use Rattle.intake_state.specs.declared.Kept.{Kept}
+use Rattle.intake_feed.specs.Piece.{withLine, Going, LineEnded, PieceRead}
+use Rattle.intake_state.specs.State.{stateSize, stopIs, machineOf, KeptHeld}
 
 -- a machine that has stopped stays as it is
 pub stays : (S : State) (l : List ℕ) → isGoing (S .reading .stop) ≡ false → foldl (byte layoutRoom) S l ≡ S

@@ -8,9 +8,8 @@ use lib.Dec.{eqb, leb}
 use Rattle.tables.specs.Check.{test, firstFailing}
 use Rattle.intake.specs.Reading.{badDump, noFit, Stop, going, stopped}
 use Rattle.intake.specs.Machine.{finish}
-use Rattle.intake_feed.specs.declared.Kept.{Kept}
-use Rattle.intake_feed.specs.Piece.{stopIs}
-use Rattle.intake_feed.specs.State.{goodState, machineIn}
+use Rattle.intake_state.specs.declared.Kept.{Kept}
+use Rattle.intake_state.specs.State.{stopIs, goodState, machineIn}
 use Rattle.intake_feed.specs.Feed.{stopNumber, stopLine}
 
 unfoldable pub unclosedAt : Kept → ℕ → Kept

@@ -3,21 +3,17 @@
 use Prim.Native.Nat.{ℕ, _+_, _≤_}
 use mathlib.Core.Path.{_≡_}
 use mathlib.Core.List.{List, [], _∷_}
-use mathlib.Core.Bool.{Bool, true, cond, _&&_}
+use mathlib.Core.Bool.{true, cond, _&&_}
 use lib.ListN.{length, set}
 use lib.Dec.{eqb, leb}
 use Rattle.tables.specs.Bytes.{layoutRoom, join}
 use Rattle.tables.specs.Check.{parentsWhole, objectsWhole, test, firstFailing}
 use Rattle.intake.specs.Reading.{Stop, going, stopped}
 use Rattle.intake.specs.Machine.{State, feed}
-use Rattle.intake_feed.specs.State.{keptOf, maxRead, goodState, machineIn}
+use Rattle.intake_state.specs.State.{keptOf, maxRead, machineIn, stateStands}
 
 abbrev pub maxPiece : ℕ
 maxPiece = 65536
-
--- 16: another length, a content that fails the state's own test, or owners shorter than it has taken
-unfoldable pub stateStands : List ℕ → List ℕ → Bool
-stateStands s file = goodState s && leb (keptOf s .taken) (length file)
 
 -- 11, 16 and 17 in this order, else 0
 unfoldable pub feedRefusal : List ℕ → List ℕ → List ℕ → List ℕ → List ℕ → ℕ → ℕ

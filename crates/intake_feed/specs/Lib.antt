@@ -1,4 +1,3 @@
 pub mod Piece
-pub mod State
 pub mod Feed
 pub mod End

@@ -1,41 +1,17 @@
--- What the state's numbers and bytes stand for, and what a piece does to them. Document 02, 2026-03: "Input arrives in pieces".
+-- What a line's end and a piece do to a state. Document 02, 2026-03: "Input arrives in pieces".
 use Prim.Native.Nat.{ℕ, suc, _+_, _≤_, _<_}
 use mathlib.Core.Path.{_≡_}
 use mathlib.Core.List.{List, foldl}
-use mathlib.Core.Bool.{cond}
-use lib.ListN.{length, drop}
-use lib.Dec.{eqb}
-use Rattle.tables.specs.Bytes.{layoutRoom, parentRows, objectRows}
+use lib.ListN.{length}
+use Rattle.tables.specs.Bytes.{layoutRoom}
 use Rattle.intake.specs.Lines.{newline}
-use Rattle.intake.specs.Reading.{badDump, noFit, Stop, going, stopped, closesEntry}
+use Rattle.intake.specs.Reading.{closesEntry}
 use Rattle.intake.specs.Machine.{State, byte, fresh}
 use Rattle.intake_line.specs.declared.Unfinished.{Unfinished}
-use Rattle.intake_line.specs.declared.Reader.{Reader}
-use Rattle.intake_line.specs.Lent.{layoutAt, maxCount, newLine, partialIn}
-use Rattle.intake_line.specs.Entry.{noMarks, entryIn, openIn, ReaderHeld}
-use Rattle.intake_feed.specs.declared.Kept.{Kept}
-
--- "the layout's room plus 208 bytes"
-abbrev pub stateSize : ℕ
-stateSize = layoutAt + layoutRoom
-
-unfoldable pub stopIs : ℕ → ℕ → Stop
-stopIs answer named = cond (eqb answer 0) going (stopped answer named)
-
--- the machine's state that a state's numbers and bytes, the owners file and the tables stand for
-unfoldable pub machineOf : List ℕ → Kept → List ℕ → List ℕ → List ℕ → State
-machineOf s k file p o =
-    record {
-      reading = record {
-        parents = parentRows p;
-        objects = objectRows o;
-        owners = drop (k .taken) file;
-        count = k .reader .count;
-        entry = openIn s (k .reader .from) (k .reader .marks);
-        stop = stopIs (k .answer) (k .named);
-      };
-      line = partialIn s (k .reader .line);
-    }
+use Rattle.intake_line.specs.Lent.{maxCount, newLine}
+use Rattle.intake_line.specs.Entry.{noMarks, entryIn}
+use Rattle.intake_state.specs.declared.Kept.{Kept}
+use Rattle.intake_state.specs.State.{machineOf, KeptHeld}
 
 -- ## A line's end
 
@@ -61,14 +37,6 @@ withLine k x =
       taken = k .taken;
       reader = record { from = k .reader .from; marks = k .reader .marks; count = k .reader .count; line = x };
     }
-
--- what holds of a state: the test's meaning
-pub record KeptHeld (s file : List ℕ) (k : Kept) : Type 0 where
-  pub size : length s ≡ stateSize
-  pub held : ReaderHeld s (k .reader)
-  pub taken : k .taken ≤ length file
-  pub answer : k .answer ≤ noFit
-  pub number : (k .answer ≡ 0 → ⊥) → badDump ≤ k .answer
 
 -- and the reading goes on
 pub record Going (s file : List ℕ) (k : Kept) : Type 0 where

@@ -1,18 +1,18 @@
 // A piece taken in, and the end of a dump.
-use super::Kept;
 use super::lines;
-use super::state;
-use super::tests;
 use checks::whole;
 use intake::BAD_DUMP;
+use intake_state::Kept;
+use intake_state::state;
+use intake_state::tests;
 ghost use mathlib.Core.Path.{_≡_};
 ghost use Prim.Native.Nat.{_≤_, _<_};
 ghost use lib.ListN.{length};
 ghost use lib.Dec.{leb};
 ghost use Rattle.intake.specs.Reading.{noFit};
 ghost use Rattle.intake_line.specs.Lent.{layoutAt, maxCount};
-ghost use Rattle.intake_feed.specs.State.{keptOf};
-ghost use Rattle.intake_feed.specs.Feed.{stateStands, feedRefusal, outLine, PieceFed};
+ghost use Rattle.intake_state.specs.State.{keptOf, stateStands};
+ghost use Rattle.intake_feed.specs.Feed.{feedRefusal, outLine, PieceFed};
 ghost use Rattle.intake_feed.specs.End.{unclosedAt, EndTold, DumpEnded};
 
 // The most bytes of a piece.

@@ -1,11 +1,11 @@
 // The lines of a piece, one after another, with the state's numbers in local values.
-use super::Kept;
 use intake_close::Closed;
 use intake_close::closing;
 use intake_close::owners;
 use intake_line::Reader;
 use intake_line::Turn;
 use intake_line::Unfinished;
+use intake_state::Kept;
 ghost use mathlib.Core.Path.{_≡_};
 ghost use Prim.Native.Nat.{_+_, _≤_, _<_};
 ghost use lib.ListN.{length};

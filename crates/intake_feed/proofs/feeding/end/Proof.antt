@@ -3,7 +3,7 @@ use mathlib.Core.Path.{_≡_, refl, sym, _∙_}
 use denote.Ref.{now}
 use borrow.Author.Tests.{not-true, not-false}
 use Rattle.intake_feed.proofs.EndLaws.{ended-bad, ended-short, ended-told, end-requires}
-use Rattle.intake_feed.proofs.TestLaws.{state-long}
+use Rattle.intake_state.proofs.TestLaws.{state-long}
 use Rattle.intake_feed.specs.End.{DumpEnded}
 use borrow.Author.Needs.{needs}
 use Rattle.intake_feed.proofs.feeding.end.Statement.{statement}

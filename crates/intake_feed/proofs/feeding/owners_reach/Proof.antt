@@ -2,7 +2,7 @@ use borrow.Author.Needs.{needs}
 use mathlib.Core.Path.{ap}
 use lib.ListN.{length}
 use lib.Dec.{leb}
-use Rattle.intake_feed.specs.declared.Kept.{Kept}
+use Rattle.intake_state.specs.declared.Kept.{Kept}
 use Rattle.intake_feed.proofs.feeding.owners_reach.Statement.{statement}
 use Rattle.intake_feed.proofs.feeding.owners_reach.Tie as tie
 

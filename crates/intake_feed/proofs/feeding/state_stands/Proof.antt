@@ -3,7 +3,7 @@ use mathlib.Core.Path.{_≡_, refl, sym, ap, _∙_}
 use denote.Ref.{now}
 use borrow.Author.Tests.{not-true, not-false}
 use Rattle.intake_feed.proofs.FedLaws.{stands-not, stands-if}
-use Rattle.intake_feed.proofs.TestLaws.{state-long}
+use Rattle.intake_state.proofs.TestLaws.{state-long}
 use borrow.Author.Needs.{needs}
 use Rattle.intake_feed.proofs.feeding.state_stands.Statement.{statement}
 use Rattle.intake_feed.proofs.feeding.state_stands.Tie as tie

@@ -1,0 +1,4 @@
+pub mod NumberLaws
+pub mod TestLaws
+pub mod ReloadLaws
+pub mod PassLaws
