@@ -31,10 +31,10 @@ fn dumps_are_taken_in_alike() {
         for cut in [Cut::Few, Cut::Disturbed] {
             compare(&dump, cut, &mut seen, &mut random);
         }
-        if random.one_in(20) && dump.text.len() < 1000 {
+        if random.one_in(10) && dump.text.len() < 1000 {
             compare(&dump, Cut::SingleBytes, &mut seen, &mut random);
         }
-        if random.one_in(50) && dump.text.len() < 400 {
+        if random.one_in(25) && dump.text.len() < 400 {
             compare_at_every_cut(&dump, &mut seen, &mut random);
         }
     }
