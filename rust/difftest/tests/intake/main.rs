@@ -12,6 +12,7 @@ use std::time::{Duration, Instant};
 use cut::Cut;
 use difftest::Random;
 use difftest::dumps::{Dump, Flaw};
+use numbers::{object, parent};
 use seen::Seen;
 use side::Both;
 
@@ -90,6 +91,24 @@ fn compare_at_every_cut(dump: &Dump, seen: &mut Seen, random: &mut Random) {
         both.end(random);
         both.require_whole();
     }
+}
+
+/// The dump that getfattr printed.
+#[test]
+fn a_real_dump_is_taken_in_alike() {
+    let mut random = Random::for_test("real dump");
+    let mut seen = Seen::nothing();
+    let dump = Dump {
+        text: include_bytes!("../../../../tests/data/site/dump.txt").to_vec(),
+        owners: include_bytes!("../../../../tests/data/site/owners.txt").to_vec(),
+        parents: vec![0; 4 * parent::BYTES],
+        objects: vec![0; 5 * object::BYTES],
+        flaws: Vec::new(),
+        traits: Vec::new(),
+    };
+    compare_whole(&dump, &mut seen, &mut random);
+    compare(&dump, Cut::SingleBytes, &mut seen, &mut random);
+    compare_at_every_cut(&dump, &mut seen, &mut random);
 }
 
 /// Dumps that are longer than a piece may be.
