@@ -7,7 +7,7 @@ use std::process::{Command, Stdio};
 
 use difftest::dumps::{Dump, Flaw};
 use difftest::{Coverage, Random};
-use reference::intake::read;
+use reference::intake::{Fault, read};
 
 use crate::json::{Value, parse};
 use crate::tool::{Case, TOOL, Told, faulty};
@@ -339,15 +339,25 @@ fn faults_are_those_of_the_reference() {
             }
             Err(fault) => {
                 met.met(fault.answer);
-                let words = format!("line {} is refused with {}: ", fault.line, fault.answer);
-                let told = told.expect_line(2, &words);
-                assert!(!made(&case).exists(), "{told:?}");
-                let reason = told.err.split(&words).nth(1).expect("a reason");
-                assert!(reason.contains(word_of(fault.answer)), "{told:?}");
+                expect_fault(told, &fault);
+                assert!(!made(&case).exists());
+                let told = take(&case, &dump.text, &dump.owners, &["--json"]).expect(2);
+                let told = parse(&told.out);
+                let (line, number) = (fault.line, fault.answer.into());
+                let told = told.get("fault");
+                assert_eq!((told.number("line"), told.number("number")), (line, number));
             }
         }
     }
     met.require(1);
+}
+
+/// Line and number of a fault are told, with a reason that belongs to the number.
+fn expect_fault(told: Told, fault: &Fault) {
+    let words = format!("line {} is refused with {}: ", fault.line, fault.answer);
+    let told = told.expect_line(2, &words);
+    let reason = told.err.split(&words).nth(1).expect("a reason");
+    assert!(reason.contains(word_of(fault.answer)), "{told:?}");
 }
 
 /// A word that is in every reason of a number.
