@@ -138,22 +138,27 @@ fn states_of_any_bytes_do_no_harm() {
         .flat_map(|change| [(change, "refused"), (change, "taken")]);
     let possible = ways.filter(|way| *way != (Change::Noise, "taken"));
     let mut changes = Coverage::of("changed states", possible);
+    let mut past = 0;
     for _ in 0..STATES {
         let dump = random_dump(&mut random);
         let from = random.below(dump.text.len() + 1);
         let mut call = Call::begin(&dump).after(&dump.text[..from]);
         let change = random.pick(&Change::ALL);
         change.make(&mut call.state, &mut random);
-        let answer = feed_rest(call, &dump.text[from..], &mut random);
+        let (answer, is_past) = feed_rest(call, &dump.text[from..], &mut random);
+        past += usize::from(is_past);
         answers.met(answer);
         changes.met((change, if answer == 16 { "refused" } else { "taken" }));
     }
     answers.require(1);
     changes.require(1);
+    println!("{past} counts that pass 2^63");
+    assert!(past < STATES / 50);
 }
 
-/// Feeds the rest of a dump, in one piece and in two.
-fn feed_rest(before: Call, rest: &[u8], random: &mut Random) -> u32 {
+/// Feeds the rest of a dump, in one piece and in two: the answer, and whether a count of lines or
+/// of bytes of a value has passed 2^63, which no reading has. Then the next call is 16.
+fn feed_rest(before: Call, rest: &[u8], random: &mut Random) -> (u32, bool) {
     let mut after = before.clone();
     let answer = after.feed(rest);
     match answer {
@@ -169,14 +174,13 @@ fn feed_rest(before: Call, rest: &[u8], random: &mut Random) -> u32 {
     let (first, second) = rest.split_at(random.below(rest.len() + 1));
     let mut cut = before;
     cut.feed(first);
-    // After 2^63 lines or bytes of a value, which no reading has, the next call is 16.
-    let is_past = cut.end() == 16 || after.end() == 16;
-    if answer == 16 || !is_past {
+    let is_past = answer != 16 && (cut.end() == 16 || after.end() == 16);
+    if !is_past {
         assert_eq!(cut.feed(second), answer);
         assert!(cut == after, "cut and different");
         require_lasting(after, rest, answer);
     }
-    answer
+    (answer, is_past)
 }
 
 /// A call that was refused, and a reading that has stopped, say the same again and change nothing.
