@@ -3,14 +3,13 @@
  * linkEAs, when each class applies and what each repair writes, are in docs/RULES.md.
  *
  * Every function answers one of the numbers below. All other numbers are uint64_t. What is lent
- * is a pointer and a count: of bytes for a table, a layout, a pool, a linkEA, names, a dump's piece,
- * owners or a state, of numbers for an array of numbers. A pointer is not null and, for numbers, aligned, also where its count
- * is 0. What is lent to be written overlaps nothing else that is lent. Nothing is kept after the
- * call.
+ * is a pointer and a count: of bytes for a table, a layout, a pool, a linkEA, names, the piece of
+ * a dump, owners or a state, of numbers for an array of numbers. A pointer is not null and, for
+ * numbers, aligned, also where its count is 0. What is lent to be written overlaps nothing else
+ * that is lent. Nothing is kept after the call.
  *
  * With an answer of 11 to 17, or of 31, nothing that was lent is changed. Of several answers that
- * apply the lowest is given, but LFSCK_BAD_LINK before all others; of a dump, those of its first
- * bad line. An array that is longer than
+ * apply the lowest is given, but LFSCK_BAD_LINK before all others. An array that is longer than
  * what is handed out keeps its rest.
  */
 #ifndef LFSCK_LAYOUT_H
@@ -416,18 +415,20 @@ uint32_t lfsck_link_write(const uint64_t *fields, size_t fields_count,
  *   piece             at most LFSCK_PIECE_MAX bytes; a line may go on in the next piece
  *   owners            the owners file, whole, the same with each piece
  *   parents, objects  the tables, changed
- *   out               1 number, written with LFSCK_BAD_DUMP to LFSCK_NO_FIT alone: the line, counted
- *                     from 1
+ *   out               1 number, written with LFSCK_BAD_DUMP to LFSCK_NO_FIT alone: the first
+ *                     line at fault, counted from 1
  *
  * LFSCK_OK           every line that ends in the piece is good
  * LFSCK_BAD_TABLE    a table is not whole rows or too long, a mark is not 0 or 1, or the piece is
  *                    too long
- * LFSCK_NO_POSITION  the state is none: of another length, no state of a reading, or of one that
- *                    has taken more of the owners than there is
+ * LFSCK_NO_POSITION  the state is none: of another length, of bytes that fail its own test, which
+ *                    every state of a reading passes, or with more taken of the owners than is
+ *                    lent
  * LFSCK_NO_ROOM      out has no place
  * LFSCK_BAD_DUMP, LFSCK_ATTR_TWICE, LFSCK_NO_SELF, LFSCK_NO_KIND, LFSCK_NO_FIT
- *                    reading stops at this line; the rows of the entries before it stand. Every
- *                    further call gives the same answer and line, and changes nothing
+ *                    reading stops at this line, the lowest of them is given, and the rows of the
+ *                    entries before it stand. Every further call gives the same answer and line,
+ *                    and changes nothing
  *
  * With LFSCK_BAD_TABLE, LFSCK_NO_POSITION and LFSCK_NO_ROOM nothing is changed, the state neither,
  * and the piece can be handed over again.
@@ -446,8 +447,8 @@ uint32_t lfsck_intake_feed(uint8_t *state, size_t state_bytes,
  *   out    1 number, written with LFSCK_BAD_DUMP to LFSCK_NO_FIT alone: the line
  *
  * LFSCK_OK           no entry is open, and the last line has ended
- * LFSCK_NO_POSITION, LFSCK_NO_ROOM
- *                    as lfsck_intake_feed
+ * LFSCK_NO_POSITION  the state is of another length, or of bytes that fail its test
+ * LFSCK_NO_ROOM      out has no place
  * LFSCK_BAD_DUMP     an entry is open, at its first line; or else a line has not ended
  * LFSCK_BAD_DUMP to LFSCK_NO_FIT
  *                    where reading stopped, the same answer and line

@@ -25,7 +25,7 @@ static const char owners[] = "1001 100 0\n1001 100 3";
 
 #define MARK UINT64_C(0xabababababababab)
 
-/* What a reading is lent. */
+/* What a reading is lent; the state has a byte more than is needed. */
 struct reading {
     uint8_t state[LFSCK_INTAKE_STATE + 1];
     uint8_t parents[2 * LFSCK_PARENT_BYTES];
@@ -110,7 +110,7 @@ static void test_whole(void)
 static void test_cuts(void)
 {
     struct reading single = begun();
-    int same = 1;
+    int whole = 1;
     int good = 1;
 
     for (size_t at = 0; at <= DUMP; at++) {
@@ -119,10 +119,10 @@ static void test_cuts(void)
         good = good && feed(&r, dump, at) == LFSCK_OK;
         good = good && feed(&r, dump + at, DUMP - at) == LFSCK_OK;
         good = good && end(&r) == LFSCK_OK;
-        same = same && is_whole(&r);
+        whole = whole && is_whole(&r);
     }
     check("two pieces are taken in", good);
-    check("two pieces give the same, wherever they are cut", same);
+    check("two pieces give the same, wherever they are cut", whole);
     for (size_t at = 0; at < DUMP; at++)
         good = good && feed(&single, dump + at, 1) == LFSCK_OK;
     check("single bytes are taken in", good && end(&single) == LFSCK_OK);
@@ -137,49 +137,60 @@ static void test_open(void)
 
     check("an open entry", feed(&r, dump, FIRST - 1) == LFSCK_OK);
     check("no row is filled yet",
-          memcmp(r.parents, before.parents, sizeof r.parents) == 0);
+          memcmp(r.parents, before.parents, sizeof r.parents) == 0 &&
+              memcmp(r.objects, before.objects, sizeof r.objects) == 0);
     check("it may not end here", end(&r) == LFSCK_BAD_DUMP && r.out[0] == 1);
     check("but it goes on", feed(&r, dump + FIRST - 1, DUMP - FIRST + 1) == LFSCK_OK);
     check("to the same rows", is_whole(&r));
 }
 
-/* A fault of a dump: its number and line, the same with every further call. */
+/* A bad line: its number and place, the same with every further call. */
 static void test_fault(const char *name, const char *text, uint32_t number, uint64_t line)
 {
     struct reading r = begun();
     struct reading after;
-    uint32_t first = feed(&r, text, strlen(text));
+    int again;
 
-    if (first == LFSCK_OK)
-        first = end(&r);
-    check(name, first == number && r.out[0] == line && r.out[1] == MARK);
+    check(name, feed(&r, text, strlen(text)) == number && r.out[0] == line && r.out[1] == MARK);
     after = r;
-    if (feed(&r, "", 0) == number)
-        check("and again", feed(&r, dump, DUMP) == number && end(&r) == number &&
-                               same(&r, &after));
+    again = feed(&r, "", 0) == number && feed(&r, dump, DUMP) == number && end(&r) == number;
+    check("and again, with nothing changed", again && same(&r, &after));
 }
+
+/* A dump that ends too soon. */
+static void test_cut_off(const char *name, const char *text, uint64_t line)
+{
+    struct reading r = begun();
+
+    check(name, feed(&r, text, strlen(text)) == LFSCK_OK && r.out[0] == MARK &&
+                    end(&r) == LFSCK_BAD_DUMP && r.out[0] == line && r.out[1] == MARK);
+}
+
+#define LMA "trusted.lma=0x000000000000000001040000020000000100000000000000\n"
+#define LOV "trusted.lov=0x\n"
+#define FID "trusted.fid=0x01040000020000000100000000000000\n"
 
 static void test_faults(void)
 {
-    static const char lma[] = "trusted.lma=0x000000000000000001040000020000000100000000000000\n";
-    char text[1024];
+    static char zeros[2 * (LFSCK_LAYOUT_BYTES + 1) + 1];
+    static char text[sizeof zeros + 256];
 
     test_fault("an empty line outside an entry", "\n", LFSCK_BAD_DUMP, 1);
     test_fault("a line of another name space", "# file: a\nuser.x=0x00\n", LFSCK_BAD_DUMP, 2);
     test_fault("an odd digit", "# file: a\ntrusted.lov=0x0\n", LFSCK_BAD_DUMP, 2);
-    test_fault("an entry that is not closed", "# file: a\ntrusted.lov=0x00\n", LFSCK_BAD_DUMP, 1);
-    test_fault("a line that has not ended", "# file", LFSCK_BAD_DUMP, 1);
-    test_fault("an attribute twice", "# file: a\ntrusted.lov=0x\ntrusted.lov=0x\n",
-               LFSCK_ATTR_TWICE, 3);
-    test_fault("no self FID", "# file: a\ntrusted.lov=0x\n\n", LFSCK_NO_SELF, 3);
-    strcpy(text, "# file: a\n");
-    strcat(strcat(text, lma), "\n");
-    test_fault("neither kind", text, LFSCK_NO_KIND, 3);
-    strcpy(text, "# file: a\ntrusted.lov=0x\n");
-    strcat(strcat(text, lma), "\n");
-    strcat(strcat(strcat(text, "# file: a\ntrusted.lov=0x\n"), lma), "\n");
-    strcat(strcat(strcat(text, "# file: a\ntrusted.lov=0x\n"), lma), "\n");
-    test_fault("no owners line", text, LFSCK_BAD_DUMP, 12);
+    test_fault("a bad length", "# file: a\ntrusted.fid=0x00\n", LFSCK_BAD_DUMP, 2);
+    test_fault("an attribute twice", "# file: a\n" LOV LOV, LFSCK_ATTR_TWICE, 3);
+    test_fault("no self FID", "# file: a\n" LOV "\n", LFSCK_NO_SELF, 3);
+    test_fault("neither kind", "# file: a\n" LMA "\n", LFSCK_NO_KIND, 3);
+    test_fault("both kinds", "# file: a\n" LMA LOV FID "\n", LFSCK_NO_KIND, 5);
+    test_fault("no owners line",
+               "# file: a\n" LMA LOV "\n# file: b\n" LMA FID "\n# file: c\n" LMA LOV "\n",
+               LFSCK_BAD_DUMP, 12);
+    memset(zeros, '0', sizeof zeros - 1);
+    sprintf(text, "# file: a\n" LMA "trusted.lov=0x%s\n\n", zeros);
+    test_fault("a layout that is too long", text, LFSCK_NO_FIT, 4);
+    test_cut_off("an entry that is not closed", "# file: a\n" LOV, 1);
+    test_cut_off("a line that has not ended", "# file", 1);
 }
 
 /* Used rows stand, and the first unused one is filled. */
@@ -222,8 +233,10 @@ static void test_refusals(void)
     struct reading r = begun();
     struct reading before;
     const uint8_t *whole = (const uint8_t *)owners;
+    uint8_t full[LFSCK_INTAKE_STATE];
     int refused;
 
+    memset(full, 255, sizeof full);
     feed(&r, dump, FIRST);
     before = r;
     refused = feed(&r, (const char *)zeros, sizeof zeros) == LFSCK_BAD_TABLE;
@@ -236,6 +249,8 @@ static void test_refusals(void)
     refused = refused && lfsck_intake_end(r.state, LFSCK_INTAKE_STATE - 1, r.out, 2) ==
                              LFSCK_NO_POSITION;
     check("a state of another length", refused);
+    refused = lfsck_intake_end(full, LFSCK_INTAKE_STATE, r.out, 2) == LFSCK_NO_POSITION;
+    check("a state that is none", refused);
     refused = lfsck_intake_feed(r.state, LFSCK_INTAKE_STATE, zeros, 0, whole, 10, r.parents, 0,
                                 r.objects, 0, r.out, 2) == LFSCK_NO_POSITION;
     check("owners that are shorter than what was taken", refused);

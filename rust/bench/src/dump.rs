@@ -1,15 +1,22 @@
 //! A dump of any length, made as it goes.
 
-use numbers::layout::MOST_SLOTS;
+use numbers::layout::{HEADER_THREE, SLOT_BYTES};
 
-/// The objects for each file of a dump.
-const OBJECTS: usize = 8;
 /// The owners line of every entry.
 const OWNER: &[u8] = b"1001 100 7\n";
 
-/// A dump whose pieces are made one after the other: files of 160 slots, each with eight objects,
-/// all with an attribute that is skipped. The same entries come again and again.
+/// What a dump has again and again: a file, and objects.
+#[derive(Clone, Copy, Debug)]
+pub struct Shape {
+    /// The slots of the file.
+    pub slots: usize,
+    /// The objects for each file.
+    pub objects: usize,
+}
+
+/// A dump whose pieces are made one after the other. All entries have an attribute that is skipped.
 pub struct Dump {
+    shape: Shape,
     block: Vec<u8>,
     /// How many times the block comes.
     times: usize,
@@ -18,10 +25,11 @@ pub struct Dump {
 }
 
 impl Dump {
-    /// A dump of at least so many bytes.
-    pub fn of(bytes: usize) -> Dump {
-        let block = block();
+    /// A dump of this shape and at least so many bytes.
+    pub fn of(shape: Shape, bytes: usize) -> Dump {
+        let block = block(shape);
         Dump {
+            shape,
             times: bytes.div_ceil(block.len()),
             block,
             made: 0,
@@ -35,17 +43,12 @@ impl Dump {
 
     /// The owners file for it.
     pub fn owners(&self) -> Vec<u8> {
-        OWNER.repeat((1 + OBJECTS) * self.times)
-    }
-
-    /// The bytes of that file.
-    pub fn owners_bytes(&self) -> usize {
-        OWNER.len() * (1 + OBJECTS) * self.times
+        OWNER.repeat(self.entries().iter().sum())
     }
 
     /// The entries of files, and those of objects.
     pub fn entries(&self) -> [usize; 2] {
-        [self.times, OBJECTS * self.times]
+        [self.times, self.shape.objects * self.times]
     }
 
     /// Makes the next piece, as long as there is room for and bytes are left; how long it is.
@@ -64,15 +67,13 @@ impl Dump {
 }
 
 /// A file and its objects.
-fn block() -> Vec<u8> {
+fn block(shape: Shape) -> Vec<u8> {
     let mut text = String::from("# file: mnt/mdt/ROOT/home/alice/results/run\\0401/part.dat\n");
     text += &format!("trusted.link=0x{}\n", "d5".repeat(60));
     text += &format!("trusted.lma=0x{}\n", "01".repeat(24));
-    text += &format!(
-        "trusted.lov=0x{}\n\n",
-        "5aF0e1".repeat((48 + 24 * MOST_SLOTS) / 3)
-    );
-    for object in 0..OBJECTS {
+    let layout = HEADER_THREE + shape.slots * SLOT_BYTES;
+    text += &format!("trusted.lov=0x{}\n\n", "5aF0e1".repeat(layout / 3));
+    for object in 0..shape.objects {
         text += &format!("# file: mnt/ost/O/240000400/d{object}/{object}\n");
         text += &format!("trusted.fid=0x{}\n", "0a".repeat([16, 32][object % 2]));
         text += &format!("trusted.lma=0x{}\n", "02".repeat(24));

@@ -3,7 +3,7 @@
 use std::io::Write;
 use std::time::Duration;
 
-use bench::dump::Dump;
+use bench::dump::{Dump, Shape};
 use bench::input::{Names, Tables};
 use bench::measure::{Timed, Times, side_by_side, timed};
 use bench::plain;
@@ -31,8 +31,19 @@ const NAME: usize = 16;
 /// The bytes of a dump that is taken in.
 const DUMP: usize = 1_000_000_000;
 /// The unused rows that are lent with each piece: more than one can fill.
-const LENT_FILES: usize = 32;
+const LENT_FILES: usize = 128;
 const LENT_OBJECTS: usize = 256;
+/// The dumps: one of a site, where each slot has its object, and one that is nearly all layouts.
+const SHAPES: [Shape; 2] = [
+    Shape {
+        slots: 4,
+        objects: 4,
+    },
+    Shape {
+        slots: SLOTS,
+        objects: 8,
+    },
+];
 
 /// Answer, position, report and tables after a run.
 type Ran = (u32, [u64; call::POSITION], [u64; call::REPORT], Tables);
@@ -48,7 +59,9 @@ fn main() {
     measure_run(rounds);
     measure_listing(rounds);
     measure_link(rounds);
-    measure_intake(rounds);
+    for shape in SHAPES {
+        measure_intake(shape, rounds);
+    }
     let [least, most] = [SIZES[0], SIZES[SIZES.len() - 1]];
     println!(
         "\nFrom {} to {} slots, {} times as many, the classes grow by{}.",
@@ -341,25 +354,25 @@ fn walk(
 }
 
 /// A dump of 1 GB, made piece by piece as it is taken in.
-fn measure_intake(rounds: usize) {
-    let dump = Dump::of(DUMP);
+fn measure_intake(shape: Shape, rounds: usize) {
+    let dump = Dump::of(shape, DUMP);
     let [files, objects] = dump.entries();
     let owners = dump.owners();
     let library = || {
         let mut state = vec![0; STATE];
-        take_in(&owners, |piece, files, objects| {
+        take_in(shape, |piece, files, objects| {
             lfsck_sys::intake_feed(&mut state, piece, &owners, files, objects, &mut [0])
         })
     };
     let plain = || {
         let mut state = plain::IntakeState::new();
-        take_in(&owners, |piece, files, objects| {
+        take_in(shape, |piece, files, objects| {
             plain::intake_feed(&mut state, piece, &owners, files, objects, &mut 0)
         })
     };
     let times = side_by_side(rounds, library, plain);
-    let (files, objects) = (grouped(files), grouped(objects));
-    let what = format!("intake of 1 GB in pieces of 64 KiB: {files} files, {objects} objects");
+    let (files, objects, slots) = (grouped(files), grouped(objects), shape.slots);
+    let what = format!("intake of 1 GB: {files} files of {slots} slots, {objects} objects");
     print_line(&what, times, "");
 }
 
@@ -367,11 +380,10 @@ fn measure_intake(rounds: usize) {
 /// the rows that it filled are counted and are unused again, so the memory is the same at all times.
 /// The result is what was filled: rows of both tables, and the sum of their bytes.
 fn take_in(
-    owners: &[u8],
+    shape: Shape,
     mut feed: impl FnMut(&[u8], &mut [u8], &mut [u8]) -> u32,
 ) -> Timed<[u64; 3]> {
-    let mut dump = Dump::of(DUMP);
-    assert_eq!(owners.len(), dump.owners_bytes());
+    let mut dump = Dump::of(shape, DUMP);
     let mut piece = vec![0; MOST_PIECE];
     let mut files = vec![0; LENT_FILES * parent::BYTES];
     let mut objects = vec![0; LENT_OBJECTS * object::BYTES];

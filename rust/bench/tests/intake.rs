@@ -1,6 +1,6 @@
 //! The plain reader of dumps and the reference on the same dumps, at the same cuts.
 
-use bench::dump::Dump as Long;
+use bench::dump::{Dump as Long, Shape};
 use bench::plain::{IntakeState, intake_end, intake_feed};
 use difftest::Random;
 use difftest::dumps::{Dump, Flaw};
@@ -65,7 +65,13 @@ fn compare(dump: &Dump, size: usize) {
 /// rows that the reference says.
 #[test]
 fn a_long_dump_is_made_as_it_goes() {
-    let mut long = Long::of(100_000);
+    for slots in [1, 160] {
+        let shape = Shape { slots, objects: 3 };
+        expect_made(Long::of(shape, 100_000));
+    }
+}
+
+fn expect_made(mut long: Long) {
     let [files, objects] = long.entries();
     let tables = || (vec![0; 3915 * files], vec![0; 46 * objects]);
     let (mut whole, mut piece) = (Vec::new(), vec![0; 1000]);

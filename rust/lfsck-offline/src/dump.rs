@@ -11,8 +11,8 @@ pub const FIRST: &[u8] = b"# file:";
 pub const TRUSTED: &[u8] = b"trusted.";
 /// So much of a line is kept: more than the digits of the longest attribute that Linux has.
 pub const MOST_LINE: usize = 1 << 18;
-/// So much of a name is kept.
-const MOST_NAME: usize = 1024;
+/// So much of an entry's first line is kept.
+const MOST_FIRST: usize = 1024;
 
 /// The attributes that are taken.
 #[derive(Clone, Copy, Debug, PartialEq, Eq)]
@@ -32,8 +32,16 @@ pub struct Origin {
     pub dump: usize,
     /// Its first line in that dump, counted from 1.
     pub line: u64,
-    /// Its name as the dump has it, or the beginning of a long one.
-    pub name: Vec<u8>,
+    /// That line, or the beginning of a long one.
+    pub text: Vec<u8>,
+}
+
+impl Origin {
+    /// The name as the dump has it.
+    pub fn name(&self) -> &[u8] {
+        let name = self.text.strip_prefix(FIRST).unwrap_or(&self.text);
+        name.strip_prefix(b" ").unwrap_or(name)
+    }
 }
 
 /// An entry that is open.
@@ -43,7 +51,7 @@ pub struct Entry {
     pub origin: Origin,
     /// The attributes that were taken.
     pub kinds: Vec<Kind>,
-    /// The bytes of its layout.
+    /// The bytes of its layout, as far as the line is kept.
     pub layout: usize,
 }
 
@@ -163,13 +171,11 @@ impl Dumps {
     }
 
     fn begin(&self, line: &[u8]) -> Entry {
-        let name = line.strip_prefix(FIRST).unwrap_or(line);
-        let name = name.strip_prefix(b" ").unwrap_or(name);
         Entry {
             origin: Origin {
                 dump: self.dump,
                 line: self.lines - self.before,
-                name: name[..name.len().min(MOST_NAME)].to_vec(),
+                text: line[..line.len().min(MOST_FIRST)].to_vec(),
             },
             kinds: Vec::new(),
             layout: 0,
@@ -218,15 +224,17 @@ mod tests {
         for size in 1..TEXT.len() {
             let dumps = taken(size);
             assert_eq!((dumps.lines, dumps.rest()), (5, &b"trust"[..]));
-            let origin = |line, name: &[u8]| Origin {
+            let origin = |line, text: &[u8]| Origin {
                 dump: 0,
                 line,
-                name: name.to_vec(),
+                text: text.to_vec(),
             };
-            assert_eq!(dumps.origin(Table::Parents, 0), Some(&origin(1, b"a")));
+            let first = dumps.origin(Table::Parents, 0);
+            assert_eq!(first, Some(&origin(1, b"# file: a")));
             assert_eq!(dumps.origin(Table::Objects, 0), None);
             let entry = dumps.entry.expect("an open entry");
-            assert_eq!(entry.origin, origin(4, b"b c"));
+            assert_eq!(entry.origin, origin(4, b"# file: b c"));
+            assert_eq!(entry.origin.name(), b"b c");
             assert_eq!(entry.kinds, [Kind::Fid]);
         }
     }
@@ -257,7 +265,7 @@ mod tests {
     }
 
     #[test]
-    fn very_long_lines_and_names_are_kept_in_part() {
+    fn very_long_lines_are_kept_in_part() {
         let mut dumps = Dumps::default();
         dumps.take(b"# file: ");
         for _ in 0..100 {
@@ -266,6 +274,7 @@ mod tests {
         assert_eq!(dumps.rest().len(), MOST_LINE);
         dumps.take(b"\n");
         let entry = dumps.entry.expect("an open entry");
-        assert_eq!(entry.origin.name, vec![b'n'; MOST_NAME]);
+        assert_eq!(entry.origin.text.len(), MOST_FIRST);
+        assert!(entry.origin.name().iter().all(|&byte| byte == b'n'));
     }
 }

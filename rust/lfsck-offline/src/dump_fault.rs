@@ -3,10 +3,8 @@
 use numbers::intake::ROOM;
 
 use crate::dump::{Entry, FIRST, Kind, MOST_LINE, TRUSTED};
+use crate::line_fault::shown;
 use crate::quoted::quoted;
-
-/// How much of a line is shown.
-const SHOWN: usize = 100;
 
 /// What is known of a line that was refused.
 pub struct Refused<'line> {
@@ -21,19 +19,8 @@ pub struct Refused<'line> {
 }
 
 impl Refused<'_> {
-    /// The reason, and the line.
-    pub fn words(&self) -> String {
-        let reason = self.reason();
-        match self.entry {
-            Some(entry) if self.text.is_empty() => {
-                let (name, line) = (shown(&entry.origin.name), entry.origin.line);
-                format!("{reason}; the entry is {name}, from line {line} on")
-            }
-            _ => format!("{reason}: {}", shown(self.text)),
-        }
-    }
-
-    fn reason(&self) -> String {
+    /// The reason.
+    pub fn reason(&self) -> String {
         match (self.number, self.entry) {
             (34, _) => {
                 let kind = self.kind().map_or("an attribute", |(kind, _)| kind.name());
@@ -45,7 +32,7 @@ impl Refused<'_> {
             }
             (36, _) => "neither trusted.lov nor trusted.fid".to_string(),
             (37, Some(entry)) if entry.layout > ROOM => {
-                format!("a layout of {} bytes, the room is {ROOM}", entry.layout)
+                format!("a layout of more than {ROOM} bytes, which is the room of a row")
             }
             (37, Some(entry)) if entry.kinds.contains(&Kind::Lov) => {
                 format!("more than {} files", numbers::parent::MOST)
@@ -124,12 +111,4 @@ fn bad_value(kind: Kind, value: &[u8]) -> String {
         count => format!("{count} bytes"),
     };
     format!("{name} has {bytes}, not {wanted}")
-}
-
-/// Some bytes in quotes, or their beginning.
-pub fn shown(bytes: &[u8]) -> String {
-    match bytes.get(..SHOWN) {
-        Some(first) if bytes.len() > SHOWN => format!("{}..", quoted(first)),
-        _ => quoted(bytes),
-    }
 }

@@ -243,7 +243,7 @@ Makes a case in DIR, which is made where it is missing, from dumps: what
 prints on an MDT and on OSTs. An entry with trusted.lov becomes a file, one with
 trusted.fid an object; trusted.lma has the own FID of both. Other attributes
 beginning with trusted. are skipped. Without DUMP, or with - for one, standard
-input is read.
+input is read. Of several dumps each is whole; the owners go on over all.
 
   --owners FILE      a line for each entry of the dumps, in their order: uid,
                      gid and OST index in decimal numbers, with one space
@@ -253,8 +253,9 @@ input is read.
   --reserve FILE     the FIDs for new objects, one in a line; empty lines and
                      lines that begin with # are skipped
 
-A fault is told with file, line and reason, and the line is shown; then no case
-is made. Files of a case that are already there are not overwritten.
+A fault is told with file, line and reason, and the line is shown; with --json
+these are the members of fault. Then no case is made. Files of a case that are
+already there are not overwritten.
 
   33  bad line, digits, length or owners, or the dump ends within an entry
   34  trusted.lov, trusted.fid or trusted.lma twice in an entry

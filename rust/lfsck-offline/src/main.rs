@@ -31,6 +31,7 @@ mod hook;
 mod intake;
 mod journal;
 mod json;
+mod line_fault;
 mod link;
 mod link_fault;
 mod lock;

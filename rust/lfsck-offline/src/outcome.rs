@@ -3,6 +3,7 @@
 use std::fmt::Display;
 
 use crate::json::Json;
+use crate::line_fault::LineFault;
 
 /// Exit statuses.
 #[derive(Clone, Copy, Debug, PartialEq, Eq)]
@@ -62,6 +63,8 @@ pub struct Failure {
     pub status: Status,
     /// The library's number, where it refused the input.
     pub answer: Option<u32>,
+    /// The line of a file that is at fault.
+    pub fault: Option<Box<LineFault>>,
 }
 
 impl Failure {
@@ -70,6 +73,7 @@ impl Failure {
             message,
             status,
             answer: None,
+            fault: None,
         }
     }
 
@@ -92,6 +96,15 @@ impl Failure {
         }
     }
 
+    /// A line of a file that is refused.
+    pub fn of_line(fault: LineFault) -> Failure {
+        Failure {
+            answer: fault.number,
+            fault: Some(Box::new(fault.clone())),
+            ..Failure::refused(fault.message())
+        }
+    }
+
     /// Trouble with a file.
     pub fn files(message: impl Display) -> Failure {
         Failure::new(message.to_string(), Status::Files)
@@ -99,10 +112,12 @@ impl Failure {
 
     /// For machines.
     pub fn json(&self) -> Json {
-        Json::Object(vec![
+        let mut members = vec![
             ("error", Json::text(&self.message)),
             ("status", Json::Number(self.status as u64)),
             ("answer", Json::maybe_number(self.answer)),
-        ])
+        ];
+        members.extend(self.fault.as_ref().map(|fault| ("fault", fault.json())));
+        Json::Object(members)
     }
 }

@@ -1,8 +1,8 @@
 //! The FIDs of a reserve, as a list that people write.
 
 use crate::fid::Fid;
+use crate::line_fault::LineFault;
 use crate::outcome::Failure;
-use crate::quoted::quoted;
 use crate::source::Source;
 
 /// The most bytes of a list.
@@ -24,8 +24,14 @@ impl Reserve {
         let text = source.read_all(MOST_BYTES)?;
         let parsed = Reserve::parse(&text);
         parsed.map_err(|(line, text)| {
-            let text = quoted(text);
-            Failure::refused(format!("{source}: line {line}: {text} is no FID"))
+            Failure::of_line(LineFault {
+                file: source.to_string(),
+                line: line as u64,
+                number: None,
+                reason: "this is no FID".to_string(),
+                text: text.to_vec(),
+                entry: None,
+            })
         })
     }
 

@@ -7,9 +7,11 @@
 mod attribute;
 mod owners;
 
+use std::collections::BTreeMap;
+
 use crate::answer::{ATTRIBUTE_TWICE, BAD_DUMP, NO_FIT, NO_KIND, NO_SELF};
 use crate::tables::{LAYOUT_AT, OBJECT_BYTES, PARENT_BYTES};
-use attribute::{Attribute, Kind};
+use attribute::Kind;
 use owners::OwnersLine;
 
 /// What the first line of an entry begins with.
@@ -42,12 +44,14 @@ pub struct Line {
 }
 
 /// The line at which reading stops.
-#[derive(Clone, Copy, Debug, PartialEq, Eq)]
+#[derive(Clone, Debug, PartialEq, Eq)]
 pub struct Fault {
     /// Its number, counted from 1.
     pub line: u64,
-    /// What is wrong with it, 33 to 37.
+    /// What is wrong with it: the lowest of 33 to 37 that applies.
     pub answer: u32,
+    /// The higher ones that apply to the same line, whatever rows the tables have.
+    pub higher: Vec<u32>,
     /// How many bytes of the dump end with it.
     pub end: usize,
 }
@@ -62,10 +66,9 @@ pub struct Reading {
 }
 
 /// An entry that is open.
-#[derive(Default)]
 struct Open {
     first: u64,
-    attributes: Vec<Attribute>,
+    values: BTreeMap<Kind, Vec<u8>>,
 }
 
 impl Reading {
@@ -86,12 +89,8 @@ impl Reading {
                     closed,
                     taken,
                 }),
-                Err(answer) => {
-                    reading.fault = Some(Fault {
-                        line: number,
-                        answer,
-                        end,
-                    });
+                Err(numbers) => {
+                    reading.fault = Some(Fault::of(number, end, numbers));
                     break;
                 }
             }
@@ -111,82 +110,117 @@ impl Reading {
     }
 }
 
-/// Judges a line; an entry that it closes is handed out.
+impl Fault {
+    /// A line to which these numbers apply, the lowest first.
+    fn of(line: u64, end: usize, mut numbers: Vec<u32>) -> Fault {
+        Fault {
+            line,
+            answer: numbers.remove(0),
+            higher: numbers,
+            end,
+        }
+    }
+}
+
+/// Judges a line: the entry that it closes is handed out, or all numbers that apply.
 fn judge(
     text: &[u8],
     number: u64,
     open: &mut Option<Open>,
     owners: &[u8],
     taken: &mut usize,
-) -> Result<Option<Entry>, u32> {
+) -> Result<Option<Entry>, Vec<u32>> {
     match open {
         None if text.starts_with(FIRST) => {
             *open = Some(Open {
                 first: number,
-                attributes: Vec::new(),
+                values: BTreeMap::new(),
             });
             Ok(None)
         }
-        None => Err(BAD_DUMP),
+        None => Err(vec![BAD_DUMP]),
         Some(entry) if text.is_empty() => {
-            let (owner, after) = owners::next(owners, *taken).ok_or(BAD_DUMP)?;
-            let entry = entry.close(owner)?;
-            *taken = after;
+            let line = owners::next(owners, *taken);
+            let closed = entry.close(line.map(|(owner, _)| owner))?;
+            *taken = line.map_or(*taken, |(_, after)| after);
             *open = None;
-            Ok(Some(entry))
+            Ok(Some(closed))
         }
         Some(entry) => {
-            let named = text.strip_prefix(TRUSTED).ok_or(BAD_DUMP)?;
-            entry.add(Attribute::parse(named)?)?;
-            Ok(None)
+            let named = text.strip_prefix(TRUSTED).ok_or([BAD_DUMP])?;
+            entry.add(named).map(|()| None)
         }
     }
 }
 
+/// Those of some numbers that apply.
+fn applying<const COUNT: usize>(numbers: [(u32, bool); COUNT]) -> Vec<u32> {
+    let applying = numbers.into_iter().filter(|(_, applies)| *applies);
+    applying.map(|(number, _)| number).collect()
+}
+
 impl Open {
-    /// Adds an attribute that is taken.
-    fn add(&mut self, attribute: Option<Attribute>) -> Result<(), u32> {
-        let Some(attribute) = attribute else {
+    /// Adds the attribute of a line without its `trusted.`, if it is one that is taken.
+    fn add(&mut self, named: &[u8]) -> Result<(), Vec<u32>> {
+        let Some((kind, value)) = attribute::taken(named) else {
             return Ok(());
         };
-        if self.value(attribute.kind).is_some() {
-            return Err(ATTRIBUTE_TWICE);
-        }
-        self.attributes.push(attribute);
-        Ok(())
-    }
-
-    fn value(&self, kind: Kind) -> Option<&[u8]> {
-        let mut found = self.attributes.iter().filter(|known| known.kind == kind);
-        found.next().map(|attribute| &attribute.value[..])
-    }
-
-    /// The entry with its owner's line, as a row.
-    fn close(&self, owner: OwnersLine) -> Result<Entry, u32> {
-        // Compat 4 and incompat 4 stand before the self FID.
-        let own = &self.value(Kind::Lma).ok_or(NO_SELF)?[8..];
-        let mut row = vec![1];
-        row.extend(own);
-        match (self.value(Kind::Lov), self.value(Kind::Fid)) {
-            (Some(layout), None) if layout.len() > ROOM => Err(NO_FIT),
-            (Some(layout), None) => {
-                row.extend(owner.uid.to_le_bytes());
-                row.extend(owner.gid.to_le_bytes());
-                row.extend((layout.len() as u16).to_le_bytes());
-                row.extend(layout);
-                Ok(Entry::Parent(row))
+        match value {
+            Some(value) if !self.values.contains_key(&kind) => {
+                self.values.insert(kind, value);
+                Ok(())
             }
-            (None, Some(claim)) => {
-                row.extend(owner.index.to_le_bytes());
-                row.extend(owner.uid.to_le_bytes());
-                row.extend(owner.gid.to_le_bytes());
-                row.extend(&claim[..16]);
-                row.push(0);
-                Ok(Entry::Object(row))
-            }
-            _ => Err(NO_KIND),
+            value => Err(applying([
+                (BAD_DUMP, value.is_none()),
+                (ATTRIBUTE_TWICE, self.values.contains_key(&kind)),
+            ])),
         }
     }
+
+    /// The entry with its owners line, if it has a good one, as a row.
+    fn close(&self, owner: Option<OwnersLine>) -> Result<Entry, Vec<u32>> {
+        let [lov, fid, lma] = [Kind::Lov, Kind::Fid, Kind::Lma].map(|kind| self.values.get(&kind));
+        let long = lov.is_some_and(|layout| layout.len() > ROOM);
+        match (owner, lma, lov, fid) {
+            (Some(owner), Some(lma), Some(layout), None) if !long => {
+                Ok(Entry::Parent(parent_row(lma, owner, layout)))
+            }
+            (Some(owner), Some(lma), None, Some(claim)) => {
+                Ok(Entry::Object(object_row(lma, owner, claim)))
+            }
+            _ => Err(applying([
+                (BAD_DUMP, owner.is_none()),
+                (NO_SELF, lma.is_none()),
+                (NO_KIND, lov.is_some() == fid.is_some()),
+                (NO_FIT, long),
+            ])),
+        }
+    }
+}
+
+/// Compat 4 and incompat 4 stand before the self FID.
+const SELF_AT: usize = 8;
+
+fn parent_row(lma: &[u8], owner: OwnersLine, layout: &[u8]) -> Vec<u8> {
+    let mut row = vec![1];
+    row.extend(&lma[SELF_AT..]);
+    row.extend(owner.uid.to_le_bytes());
+    row.extend(owner.gid.to_le_bytes());
+    row.extend((layout.len() as u16).to_le_bytes());
+    row.extend(layout);
+    row
+}
+
+/// Of the older `trusted.fid`, too, the first 16 bytes are the claim.
+fn object_row(lma: &[u8], owner: OwnersLine, claim: &[u8]) -> Vec<u8> {
+    let mut row = vec![1];
+    row.extend(&lma[SELF_AT..]);
+    row.extend(owner.index.to_le_bytes());
+    row.extend(owner.uid.to_le_bytes());
+    row.extend(owner.gid.to_le_bytes());
+    row.extend(&claim[..16]);
+    row.push(0);
+    row
 }
 
 impl Entry {
@@ -215,25 +249,16 @@ pub fn read(
     objects: &mut [u8],
 ) -> Result<(), Fault> {
     let reading = Reading::of(dump, owners);
-    for (at, line) in reading.lines.iter().enumerate() {
-        let fits = line.closed.as_ref().map(|row| row.fill(parents, objects));
-        if fits == Some(false) {
-            return Err(Fault {
-                line: at as u64 + 1,
-                answer: NO_FIT,
-                end: line.end,
-            });
+    for (line, number) in reading.lines.iter().zip(1..) {
+        let row = line.closed.as_ref();
+        if row.is_some_and(|row| !row.fill(parents, objects)) {
+            return Err(Fault::of(number, line.end, vec![NO_FIT]));
         }
     }
     let end = dump.len();
-    let unclosed = || {
-        reading.unclosed(end).map(|line| Fault {
-            line,
-            answer: BAD_DUMP,
-            end,
-        })
-    };
-    reading.fault.or_else(unclosed).map_or(Ok(()), Err)
+    let unclosed = reading.unclosed(end);
+    let unclosed = unclosed.map(|line| Fault::of(line, end, vec![BAD_DUMP]));
+    reading.fault.or(unclosed).map_or(Ok(()), Err)
 }
 
 #[cfg(test)]

@@ -175,8 +175,8 @@ impl Flaw {
                 let rest = text.split_off(DIGITS.min(text.len()));
                 text.truncate(11);
                 text.extend(other.bytes());
-                // Digits behind a `0` alone would be none.
-                if random.one_in(2) && other != "=0" {
+                // Behind the name alone digits would make it another name.
+                if random.one_in(2) && !other.is_empty() {
                     text.extend(rest);
                 }
             }

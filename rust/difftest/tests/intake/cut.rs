@@ -21,6 +21,15 @@ pub enum Cut {
 const MOST: usize = 65_536;
 
 impl Cut {
+    /// All of them.
+    pub const ALL: [Cut; 5] = [
+        Cut::Whole,
+        Cut::Few,
+        Cut::Disturbed,
+        Cut::SingleBytes,
+        Cut::EveryPlace,
+    ];
+
     /// The lengths of the pieces of so many bytes, none of them too long.
     pub fn pieces(self, bytes: usize, random: &mut Random) -> Vec<usize> {
         match self {

@@ -4,7 +4,8 @@ use std::hint::black_box;
 
 use difftest::Random;
 use difftest::dumps::Dump;
-use reference::intake;
+use numbers::{object, parent};
+use reference::intake::{self, Fault};
 use reference::interface::{Feeding, STATE_BYTES};
 
 use crate::seen::{Refused, Seen};
@@ -51,11 +52,6 @@ impl<'dump> Both<'dump> {
     /// Whether a row was filled.
     pub fn has_filled(&self) -> bool {
         self.theirs.parents != self.dump.parents || self.theirs.objects != self.dump.objects
-    }
-
-    /// The library's state.
-    pub fn state(&self) -> &[u8] {
-        &self.state
     }
 
     /// Feeds the next so many bytes.
@@ -133,13 +129,10 @@ impl<'dump> Both<'dump> {
             ),
             Refused::Table => self.refuse_table(random),
             Refused::State => self.refuse_state(random),
+            Refused::Owners if self.feeding.taken() == 0 => return,
             Refused::Owners => {
-                let stopped = self.feeding.stopped().is_some();
-                let taken = self.feeding.taken();
-                if taken == 0 || stopped {
-                    return;
-                }
-                expect_answer(self.call(random.below(taken), b"", &[1]), 16);
+                let short = random.below(self.feeding.taken());
+                expect_answer(self.call(short, b"", &[1]), 16);
             }
             Refused::Out => expect_answer(self.call(self.dump.owners.len(), b"", &[]), 17),
             Refused::End => {
@@ -155,20 +148,22 @@ impl<'dump> Both<'dump> {
         );
     }
 
-    /// A table that is 11: not whole rows, or a mark above 1.
+    /// A table that is 11: not whole rows, or a mark above 1 in some row.
     fn refuse_table(&mut self, random: &mut Random) {
         let sound = self.theirs.clone();
-        let table = match random.one_in(2) {
-            true => &mut self.theirs.parents,
-            false => &mut self.theirs.objects,
+        let (table, size) = match random.one_in(2) {
+            true => (&mut self.theirs.parents, parent::BYTES),
+            false => (&mut self.theirs.objects, object::BYTES),
         };
-        match table.first_mut() {
-            Some(mark) if random.one_in(2) => *mark = random.pick(&[2, 128, 255]),
-            _ => table.push(0),
+        let rows = table.len() / size;
+        match rows > 0 && random.one_in(2) {
+            true => table[random.below(rows) * size] = random.pick(&[2, 128, 255]),
+            false => table.push(0),
         }
         self.ours = self.theirs.clone();
         let answer = self.call(self.dump.owners.len(), b"", &[]);
         expect_answer(answer, 11);
+        assert!(self.theirs == self.ours, "a refused table changed");
         (self.ours, self.theirs) = (sound.clone(), sound);
     }
 
@@ -183,8 +178,9 @@ impl<'dump> Both<'dump> {
         self.state = state;
     }
 
-    /// The tables after the whole dump are those of the definition on it.
-    pub fn require_whole(&self) {
+    /// Tables, answer and line after the whole dump are those of the definition on it, whose fault
+    /// is handed out.
+    pub fn require_whole(&self) -> Option<Fault> {
         let (mut parents, mut objects) = (self.dump.parents.clone(), self.dump.objects.clone());
         let fault = intake::read(
             &self.dump.text,
@@ -194,10 +190,13 @@ impl<'dump> Both<'dump> {
         );
         let whole = Tables { parents, objects };
         assert!(whole == self.theirs, "tables of {:?}", self.dump);
-        let (answer, line) = fault.map_or_else(|fault| (fault.answer, fault.line), |()| (0, 7));
+        let fault = fault.err();
+        let told = fault.as_ref();
+        let (answer, line) = told.map_or((0, 7), |fault| (fault.answer, fault.line));
         let mut out = [7];
         assert_eq!(lfsck_sys::intake_end(&self.state, &mut out), answer);
         assert_eq!(out, [line], "{:?}", self.dump);
+        fault
     }
 }
 

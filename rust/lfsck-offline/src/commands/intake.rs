@@ -10,11 +10,11 @@ use crate::args::IntakeOptions;
 use crate::bar::{Bar, Work};
 use crate::case::Case;
 use crate::dump::{Dumps, Origin};
-use crate::dump_fault::{Refused, shown};
+use crate::dump_fault::Refused;
 use crate::faults::{Fault, faults};
-use crate::hex;
 use crate::intake::{Intake, Stop};
 use crate::json::Json;
+use crate::line_fault::{LineFault, named, shown};
 use crate::outcome::{Failure, Outcome, Status};
 use crate::reserve::Reserve;
 use crate::source::Source;
@@ -150,7 +150,7 @@ impl Reader<'_> {
         Ok(())
     }
 
-    /// The line for a fault in a piece.
+    /// The failure for a fault in a piece.
     fn refusal(&mut self, source: &Source, stop: Stop, piece: &[u8]) -> Failure {
         let text = self.dumps.take_to(stop.line, piece);
         let entries = self.dumps.closed;
@@ -163,28 +163,31 @@ impl Reader<'_> {
             entry: self.dumps.entry.as_ref(),
             owner: (entries + 1, owner),
         };
-        self.failure(source, stop, &refused.words())
+        self.failure(source, stop, refused.reason(), &text)
     }
 
-    /// The line for a dump that ends too soon.
+    /// The failure for a dump that ends too soon.
     fn unended(&self, source: &Source, stop: Stop) -> Failure {
-        let words = match &self.dumps.entry {
-            Some(entry) => {
-                let name = shown(&entry.origin.name);
-                format!("the dump ends before the empty line that closes this entry: {name}")
-            }
-            None => {
-                let line = shown(self.dumps.rest());
-                format!("the dump ends in this line, which begins no entry: {line}")
-            }
+        let (reason, text) = match &self.dumps.entry {
+            Some(entry) => (
+                "the dump ends before the empty line that closes this entry",
+                &entry.origin.text[..],
+            ),
+            None => ("the dump ends within this line", self.dumps.rest()),
         };
-        self.failure(source, stop, &words)
+        self.failure(source, stop, reason.to_string(), text)
     }
 
-    fn failure(&self, source: &Source, stop: Stop, words: &str) -> Failure {
-        let (line, number) = (self.dumps.line_here(stop.line), stop.number);
-        let message = format!("{source}: line {line} is refused with {number}: {words}");
-        Failure::answered(number, message)
+    fn failure(&self, source: &Source, stop: Stop, reason: String, text: &[u8]) -> Failure {
+        let entry = self.dumps.entry.as_ref();
+        Failure::of_line(LineFault {
+            file: source.to_string(),
+            line: self.dumps.line_here(stop.line),
+            number: Some(stop.number),
+            reason,
+            text: text.to_vec(),
+            entry: entry.map(|entry| entry.origin.clone()),
+        })
     }
 }
 
@@ -239,7 +242,7 @@ impl Taken {
     fn line(&self, options: &IntakeOptions, fault: &Fault) -> String {
         let from = match (self.origin(fault), self.reserve_line(options, fault)) {
             (Some(origin), _) => {
-                let (name, line) = (shown(&origin.name), origin.line);
+                let (name, line) = (shown(origin.name()), origin.line);
                 let source = &options.dumps[origin.dump];
                 format!("      {name}, line {line} of {source}\n")
             }
@@ -293,21 +296,17 @@ impl Taken {
         let source = source.or(reserve.map(|(source, _)| source));
         let line = origin.map(|origin| origin.line);
         let line = line.or(reserve.map(|(_, line)| line as u64));
-        let name = origin.map(|origin| &origin.name[..]);
-        Json::Object(vec![
+        let mut members = vec![
             ("number", Json::Number(fault.number.into())),
             ("table", Json::text(fault.table.file())),
             ("row", Json::maybe_number(fault.row.map(|row| row as u64))),
             ("field", Json::text(&fault.field)),
             ("reason", Json::text(&fault.reason)),
-            ("source", Json::maybe(source)),
+            ("file", Json::maybe(source)),
             ("line", Json::maybe_number(line)),
-            (
-                "name",
-                Json::maybe(name.and_then(|it| str::from_utf8(it).ok())),
-            ),
-            ("name_hex", Json::maybe(name.map(hex::encode))),
-        ])
+        ];
+        members.extend(named(origin.map(Origin::name)));
+        Json::Object(members)
     }
 }
 

@@ -7,9 +7,9 @@ use std::process::{Command, Stdio};
 
 use difftest::dumps::{Dump, Flaw};
 use difftest::{Coverage, Random};
-use reference::intake::read;
+use reference::intake::{Fault, read};
 
-use crate::json::parse;
+use crate::json::{Value, parse};
 use crate::tool::{Case, TOOL, Told, faulty};
 
 const SITE: &str = concat!(env!("CARGO_MANIFEST_DIR"), "/../../tests/data/site");
@@ -240,8 +240,8 @@ fn entries_that_are_bad() {
             ),
             (
                 entry("a", &[LMA, &long]),
-                "line 4 is refused with 37: a layout of 3889 bytes, the room is 3888; the entry \
-                 is \"a\"",
+                "line 4 is refused with 37: a layout of more than 3888 bytes, which is the room of \
+                 a row; the entry is \"a\"",
             ),
         ],
     );
@@ -256,12 +256,11 @@ fn dumps_and_owners_that_end_too_soon() {
             (
                 format!("{good}# file: b c\n{LMA}"),
                 "line 5 is refused with 33: the dump ends before the empty line that closes this \
-                 entry: \"b c\"",
+                 entry: \"# file: b c\"",
             ),
             (
                 format!("{good}# fi"),
-                "line 5 is refused with 33: the dump ends in this line, which begins no entry: \
-                 \"# fi\"",
+                "line 5 is refused with 33: the dump ends within this line: \"# fi\"",
             ),
             (
                 good.repeat(4),
@@ -340,15 +339,25 @@ fn faults_are_those_of_the_reference() {
             }
             Err(fault) => {
                 met.met(fault.answer);
-                let words = format!("line {} is refused with {}: ", fault.line, fault.answer);
-                let told = told.expect_line(2, &words);
-                assert!(!made(&case).exists(), "{told:?}");
-                let reason = told.err.split(&words).nth(1).expect("a reason");
-                assert!(reason.contains(word_of(fault.answer)), "{told:?}");
+                expect_fault(told, &fault);
+                assert!(!made(&case).exists());
+                let told = take(&case, &dump.text, &dump.owners, &["--json"]).expect(2);
+                let told = parse(&told.out);
+                let (line, number) = (fault.line, fault.answer.into());
+                let told = told.get("fault");
+                assert_eq!((told.number("line"), told.number("number")), (line, number));
             }
         }
     }
     met.require(1);
+}
+
+/// Line and number of a fault are told, with a reason that belongs to the number.
+fn expect_fault(told: Told, fault: &Fault) {
+    let words = format!("line {} is refused with {}: ", fault.line, fault.answer);
+    let told = told.expect_line(2, &words);
+    let reason = told.err.split(&words).nth(1).expect("a reason");
+    assert!(reason.contains(word_of(fault.answer)), "{told:?}");
 }
 
 /// A word that is in every reason of a number.
@@ -357,7 +366,7 @@ fn word_of(number: u32) -> &'static str {
         34 => "a second time",
         35 => "no trusted.lma",
         36 => "trusted.lov",
-        37 => "the room is",
+        37 => "more than 3888 bytes",
         _ => "\"",
     }
 }
@@ -413,11 +422,11 @@ fn what_the_check_refuses_is_told_to_machines() {
     assert_eq!(faults.len(), 3);
     assert_eq!(faults[0].text("name"), "a b\\012");
     assert_eq!(
-        (faults[1].text("source"), faults[1].number("line")),
+        (faults[1].text("file"), faults[1].number("line")),
         ("dump", 5)
     );
     assert_eq!(
-        (faults[2].text("source"), faults[2].number("line")),
+        (faults[2].text("file"), faults[2].number("line")),
         ("list", 3)
     );
 }
@@ -436,8 +445,51 @@ fn a_reserve_is_a_list_of_fids() {
     std::fs::remove_dir_all(made(&case)).expect("the case");
     case.write("list", b"0x240000400:1\n\x1b\n");
     let told = take(&case, dump.as_bytes(), b"1 2 3", &["--reserve", "list"]);
-    told.expect_line(2, "list: line 2: \"\\x1b\" is no FID");
+    told.expect_line(2, "list: line 2: this is no FID: \"\\x1b\"");
     assert!(!made(&case).exists());
+}
+
+/// For machines a fault has file, line, number, reason and the line as members of their own.
+#[test]
+fn a_fault_is_told_to_machines() {
+    let case = Case::empty("intake-fault-json");
+    let failure = |dump: &str, words: &[&str]| {
+        let words: Vec<&str> = words.iter().copied().chain(["--json"]).collect();
+        let told = take(&case, dump.as_bytes(), OWNERS.as_bytes(), &words).expect(2);
+        parse(&told.out)
+    };
+    let good = entry("a", &[LMA, LOV]);
+    let told = failure(
+        &(good.clone() + &entry("b c", &[LMA, "user.\u{e9}\n"])),
+        &[],
+    );
+    assert_eq!((told.number("status"), told.number("answer")), (2, 33));
+    let fault = told.get("fault");
+    assert_eq!((fault.text("file"), fault.number("line")), ("dump", 7));
+    assert_eq!(fault.number("number"), 33);
+    let reason = fault.text("reason");
+    assert!(reason.starts_with("no attribute that begins"), "{reason}");
+    assert!(!reason.contains("user."), "{reason}");
+    assert_eq!(fault.text("text"), "user.\u{e9}");
+    assert_eq!(fault.text("text_hex"), "757365722ec3a9");
+    assert_eq!((fault.text("name"), fault.number("entry_line")), ("b c", 5));
+    let told = failure(&(good.clone() + &entry("b", &[LMA])), &[]);
+    let fault = told.get("fault");
+    assert_eq!((fault.number("line"), fault.number("number")), (7, 36));
+    assert_eq!((fault.text("text"), fault.text("name_hex")), ("", "62"));
+    let told = failure(&format!("{good}# file: b"), &[]);
+    assert_eq!(told.get("fault").number("line"), 5);
+    assert_eq!(told.get("fault").get("entry_line"), &Value::Null);
+    case.write("list", b"\nabc\n");
+    let told = failure(&good, &["--reserve", "list"]);
+    let fault = told.get("fault");
+    assert_eq!((fault.text("file"), fault.number("line")), ("list", 2));
+    assert_eq!(fault.get("number"), &Value::Null);
+    // What is no line of a file has none.
+    let Value::Object(members) = failure(&good, &["--spare-files", "2000"]) else {
+        panic!("no object");
+    };
+    assert!(!members.contains_key("fault"), "{members:?}");
 }
 
 #[test]
@@ -526,37 +578,55 @@ fn very_long_lines() {
     }
 }
 
-/// A case is made whole or not at all, also where the tool is killed at an operation.
+/// Takes the site in with a fault, as `abort:3`.
+fn with_fault(case: &Case, fault: String) -> Told {
+    let mut command = Command::new(faulty());
+    command.current_dir(case.path());
+    command.args(["intake", "made", "dump", "--owners", "owners"]);
+    command.env("LFSCK_OFFLINE_FAULT", fault);
+    command.output().expect("the tool").into()
+}
+
+/// Whether there is a case; where there is none, the same intake makes it now. Then it is that of
+/// the site, with no other file beside it, and is removed.
+fn is_whole(case: &Case) -> bool {
+    let checked = on_made(case, &["check"]);
+    let whole = checked.status == Some(0);
+    if !whole {
+        checked.expect(74);
+        intake(case, TOOL.as_ref(), &["dump", "--owners", "owners"]).expect(0);
+    }
+    let tables = (table(case, "parents.tbl"), table(case, "objects.tbl"));
+    assert!(tables == (of_site("parents.tbl"), of_site("objects.tbl")));
+    let entries = std::fs::read_dir(made(case)).expect("the case");
+    let mut names: Vec<_> = entries.map(|it| it.expect("a file").file_name()).collect();
+    names.sort_unstable();
+    assert_eq!(names, ["objects.tbl", "parents.tbl", "reserve.tbl"]);
+    std::fs::remove_dir_all(made(case)).expect("the case");
+    whole
+}
+
+/// A case is made whole or not at all, also where the tool is killed at an operation, or one fails.
 #[test]
 fn a_kill_at_any_operation_leaves_a_whole_case_or_none() {
     let case = Case::empty("intake-kill");
     case.write("dump", &of_site("dump.txt"));
     case.write("owners", &of_site("owners.txt"));
-    let expected = (of_site("parents.tbl"), of_site("objects.tbl"));
-    let mut whole = 0;
-    for number in 1.. {
-        let mut command = Command::new(faulty());
-        command.current_dir(case.path());
-        command.args(["intake", "made", "dump", "--owners", "owners"]);
-        command.env("LFSCK_OFFLINE_FAULT", format!("abort:{number}"));
-        let told = Told::from(command.output().expect("the tool"));
-        if told.status.is_some() {
-            told.expect(0);
-            break;
-        }
-        let checked = on_made(&case, &["check"]);
-        match checked.status {
-            Some(0) => {
-                whole += 1;
-                let tables = (table(&case, "parents.tbl"), table(&case, "objects.tbl"));
-                assert!(tables == expected, "{number}");
+    for kind in ["abort", "fail"] {
+        let (mut none, mut whole) = (0, 0);
+        for number in 1.. {
+            let told = with_fault(&case, format!("{kind}:{number}"));
+            if told.status == Some(0) {
+                assert!(is_whole(&case));
+                break;
             }
-            _ => {
-                checked.expect(74);
-                assert_eq!(whole, 0, "none again, {number}");
+            assert_eq!(told.status, (kind == "fail").then_some(74), "{told:?}");
+            match is_whole(&case) {
+                true => whole += 1,
+                false => none += 1,
             }
         }
-        std::fs::remove_dir_all(made(&case)).expect("the case");
+        println!("{kind}: {none} times none, {whole} times a whole case");
+        assert!(none > 3 && whole > 3);
     }
-    assert!(whole > 3);
 }

@@ -1,7 +1,5 @@
 //! Lines of attributes.
 
-use crate::answer::BAD_DUMP;
-
 /// The attributes that are taken.
 #[derive(Clone, Copy, Debug, PartialEq, Eq, PartialOrd, Ord)]
 pub enum Kind {
@@ -11,15 +9,6 @@ pub enum Kind {
     Fid,
     /// The self FID.
     Lma,
-}
-
-/// An attribute that is taken, with a value of a good length.
-#[derive(Clone, Debug, PartialEq, Eq)]
-pub struct Attribute {
-    /// Which one.
-    pub kind: Kind,
-    /// Its bytes.
-    pub value: Vec<u8>,
 }
 
 impl Kind {
@@ -41,21 +30,14 @@ impl Kind {
     }
 }
 
-impl Attribute {
-    /// The attribute of a line without its `trusted.`; none where it is one that is skipped.
-    pub fn parse(line: &[u8]) -> Result<Option<Attribute>, u32> {
-        let equals = line.iter().position(|&byte| byte == b'=');
-        let (name, value) = line.split_at(equals.unwrap_or(line.len()));
-        let Some(kind) = Kind::of_name(name) else {
-            return Ok(None);
-        };
-        let digits = value.strip_prefix(b"=0x").ok_or(BAD_DUMP)?;
-        let value = bytes_of(digits).ok_or(BAD_DUMP)?;
-        match kind.may_have(value.len()) {
-            true => Ok(Some(Attribute { kind, value })),
-            false => Err(BAD_DUMP),
-        }
-    }
+/// The attribute of a line without its `trusted.`, with its value where that is good; none where
+/// it is one that is skipped.
+pub fn taken(line: &[u8]) -> Option<(Kind, Option<Vec<u8>>)> {
+    let equals = line.iter().position(|&byte| byte == b'=');
+    let (name, value) = line.split_at(equals.unwrap_or(line.len()));
+    let kind = Kind::of_name(name)?;
+    let value = value.strip_prefix(b"=0x").and_then(bytes_of);
+    Some((kind, value.filter(|value| kind.may_have(value.len()))))
 }
 
 /// The bytes that pairs of digits stand for.

@@ -100,7 +100,7 @@ fn what_stands_after_some_bytes_is_what_their_lines_say() {
             let part = Reading::of(&dump.as_bytes()[..bytes], OWNERS.as_bytes());
             let lines = whole.lines.iter().filter(|line| line.end <= bytes);
             assert!(part.lines.iter().eq(lines), "{bytes} bytes of {dump:?}");
-            let fault = whole.fault.filter(|fault| fault.end <= bytes);
+            let fault = whole.fault.clone().filter(|fault| fault.end <= bytes);
             assert_eq!(part.fault, fault, "{bytes} bytes of {dump:?}");
             if fault.is_none() {
                 assert_eq!(part.unclosed(bytes), whole.unclosed(bytes));
@@ -404,6 +404,30 @@ fn a_row_that_does_not_fit() {
     assert_eq!(told(&two, &owners), (0, 0));
     let long = format!("trusted.lov=0x{}\n", "00".repeat(ROOM + 1));
     assert_eq!(told(&entry(&[LMA, &long]), OWNERS), (37, 4));
+}
+
+#[test]
+fn all_numbers_that_apply_to_a_line_are_listed() {
+    let long = format!("trusted.lov=0x{}\n", "00".repeat(ROOM + 1));
+    let bad = "trusted.lma=0x00\n";
+    for (lines, owners, numbers) in [
+        (&[LMA, LOV][..], "", &[33][..]),
+        (&[LMA, bad], OWNERS, &[33, 34]),
+        (&[bad], OWNERS, &[33]),
+        (&[LMA, LMA], OWNERS, &[34]),
+        (&[&long, FID], "", &[33, 35, 36, 37]),
+        (&[&long, FID], OWNERS, &[35, 36, 37]),
+        (&[LMA, &long, FID], OWNERS, &[36, 37]),
+        (&[LMA, &long], OWNERS, &[37]),
+        (&[], OWNERS, &[35, 36]),
+        (&[LOV], OWNERS, &[35]),
+        (&[LMA], OWNERS, &[36]),
+    ] {
+        let reading = Reading::of(entry(lines).as_bytes(), owners.as_bytes());
+        let fault = reading.fault.expect("a fault");
+        let all: Vec<u32> = [fault.answer].into_iter().chain(fault.higher).collect();
+        assert_eq!(all, numbers, "{lines:?}");
+    }
 }
 
 // Point 7: the end.

@@ -101,7 +101,8 @@ impl Feeding {
             }
             self.lines += 1;
         }
-        let fault = self.reading.fault.filter(|fault| fault.end <= self.fed);
+        let fault = self.reading.fault.as_ref();
+        let fault = fault.filter(|fault| fault.end <= self.fed);
         fault.map(|fault| (fault.answer, fault.line))
     }
 }
