@@ -3,18 +3,6 @@ use borrow.Author.Needs.{needs}
 use Rattle.intake_line.proofs.base_of.Statement.{statement}
 use Rattle.intake_line.proofs.base_of.Tie as tie
 
-enum-told : tie.Need-enum-told
-enum-told c = search needs
-
-enum-told-2 : tie.Need-enum-told-2
-enum-told-2 c = search needs
-
-enum-told-3 : tie.Need-enum-told-3
-enum-told-3 c = search needs
-
-enum-told-4 : tie.Need-enum-told-4
-enum-told-4 c = search needs
-
 returns : tie.Need-returns
 unfolding baseOf
 returns c = cc
@@ -33,5 +21,4 @@ returns-4 c = cc
 
 pub base-of-spec : {M : Type 1} → statement M
 base-of-spec =
-    tie.close
-    (tie.spec enum-told enum-told-2 enum-told-3 enum-told-4 returns returns-2 returns-3 returns-4)
+    tie.close (tie.spec (λ c. search needs) (λ c. search needs) (λ c. search needs) (λ c. search needs) returns returns-2 returns-3 returns-4)

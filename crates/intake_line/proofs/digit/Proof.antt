@@ -6,23 +6,14 @@ use Rattle.intake_line.proofs.StartsLaws.{digit-low, digit-number, fold
 use Rattle.intake_line.proofs.digit.Statement.{statement}
 use Rattle.intake_line.proofs.digit.Tie as tie
 
-wide-requires : tie.Need-wide-requires
-wide-requires c κs = search needs
-
 returns : tie.Need-returns
 returns c = (digit-low _ (omega arith), omega arith)
 
 returns-2 : tie.Need-returns-2
 returns-2 c = (digit-number _ _ (omega arith) (omega arith) (omega arith), omega arith)
 
-folded-requires : tie.Need-folded-requires
-folded-requires c κs = search needs
-
 returns-3 : tie.Need-returns-3
 returns-3 c = (fold-before _ _ (c .before .folded .ensures ∙ ap folded (c .before .before .before .before .wide .ensures)) (omega arith) (omega arith), omega arith)
-
-sub-result : tie.Need-sub-result
-sub-result c = search needs
 
 returns-4 : tie.Need-returns-4
 returns-4 c = (fold-digit _ _ (c .before .before .folded .ensures ∙ ap folded (c .before .before .before .before .before .wide .ensures)) (omega arith) (omega arith) (omega arith), omega arith)
@@ -31,14 +22,4 @@ returns-5 : tie.Need-returns-5
 returns-5 c = (fold-after _ _ (c .before .before .folded .ensures ∙ ap folded (c .before .before .before .before .before .wide .ensures)) (omega arith) (omega arith), omega arith)
 
 pub digit-spec : {M : Type 1} → statement M
-digit-spec =
-    tie.close
-    (tie.spec
-    wide-requires
-    returns
-    returns-2
-    folded-requires
-    returns-3
-    sub-result
-    returns-4
-    returns-5)
+digit-spec = tie.close (tie.spec (λ c κs. search needs) returns returns-2 (λ c κs. search needs) returns-3 (λ c. search needs) returns-4 returns-5)

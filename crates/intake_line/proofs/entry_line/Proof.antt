@@ -5,52 +5,25 @@ use borrow.Author.Needs.{needs}
 use Rattle.intake_line.proofs.entry_line.Statement.{statement}
 use Rattle.intake_line.proofs.entry_line.Tie as tie
 
-enum-told : tie.Need-enum-told
-enum-told c = search needs
-
-enum-told-2 : tie.Need-enum-told-2
-enum-told-2 c = search needs
-
-no-marks-requires : tie.Need-no-marks-requires
-no-marks-requires c κs = search needs
-
 returns : tie.Need-returns
 returns c =
     let a = c .before .before .before .before .args in rw (c .no-marks .ensures) (step-open (a .from) (a .m) (a .s) (a .size) (a .line) (c .before .if1 .taken) (c .before .before .enum-told2 .given .1) (omega arith))
-
-enum-told-3 : tie.Need-enum-told-3
-enum-told-3 c = search needs
 
 returns-2 : tie.Need-returns-2
 returns-2 c =
     let a = c .before .before .before .args in step-close-out (a .from) (a .m) (a .s) (a .size) (a .line) (c .if2 .taken) (c .before .enum-told3 .given .1)
 
-enum-told-4 : tie.Need-enum-told-4
-enum-told-4 c = search needs
-
 returns-3 : tie.Need-returns-3
 returns-3 c =
     let a = c .before .before .before .args in step-skip-out (a .from) (a .m) (a .s) (a .size) (a .line) (c .if3 .taken) (c .before .enum-told4 .given .1)
-
-enum-known-s : tie.Need-enum-known-s
-enum-known-s c = search needs
 
 returns-4 : tie.Need-returns-4
 returns-4 c =
     let a = c .before .before .before .before .args in step-take-out (a .from) (a .m) (a .s) (a .size) (a .line) (c .if4 .taken) (c .before .before .s .given .0 .0) (c .before .before .s .given .1)
 
-mark-of-requires : tie.Need-mark-of-requires
-mark-of-requires c κs = search needs
-
 returns-5 : tie.Need-returns-5
 returns-5 c =
     let a = c .before .before .before .before .before .before .args in step-twice (a .from) (a .m) (a .s) (a .size) (a .line) (c .before .before .if4 .left) (c .before .before .before .before .s .given .0 .0) (c .before .before .before .before .s .given .1) (λ z. c .if5 .taken (c .before .mark-of .ensures ∙ z))
-
-add-marks-with : tie.Need-add-marks-with
-add-marks-with c = search needs
-
-marks-with-requires : tie.Need-marks-with-requires
-marks-with-requires c κs = search needs
 
 returns-6 : tie.Need-returns-6
 returns-6 c =
@@ -74,24 +47,6 @@ returns-10 c =
 
 pub entry-line-spec : {M : Type 1} → statement M
 entry-line-spec =
-    tie.close
-    (tie.spec
-    enum-told
-    enum-told-2
-    no-marks-requires
-    returns
-    enum-told-3
-    returns-2
-    enum-told-4
-    returns-3
-    enum-known-s
-    returns-4
-    mark-of-requires
-    returns-5
-    add-marks-with
-    marks-with-requires
-    returns-6
-    returns-7
-    returns-8
-    returns-9
-    returns-10)
+    tie.close (tie.spec (λ c. search needs) (λ c. search needs) (λ c κs. search needs) returns (λ c. search needs) returns-2 (λ c. search needs)
+    returns-3 (λ c. search needs) returns-4 (λ c κs. search needs) returns-5 (λ c. search needs) (λ c κs. search needs) returns-6 returns-7
+    returns-8 returns-9 returns-10)

@@ -1,4 +1,3 @@
-use borrow.Author.Needs.{needs}
 use native.Mathlib.Omega.{arith}
 use Prim.Native.Nat.{_-_}
 use mathlib.Core.Path.{refl}
@@ -17,9 +16,6 @@ abbrev μ-loop : tie.MeasureT-loop
 loop-holds : tie.Need-loop-holds Inv-loop μ-loop
 loop-holds c = let p = c .before .before in let a = p .args in digits-start (a .buf .now) (a .line) (a .piece .now) (a .from) (p .pre)
 
-shared-slice-read-b : tie.Need-shared-slice-read-b Inv-loop μ-loop
-shared-slice-read-b c = omega arith
-
 same-length : tie.Need-same-length Inv-loop μ-loop
 same-length c = c .before .before .before .loop .inv .long
 
@@ -29,12 +25,6 @@ returns c = λ m g. record { fed = c .before .before .before .loop .inv .fed m g
 
 digit-byte-requires : tie.Need-digit-byte-requires Inv-loop μ-loop
 digit-byte-requires c κs = c .before .before .before .before .loop .inv .room
-
-add-at : tie.Need-add-at Inv-loop μ-loop
-add-at c = omega arith
-
-loop-less : tie.Need-loop-less Inv-loop μ-loop
-loop-less c = omega arith
 
 loop-again : tie.Need-loop-again Inv-loop μ-loop
 loop-again c =
@@ -51,17 +41,5 @@ returns-2 c = λ m g. record { fed = c .before .loop .inv .fed m g; stop = λ h.
 
 pub feed-digits-spec : {M : Type 1} → statement M
 feed-digits-spec =
-    tie.close
-    (tie.spec
-    Inv-loop
-    μ-loop
-    loop-holds
-    shared-slice-read-b
-    same-length
-    returns
-    digit-byte-requires
-    add-at
-    loop-less
-    loop-again
-    same-length-2
-    returns-2)
+    tie.close (tie.spec Inv-loop μ-loop loop-holds (λ c. omega arith) same-length returns digit-byte-requires (λ c. omega arith)
+    (λ c. omega arith) loop-again same-length-2 returns-2)

@@ -23,19 +23,10 @@ feed-value-requires c κs =
     let l = c .before .before .before .before .loop in let p = c .before .before .before .before .before .before .before in let a = p .args in
     past-head (a .m) (a .buf .now) (a .line) (a .piece .now) (a .from) (l .buf) (l .x) (l .at) (l .inv) (omega arith) (p .pre .counts)
 
-same-length : tie.Need-same-length Inv-loop μ-loop
-same-length c = search needs
-
 returns : tie.Need-returns Inv-loop μ-loop
 returns c =
     let l = c .before .before .before .before .before .before .before .loop in let p = c .before .before .before .before .before .before .before .before .before .before in let a = p .args in
     value-then (a .m) (a .buf .now) (a .line) (a .piece .now) (a .from) (l .buf) (l .x) (l .at) (l .inv) _ _ (c .before .before .feed-value .ensures)
-
-shared-slice-read-b : tie.Need-shared-slice-read-b Inv-loop μ-loop
-shared-slice-read-b c = omega arith
-
-same-length-2 : tie.Need-same-length-2 Inv-loop μ-loop
-same-length-2 c = search needs
 
 returns-2 : tie.Need-returns-2 Inv-loop μ-loop
 returns-2 c = record { fed = c .before .before .before .before .before .loop .inv; stop = λ _. c .if2 .taken }
@@ -45,40 +36,16 @@ head-byte-requires c κs =
     let l = c .before .before .before .before .before .before .loop in let a = c .before .before .before .before .before .before .before .before .before .args in
     (omega arith, held-at (a .m) _ _ (l .buf) (l .x) (sym (l .inv .long)) (l .inv .held), omega arith)
 
-add-at : tie.Need-add-at Inv-loop μ-loop
-add-at c = omega arith
-
-loop-less : tie.Need-loop-less Inv-loop μ-loop
-loop-less c = omega arith
-
 loop-again : tie.Need-loop-again Inv-loop μ-loop
 loop-again c =
     let l = c .before .before .before .before .before .before .before .before .before .loop in let a = c .before .before .before .before .before .before .before .before .before .before .before .before .args in
     feeding-step _ (a .buf .now) (a .line) (a .piece .now) (a .from) (l .buf) (l .x) (l .at) _ _ _ (l .inv) (omega arith) refl (c .before .before .before .before .if2 .left)
     (step-at (a .m) _ _ (l .buf) (l .x) _ _ _ (l .inv .long) (c .before .before .head-byte .ensures))
 
-same-length-3 : tie.Need-same-length-3 Inv-loop μ-loop
-same-length-3 c = search needs
-
 returns-3 : tie.Need-returns-3 Inv-loop μ-loop
 returns-3 c = record { fed = c .before .loop .inv; stop = λ h. absurd (omega arith) }
 
 pub feed-line-spec : {M : Type 1} → statement M
 feed-line-spec =
-    tie.close
-    (tie.spec
-    Inv-loop
-    μ-loop
-    loop-holds
-    feed-value-requires
-    same-length
-    returns
-    shared-slice-read-b
-    same-length-2
-    returns-2
-    head-byte-requires
-    add-at
-    loop-less
-    loop-again
-    same-length-3
-    returns-3)
+    tie.close (tie.spec Inv-loop μ-loop loop-holds feed-value-requires (λ c. search needs) returns (λ c. omega arith) (λ c. search needs)
+    returns-2 head-byte-requires (λ c. omega arith) (λ c. omega arith) loop-again (λ c. search needs) returns-3)

@@ -3,24 +3,6 @@ use Rattle.intake_line.proofs.FeedLaws.{pairs-then}
 use Rattle.intake_line.proofs.feed_value.Statement.{statement}
 use Rattle.intake_line.proofs.feed_value.Tie as tie
 
-feed-digits-requires : tie.Need-feed-digits-requires
-feed-digits-requires c κs = search needs
-
-same-length : tie.Need-same-length
-same-length c = search needs
-
-returns : tie.Need-returns
-returns c = search needs
-
-feed-pairs-requires : tie.Need-feed-pairs-requires
-feed-pairs-requires c κs = search needs
-
-feed-digits-requires-2 : tie.Need-feed-digits-requires-2
-feed-digits-requires-2 c κs = search needs
-
-same-length-2 : tie.Need-same-length-2
-same-length-2 c = search needs
-
 returns-2 : tie.Need-returns-2
 returns-2 c =
     let a = c .before .before .before .before .before .before .before .before .before .before .before .before .before .args in
@@ -28,12 +10,5 @@ returns-2 c =
 
 pub feed-value-spec : {M : Type 1} → statement M
 feed-value-spec =
-    tie.close
-    (tie.spec
-    feed-digits-requires
-    same-length
-    returns
-    feed-pairs-requires
-    feed-digits-requires-2
-    same-length-2
-    returns-2)
+    tie.close (tie.spec (λ c κs. search needs) (λ c. search needs) (λ c. search needs) (λ c κs. search needs) (λ c κs. search needs)
+    (λ c. search needs) returns-2)

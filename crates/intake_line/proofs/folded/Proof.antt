@@ -7,9 +7,6 @@ use Rattle.intake_line.specs.Lent.{folded}
 use Rattle.intake_line.proofs.folded.Statement.{statement}
 use Rattle.intake_line.proofs.folded.Tie as tie
 
-add-result : tie.Need-add-result
-add-result c = search needs
-
 returns : tie.Need-returns
 unfolding folded
 returns c = let v = c .before .args .v in sym (ap (λ (t : Bool). cond t (v + 32) v) (lt-ltb v 97 (c .if1 .taken)))
@@ -19,4 +16,4 @@ unfolding folded
 returns-2 c = let v = c .before .args .v in sym (ap (λ (t : Bool). cond t (v + 32) v) (le-ltb v 97 (c .if1 .left)))
 
 pub folded-spec : {M : Type 1} → statement M
-folded-spec = tie.close (tie.spec add-result returns returns-2)
+folded-spec = tie.close (tie.spec (λ c. search needs) returns returns-2)

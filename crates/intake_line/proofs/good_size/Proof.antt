@@ -3,20 +3,8 @@ use borrow.Author.Needs.{needs}
 use Rattle.intake_line.proofs.good_size.Statement.{statement}
 use Rattle.intake_line.proofs.good_size.Tie as tie
 
-enum-told : tie.Need-enum-told
-enum-told c = search needs
-
-enum-told-2 : tie.Need-enum-told-2
-enum-told-2 c = search needs
-
 returns : tie.Need-returns
 returns c = let a = c .before .before .before .args in size-fid (a .k) (a .n) (c .before .enum-told2 .given .1) (c .if1 .taken)
-
-enum-told-3 : tie.Need-enum-told-3
-enum-told-3 c = search needs
-
-enum-told-4 : tie.Need-enum-told-4
-enum-told-4 c = search needs
 
 returns-2 : tie.Need-returns-2
 returns-2 c = let a = c .before .before .args in size-lov (a .k) (a .n) (c .enum-told .given .1)
@@ -32,14 +20,5 @@ returns-5 c = let a = c .before .before .args in size-other (a .k) (a .n) (c .en
 
 pub good-size-spec : {M : Type 1} → statement M
 good-size-spec =
-    tie.close
-    (tie.spec
-    enum-told
-    enum-told-2
-    returns
-    enum-told-3
-    enum-told-4
-    returns-2
-    returns-3
-    returns-4
+    tie.close (tie.spec (λ c. search needs) (λ c. search needs) returns (λ c. search needs) (λ c. search needs) returns-2 returns-3 returns-4
     returns-5)

@@ -8,43 +8,13 @@ use borrow.Author.Needs.{needs}
 use Rattle.intake_line.proofs.head_byte.Statement.{statement}
 use Rattle.intake_line.proofs.head_byte.Tie as tie
 
-add-at : tie.Need-add-at
-add-at c = search needs
-
-slice-write-buf : tie.Need-slice-write-buf
-slice-write-buf c = search needs
-
-add-t12 : tie.Need-add-t12
-add-t12 c = search needs
-
-same-length : tie.Need-same-length
-same-length c = search needs
-
 returns : tie.Need-returns
 returns c =
     let p = c .before .before in let a = p .args in
     head-step (wantOf (a .m) _) (a .buf .now) (a .x) (a .b) (p .pre .0) (p .pre .1) (omega arith) (omega arith)
 
-sub-kind-of : tie.Need-sub-kind-of
-sub-kind-of c = search needs
-
-part-kind-of-start : tie.Need-part-kind-of-start
-part-kind-of-start c = search needs
-
 part-kind-of-end : tie.Need-part-kind-of-end
 part-kind-of-end c = simp length-set (omega arith)
-
-kind-of-requires : tie.Need-kind-of-requires
-kind-of-requires c κs = search needs
-
-base-of-requires : tie.Need-base-of-requires
-base-of-requires c κs = search needs
-
-most-of-requires : tie.Need-most-of-requires
-most-of-requires c κs = search needs
-
-same-length-2 : tie.Need-same-length-2
-same-length-2 c = search needs
 
 returns-2 : tie.Need-returns-2
 returns-2 c =
@@ -59,18 +29,5 @@ returns-2 c =
 
 pub head-byte-spec : {M : Type 1} → statement M
 head-byte-spec =
-    tie.close
-    (tie.spec
-    add-at
-    slice-write-buf
-    add-t12
-    same-length
-    returns
-    sub-kind-of
-    part-kind-of-start
-    part-kind-of-end
-    kind-of-requires
-    base-of-requires
-    most-of-requires
-    same-length-2
-    returns-2)
+    tie.close (tie.spec (λ c. search needs) (λ c. search needs) (λ c. search needs) (λ c. search needs) returns (λ c. search needs)
+    (λ c. search needs) part-kind-of-end (λ c κs. search needs) (λ c κs. search needs) (λ c κs. search needs) (λ c. search needs) returns-2)

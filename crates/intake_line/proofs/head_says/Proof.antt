@@ -16,35 +16,17 @@ returns c =
     let a = c .before .before .args in
     record { says = λ v. ends-empty (a .h .now) (a .half) (a .size) v (c .if1 .taken); whole = λ k e. absurd (closes-not k e) }
 
-slice-aggregate-starts : tie.Need-slice-aggregate-starts
-slice-aggregate-starts c = search needs
-
-starts-requires : tie.Need-starts-requires
-starts-requires c κs = search needs
-
 returns-2 : tie.Need-returns-2
 unfolding lineOf
 returns-2 c =
     let a = c .before .before .before .before .before .args in
     record { says = λ v. ends-opens (a .h .now) (a .half) (a .size) v (c .before .before .before .if1 .left) (sym (c .before .starts .ensures) ∙ c .if2 .taken); whole = λ k e. absurd (opens-not k e) }
 
-slice-aggregate-starts-2 : tie.Need-slice-aggregate-starts-2
-slice-aggregate-starts-2 c = search needs
-
-starts-requires-2 : tie.Need-starts-requires-2
-starts-requires-2 c κs = search needs
-
 returns-3 : tie.Need-returns-3
 unfolding lineOf
 returns-3 c =
     let a = c .before .before .before .before .before .before .before .before .args in
     record { says = λ v. ends-bad (a .h .now) (a .half) (a .size) v (c .before .before .before .before .before .before .if1 .left) (sym (c .before .before .before .before .starts .ensures) ∙ c .before .before .before .if2 .left) (sym (c .before .starts2 .ensures) ∙ not-true _ (c .if3 .taken)); whole = λ k e. absurd (bad-not k e) }
-
-kind-of-requires : tie.Need-kind-of-requires
-kind-of-requires c κs = search needs
-
-is-other-requires : tie.Need-is-other-requires
-is-other-requires c κs = search needs
 
 returns-4 : tie.Need-returns-4
 unfolding lineOf
@@ -58,21 +40,6 @@ returns-5 c =
     let a = c .before .before .before .before .before .before .before .before .before .before .before .before .args in
     record { says = λ v. ends-short (a .h .now) (a .half) (a .size) v (c .before .before .before .before .before .before .before .before .before .before .if1 .left) (sym (c .before .before .before .before .before .before .before .before .starts .ensures) ∙ c .before .before .before .before .before .before .before .if2 .left) (sym (c .before .before .before .before .before .starts2 .ensures) ∙ not-false _ (c .before .before .before .before .if3 .left)) (c .before .before .before .kind-of .result) (c .before .before .before .kind-of .ensures) (sym (c .before .before .is-other .ensures) ∙ c .before .if4 .left) (omega arith); whole = λ k e. absurd (bad-not k e) }
 
-slice-aggregate-starts-3 : tie.Need-slice-aggregate-starts-3
-slice-aggregate-starts-3 c = search needs
-
-sub-starts : tie.Need-sub-starts
-sub-starts c = search needs
-
-part-starts-start : tie.Need-part-starts-start
-part-starts-start c = search needs
-
-part-starts-end : tie.Need-part-starts-end
-part-starts-end c = search needs
-
-starts-requires-3 : tie.Need-starts-requires-3
-starts-requires-3 c κs = search needs
-
 returns-6 : tie.Need-returns-6
 unfolding lineOf
 returns-6 c =
@@ -84,9 +51,6 @@ unfolding lineOf
 returns-7 c =
     let a = c .before .before .before .before .before .before .before .before .before .before .before .before .before .before .before .before .before .args in
     record { says = λ v. ends-odd (a .h .now) (a .half) (a .size) v (c .before .before .before .before .before .before .before .before .before .before .before .before .before .before .before .if1 .left) (sym (c .before .before .before .before .before .before .before .before .before .before .before .before .before .starts .ensures) ∙ c .before .before .before .before .before .before .before .before .before .before .before .before .if2 .left) (sym (c .before .before .before .before .before .before .before .before .before .before .starts2 .ensures) ∙ not-false _ (c .before .before .before .before .before .before .before .before .before .if3 .left)) (c .before .before .before .before .before .before .before .before .kind-of .result) (c .before .before .before .before .before .before .before .before .kind-of .ensures) (sym (c .before .before .before .before .before .before .before .is-other .ensures) ∙ c .before .before .before .before .before .before .if4 .left) (sym (ap (starts valueWord) (drop-take-all 11 (a .h .now))) ∙ sym (c .before .before .starts3 .ensures) ∙ not-false _ (c .before .if6 .left)) (c .if7 .taken); whole = λ k e. absurd (bad-not k e) }
-
-good-size-requires : tie.Need-good-size-requires
-good-size-requires c κs = search needs
 
 returns-8 : tie.Need-returns-8
 unfolding lineOf
@@ -102,26 +66,6 @@ returns-9 c =
 
 pub head-says-spec : {M : Type 1} → statement M
 head-says-spec =
-    tie.close
-    (tie.spec
-    returns
-    slice-aggregate-starts
-    starts-requires
-    returns-2
-    slice-aggregate-starts-2
-    starts-requires-2
-    returns-3
-    kind-of-requires
-    is-other-requires
-    returns-4
-    returns-5
-    slice-aggregate-starts-3
-    sub-starts
-    part-starts-start
-    part-starts-end
-    starts-requires-3
-    returns-6
-    returns-7
-    good-size-requires
-    returns-8
-    returns-9)
+    tie.close (tie.spec returns (λ c. search needs) (λ c κs. search needs) returns-2 (λ c. search needs) (λ c κs. search needs) returns-3
+    (λ c κs. search needs) (λ c κs. search needs) returns-4 returns-5 (λ c. search needs) (λ c. search needs) (λ c. search needs)
+    (λ c. search needs) (λ c κs. search needs) returns-6 returns-7 (λ c κs. search needs) returns-8 returns-9)

@@ -7,72 +7,21 @@ use borrow.Author.Needs.{needs}
 use Rattle.intake_line.proofs.kind_of.Statement.{statement}
 use Rattle.intake_line.proofs.kind_of.Tie as tie
 
-slice-aggregate-starts : tie.Need-slice-aggregate-starts
-slice-aggregate-starts c = search needs
-
-starts-requires : tie.Need-starts-requires
-starts-requires c κs = search needs
-
 returns : tie.Need-returns
 returns c = let a = c .before .before .before .before .args in kind-not (a .s .now) (sym (c .before .starts .ensures) ∙ not-true _ (c .if1 .taken))
 
 returns-2 : tie.Need-returns-2
 returns-2 c = let a = c .before .before .before .before .before .args in absurd (omega (arith, starts-long trustedWord (a .s .now) (sym (c .before .before .starts .ensures) ∙ not-false _ (c .before .if1 .left))))
 
-slice-aggregate-named : tie.Need-slice-aggregate-named
-slice-aggregate-named c = search needs
-
-sub-named : tie.Need-sub-named
-sub-named c = search needs
-
-part-named-start : tie.Need-part-named-start
-part-named-start c = search needs
-
-part-named-end : tie.Need-part-named-end
-part-named-end c = search needs
-
-named-requires : tie.Need-named-requires
-named-requires c κs = search needs
-
 returns-3 : tie.Need-returns-3
 returns-3 c =
     let a = c .before .before .before .before .before .before .before .before .before .args in
     kind-lov (a .s .now) (sym (c .before .before .before .before .before .before .starts .ensures) ∙ not-false _ (c .before .before .before .before .before .if1 .left)) (sym (part-named lovWord (a .s .now)) ∙ sym (c .before .named .ensures) ∙ c .if3 .taken)
 
-slice-aggregate-named-2 : tie.Need-slice-aggregate-named-2
-slice-aggregate-named-2 c = search needs
-
-sub-named-2 : tie.Need-sub-named-2
-sub-named-2 c = search needs
-
-part-named-start-2 : tie.Need-part-named-start-2
-part-named-start-2 c = search needs
-
-part-named-end-2 : tie.Need-part-named-end-2
-part-named-end-2 c = search needs
-
-named-requires-2 : tie.Need-named-requires-2
-named-requires-2 c κs = search needs
-
 returns-4 : tie.Need-returns-4
 returns-4 c =
     let a = c .before .before .before .before .before .before .before .before .before .before .before .before .before .args in
     kind-fid (a .s .now) (sym (c .before .before .before .before .before .before .before .before .before .before .starts .ensures) ∙ not-false _ (c .before .before .before .before .before .before .before .before .before .if1 .left)) (sym (part-named lovWord (a .s .now)) ∙ sym (c .before .before .before .before .before .named .ensures) ∙ c .before .before .before .before .if3 .left) (sym (part-named fidWord (a .s .now)) ∙ sym (c .before .named2 .ensures) ∙ c .if4 .taken)
-
-slice-aggregate-named-3 : tie.Need-slice-aggregate-named-3
-slice-aggregate-named-3 c = search needs
-
-sub-named-3 : tie.Need-sub-named-3
-sub-named-3 c = search needs
-
-part-named-start-3 : tie.Need-part-named-start-3
-part-named-start-3 c = search needs
-
-part-named-end-3 : tie.Need-part-named-end-3
-part-named-end-3 c = search needs
-
-named-requires-3 : tie.Need-named-requires-3
-named-requires-3 c κs = search needs
 
 returns-5 : tie.Need-returns-5
 returns-5 c =
@@ -86,28 +35,7 @@ returns-6 c =
 
 pub kind-of-spec : {M : Type 1} → statement M
 kind-of-spec =
-    tie.close
-    (tie.spec
-    slice-aggregate-starts
-    starts-requires
-    returns
-    returns-2
-    slice-aggregate-named
-    sub-named
-    part-named-start
-    part-named-end
-    named-requires
-    returns-3
-    slice-aggregate-named-2
-    sub-named-2
-    part-named-start-2
-    part-named-end-2
-    named-requires-2
-    returns-4
-    slice-aggregate-named-3
-    sub-named-3
-    part-named-start-3
-    part-named-end-3
-    named-requires-3
-    returns-5
-    returns-6)
+    tie.close (tie.spec (λ c. search needs) (λ c κs. search needs) returns returns-2 (λ c. search needs) (λ c. search needs) (λ c. search needs)
+    (λ c. search needs) (λ c κs. search needs) returns-3 (λ c. search needs) (λ c. search needs) (λ c. search needs) (λ c. search needs)
+    (λ c κs. search needs) returns-4 (λ c. search needs) (λ c. search needs) (λ c. search needs) (λ c. search needs) (λ c κs. search needs)
+    returns-5 returns-6)

@@ -5,21 +5,6 @@ use Rattle.intake_line.proofs.EndLaws.{ends-lent, ends-whole}
 use Rattle.intake_line.proofs.line_says.Statement.{statement}
 use Rattle.intake_line.proofs.line_says.Tie as tie
 
-add-end : tie.Need-add-end
-add-end c = search needs
-
-sub-head-says : tie.Need-sub-head-says
-sub-head-says c = search needs
-
-part-head-says-start : tie.Need-part-head-says-start
-part-head-says-start c = search needs
-
-part-head-says-end : tie.Need-part-head-says-end
-part-head-says-end c = search needs
-
-head-says-requires : tie.Need-head-says-requires
-head-says-requires c κs = search needs
-
 returns : tie.Need-returns
 returns c =
     let a = c .before .before .before .before .args in
@@ -29,12 +14,4 @@ returns c =
     }
 
 pub line-says-spec : {M : Type 1} → statement M
-line-says-spec =
-    tie.close
-    (tie.spec
-    add-end
-    sub-head-says
-    part-head-says-start
-    part-head-says-end
-    head-says-requires
-    returns)
+line-says-spec = tie.close (tie.spec (λ c. search needs) (λ c. search needs) (λ c. search needs) (λ c. search needs) (λ c κs. search needs) returns)

@@ -3,18 +3,6 @@ use borrow.Author.Needs.{needs}
 use Rattle.intake_line.proofs.marks_with.Statement.{statement}
 use Rattle.intake_line.proofs.marks_with.Tie as tie
 
-enum-told : tie.Need-enum-told
-enum-told c = search needs
-
-enum-told-2 : tie.Need-enum-told-2
-enum-told-2 c = search needs
-
-enum-told-3 : tie.Need-enum-told-3
-enum-told-3 c = search needs
-
-enum-told-4 : tie.Need-enum-told-4
-enum-told-4 c = search needs
-
 returns : tie.Need-returns
 returns c = let a = c .before .before .args in with-lov (a .m) (a .k) (a .mark) (c .enum-told .given .1)
 
@@ -29,5 +17,4 @@ returns-4 c = let a = c .before .before .args in with-other (a .m) (a .k) (a .ma
 
 pub marks-with-spec : {M : Type 1} → statement M
 marks-with-spec =
-    tie.close
-    (tie.spec enum-told enum-told-2 enum-told-3 enum-told-4 returns returns-2 returns-3 returns-4)
+    tie.close (tie.spec (λ c. search needs) (λ c. search needs) (λ c. search needs) (λ c. search needs) returns returns-2 returns-3 returns-4)

@@ -5,30 +5,6 @@ use borrow.Author.Needs.{needs}
 use Rattle.intake_line.proofs.most_of.Statement.{statement}
 use Rattle.intake_line.proofs.most_of.Tie as tie
 
-enum-told : tie.Need-enum-told
-enum-told c = search needs
-
-sub-unless : tie.Need-sub-unless
-sub-unless c = search needs
-
-unless-requires : tie.Need-unless-requires
-unless-requires c κs = search needs
-
-enum-told-2 : tie.Need-enum-told-2
-enum-told-2 c = search needs
-
-unless-requires-2 : tie.Need-unless-requires-2
-unless-requires-2 c κs = search needs
-
-enum-told-3 : tie.Need-enum-told-3
-enum-told-3 c = search needs
-
-unless-requires-3 : tie.Need-unless-requires-3
-unless-requires-3 c κs = search needs
-
-enum-told-4 : tie.Need-enum-told-4
-enum-told-4 c = search needs
-
 returns : tie.Need-returns
 returns c = let a = c .before .before .before .args in want-lov (a .m) (a .size) (a .k) _ (c .before .enum-told .given .1) (c .unless .ensures)
 
@@ -43,17 +19,5 @@ returns-4 c = let a = c .before .before .args in want-other (a .m) (a .size) (a 
 
 pub most-of-spec : {M : Type 1} → statement M
 most-of-spec =
-    tie.close
-    (tie.spec
-    enum-told
-    sub-unless
-    unless-requires
-    enum-told-2
-    unless-requires-2
-    enum-told-3
-    unless-requires-3
-    enum-told-4
-    returns
-    returns-2
-    returns-3
-    returns-4)
+    tie.close (tie.spec (λ c. search needs) (λ c. search needs) (λ c κs. search needs) (λ c. search needs) (λ c κs. search needs)
+    (λ c. search needs) (λ c κs. search needs) (λ c. search needs) returns returns-2 returns-3 returns-4)

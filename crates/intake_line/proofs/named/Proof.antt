@@ -6,17 +6,11 @@ use borrow.Author.Needs.{needs}
 use Rattle.intake_line.proofs.named.Statement.{statement}
 use Rattle.intake_line.proofs.named.Tie as tie
 
-starts-requires : tie.Need-starts-requires
-starts-requires c κs = search needs
-
 returns : tie.Need-returns
 returns c = let a = c .before .before .before .before .args in named-not (a .w .now) (a .s .now) (sym (c .before .starts .ensures) ∙ not-true _ (c .if1 .taken))
 
 returns-2 : tie.Need-returns-2
 returns-2 c = let a = c .before .before .before .before .before .args in named-end (a .w .now) (a .s .now) (sym (c .before .before .starts .ensures) ∙ not-false _ (c .before .if1 .left)) (omega arith)
-
-shared-slice-read-if3 : tie.Need-shared-slice-read-if3
-shared-slice-read-if3 c = search needs
 
 returns-3 : tie.Need-returns-3
 returns-3 c =
@@ -29,6 +23,4 @@ returns-4 c =
     named-longer (a .w .now) (a .s .now) (sym (c .before .before .before .before .starts .ensures) ∙ not-false _ (c .before .before .before .if1 .left)) (omega arith) (c .if3 .left)
 
 pub named-spec : {M : Type 1} → statement M
-named-spec =
-    tie.close
-    (tie.spec starts-requires returns returns-2 shared-slice-read-if3 returns-3 returns-4)
+named-spec = tie.close (tie.spec (λ c κs. search needs) returns returns-2 (λ c. search needs) returns-3 returns-4)

@@ -11,30 +11,15 @@ use Rattle.intake_close.proofs.closing.close_object.Statement.{statemen
 use Rattle.intake_close.proofs.closing.close_object.Tie as tie
 use Rattle.search.proofs.first.free_row.Reads as free-row-reads
 
-free-row-requires : tie.Need-free-row-requires
-free-row-requires c κs = search needs
-
-enum-told : tie.Need-enum-told
-enum-told c = search needs
-
-enum-known-r : tie.Need-enum-known-r
-enum-known-r c = search needs
-
 fill-object-requires : tie.Need-fill-object-requires
 fill-object-requires c κs =
     let a = c .before .before .before .before .before .before .before .before .args in
     (row-fits objectSize _ (length (now (a .objects))) (omega arith) (free-is objectSize (now (a .objects)) _ (sym (c .before .before .before .before .free-row .ensures) ∙ c .before .before .r .given .1) .1), omega arith)
 
-same-length : tie.Need-same-length
-same-length c = search needs
-
 returns : tie.Need-returns
 returns c =
     let p = c .before .before .before .before .before .before in let a = p .args in
     object-none (now (a .buf)) (a .w) (a .index) (now (a .objects)) (sym (c .before .before .free-row .ensures) ∙ c .enum-told .given .1)
-
-same-length-2 : tie.Need-same-length-2
-same-length-2 c = search needs
 
 returns-2 : tie.Need-returns-2
 returns-2 c =
@@ -43,13 +28,5 @@ returns-2 c =
 
 pub close-object-spec : {M : Type 1} → statement M
 close-object-spec =
-    tie.close
-    (tie.spec
-    free-row-requires
-    enum-told
-    enum-known-r
-    fill-object-requires
-    same-length
-    returns
-    same-length-2
-    returns-2)
+    tie.close (tie.spec (λ c κs. search needs) (λ c. search needs) (λ c. search needs) fill-object-requires (λ c. search needs) returns
+    (λ c. search needs) returns-2)

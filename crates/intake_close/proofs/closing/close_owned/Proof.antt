@@ -14,12 +14,6 @@ returns-2 c =
     let p = c .before .before .before .before .before .before .before .before .before in let a = p .args in
     owned-neither (now (a .buf)) (a .m) (p .pre .1) (p .pre .0) (a .w) (a .index) (now (a .parents)) (now (a .objects)) (c .before .before .before .before .if1 .left) (c .before .before .if2 .taken) (c .if3 .taken)
 
-close-object-requires : tie.Need-close-object-requires
-close-object-requires c κs = search needs
-
-same-length : tie.Need-same-length
-same-length c = search needs
-
 returns-3 : tie.Need-returns-3
 returns-3 c =
     let p = c .before .before .before .before .before .before .before .before .before .before .before .before .before in let a = p .args in
@@ -30,15 +24,6 @@ returns-4 c =
     let p = c .before .before .before .before .before .before .before .before .before in let a = p .args in
     owned-both (now (a .buf)) (a .m) (p .pre .1) (p .pre .0) (a .w) (a .index) (now (a .parents)) (now (a .objects)) (c .before .before .before .before .if1 .left) (c .before .before .if2 .left) (c .if4 .taken)
 
-sub-close-parent : tie.Need-sub-close-parent
-sub-close-parent c = search needs
-
-close-parent-requires : tie.Need-close-parent-requires
-close-parent-requires c κs = search needs
-
-same-length-2 : tie.Need-same-length-2
-same-length-2 c = search needs
-
 returns-5 : tie.Need-returns-5
 returns-5 c =
     let p = c .before .before .before .before .before .before .before .before .before .before .before .before .before .before in let a = p .args in
@@ -46,15 +31,5 @@ returns-5 c =
 
 pub close-owned-spec : {M : Type 1} → statement M
 close-owned-spec =
-    tie.close
-    (tie.spec
-    returns
-    returns-2
-    close-object-requires
-    same-length
-    returns-3
-    returns-4
-    sub-close-parent
-    close-parent-requires
-    same-length-2
-    returns-5)
+    tie.close (tie.spec returns returns-2 (λ c κs. search needs) (λ c. search needs) returns-3 returns-4 (λ c. search needs)
+    (λ c κs. search needs) (λ c. search needs) returns-5)

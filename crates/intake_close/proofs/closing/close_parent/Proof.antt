@@ -16,30 +16,15 @@ returns c =
     let p = c .before .before .before in let a = p .args in
     parent-long (now (a .buf)) (a .size) (a .w) (now (a .parents)) (c .if1 .taken)
 
-free-row-requires : tie.Need-free-row-requires
-free-row-requires c κs = search needs
-
-enum-told : tie.Need-enum-told
-enum-told c = search needs
-
-enum-known-r : tie.Need-enum-known-r
-enum-known-r c = search needs
-
 fill-parent-requires : tie.Need-fill-parent-requires
 fill-parent-requires c κs =
     let a = c .before .before .before .before .before .before .before .before .before .args in
     (row-fits parentSize _ (length (now (a .parents))) (omega arith) (free-is parentSize (now (a .parents)) _ (sym (c .before .before .before .before .free-row .ensures) ∙ c .before .before .r .given .1) .1), omega arith, omega arith)
 
-same-length : tie.Need-same-length
-same-length c = search needs
-
 returns-2 : tie.Need-returns-2
 returns-2 c =
     let p = c .before .before .before .before .before .before .before in let a = p .args in
     parent-none (now (a .buf)) (a .size) (a .w) (now (a .parents)) (omega arith) (sym (c .before .before .free-row .ensures) ∙ c .enum-told .given .1)
-
-same-length-2 : tie.Need-same-length-2
-same-length-2 c = search needs
 
 returns-3 : tie.Need-returns-3
 returns-3 c =
@@ -48,14 +33,5 @@ returns-3 c =
 
 pub close-parent-spec : {M : Type 1} → statement M
 close-parent-spec =
-    tie.close
-    (tie.spec
-    returns
-    free-row-requires
-    enum-told
-    enum-known-r
-    fill-parent-requires
-    same-length
-    returns-2
-    same-length-2
-    returns-3)
+    tie.close (tie.spec returns (λ c κs. search needs) (λ c. search needs) (λ c. search needs) fill-parent-requires (λ c. search needs)
+    returns-2 (λ c. search needs) returns-3)

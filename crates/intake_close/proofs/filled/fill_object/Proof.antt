@@ -5,27 +5,6 @@ use borrow.Author.Needs.{needs}
 use Rattle.intake_close.proofs.filled.fill_object.Statement.{statement}
 use Rattle.intake_close.proofs.filled.fill_object.Tie as tie
 
-mul-a : tie.Need-mul-a
-mul-a c = search needs
-
-add-e : tie.Need-add-e
-add-e c = search needs
-
-sub-put-object : tie.Need-sub-put-object
-sub-put-object c = search needs
-
-part-put-object-start : tie.Need-part-put-object-start
-part-put-object-start c = search needs
-
-part-put-object-end : tie.Need-part-put-object-end
-part-put-object-end c = search needs
-
-put-object-requires : tie.Need-put-object-requires
-put-object-requires c κs = search needs
-
-same-length : tie.Need-same-length
-same-length c = search needs
-
 returns : tie.Need-returns
 returns c =
     let p = c .before .before .before .before .before .before in let a = p .args in
@@ -33,13 +12,5 @@ returns c =
 
 pub fill-object-spec : {M : Type 1} → statement M
 fill-object-spec =
-    tie.close
-    (tie.spec
-    mul-a
-    add-e
-    sub-put-object
-    part-put-object-start
-    part-put-object-end
-    put-object-requires
-    same-length
-    returns)
+    tie.close (tie.spec (λ c. search needs) (λ c. search needs) (λ c. search needs) (λ c. search needs) (λ c. search needs)
+    (λ c κs. search needs) (λ c. search needs) returns)

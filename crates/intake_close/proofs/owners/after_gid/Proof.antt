@@ -3,15 +3,6 @@ use borrow.Author.Needs.{needs}
 use Rattle.intake_close.proofs.owners.after_gid.Statement.{statement}
 use Rattle.intake_close.proofs.owners.after_gid.Tie as tie
 
-spaced-requires : tie.Need-spaced-requires
-spaced-requires c κs = search needs
-
-enum-told : tie.Need-enum-told
-enum-told c = search needs
-
-enum-known-i : tie.Need-enum-known-i
-enum-known-i c = search needs
-
 returns : tie.Need-returns
 returns c = gid-last _ _ _ _ _ (c .before .before .before .before .spaced .ensures) _ _ (c .before .before .i .given .1) (c .if1 .taken)
 
@@ -22,5 +13,4 @@ returns-3 : tie.Need-returns-3
 returns-3 c = gid-more _ _ _ _ _ (c .before .before .before .before .spaced .ensures) _ _ (c .before .before .i .given .1) (c .if1 .left)
 
 pub after-gid-spec : {M : Type 1} → statement M
-after-gid-spec =
-    tie.close (tie.spec spaced-requires enum-told enum-known-i returns returns-2 returns-3)
+after-gid-spec = tie.close (tie.spec (λ c κs. search needs) (λ c. search needs) (λ c. search needs) returns returns-2 returns-3)

@@ -4,12 +4,6 @@ use borrow.Author.Needs.{needs}
 use Rattle.intake_close.proofs.owners.next_line.Statement.{statement}
 use Rattle.intake_close.proofs.owners.next_line.Tie as tie
 
-line-stop-requires : tie.Need-line-stop-requires
-line-stop-requires c κs = search needs
-
-add-result : tie.Need-add-result
-add-result c = search needs
-
 returns : tie.Need-returns
 returns c = after-next _ _ _ (c .before .line-stop .ensures) (omega arith)
 
@@ -17,4 +11,4 @@ returns-2 : tie.Need-returns-2
 returns-2 c = after-last _ _ _ (c .before .line-stop .ensures) (omega arith)
 
 pub next-line-spec : {M : Type 1} → statement M
-next-line-spec = tie.close (tie.spec line-stop-requires add-result returns returns-2)
+next-line-spec = tie.close (tie.spec (λ c κs. search needs) (λ c. search needs) returns returns-2)

@@ -20,20 +20,11 @@ abbrev μ-loop : tie.MeasureT-loop
 loop-holds : tie.Need-loop-holds Inv-loop μ-loop
 loop-holds c = (omega arith, omega arith, omega arith, left-start _ _)
 
-shared-slice-read-b : tie.Need-shared-slice-read-b Inv-loop μ-loop
-shared-slice-read-b c = omega arith
-
-is-decimal-requires : tie.Need-is-decimal-requires Inv-loop μ-loop
-is-decimal-requires c κs = search needs
-
 told-requires : tie.Need-told-requires Inv-loop μ-loop
 told-requires c κs = (omega arith, omega arith)
 
 returns : tie.Need-returns Inv-loop μ-loop
 returns c = told-other _ _ _ _ (c .before .before .before .before .before .loop .inv .3) _ (omega arith) (sym (c .before .before .is-decimal .ensures) ∙ not-true _ (c .before .if1 .taken)) (omega arith) (c .told .ensures)
-
-mul-n : tie.Need-mul-n Inv-loop μ-loop
-mul-n c = omega arith
 
 sub-n : tie.Need-sub-n Inv-loop μ-loop
 sub-n c = decimal-least _ (sym (c .before .is-decimal .ensures) ∙ not-false _ (c .if1 .left))
@@ -47,12 +38,6 @@ add-n c = omega (arith, decimal-most _ (sym (c .before .is-decimal .ensures) ∙
 returns-2 : tie.Need-returns-2 Inv-loop μ-loop
 returns-2 c = told-wide _ _ _ _ (c .before .before .before .before .before .loop .inv .3) (omega arith) (sym (c .before .before .is-decimal .ensures) ∙ not-false _ (c .before .if1 .left)) (omega arith)
 
-add-at : tie.Need-add-at Inv-loop μ-loop
-add-at c = omega arith
-
-loop-less : tie.Need-loop-less Inv-loop μ-loop
-loop-less c = omega arith
-
 loop-again : tie.Need-loop-again Inv-loop μ-loop
 loop-again c = (omega arith, omega arith, omega arith, c .before .before .before .before .before .loop .inv .3 ∙ left-next _ _ _ _ (omega arith) (omega arith) (sym (c .before .before .is-decimal .ensures) ∙ not-false _ (c .before .if1 .left)))
 
@@ -64,22 +49,5 @@ returns-3 c = told-last _ _ _ _ (c .before .before .loop .inv .3) _ (omega arith
 
 pub number-spec : {M : Type 1} → statement M
 number-spec =
-    tie.close
-    (tie.spec
-    Inv-loop
-    μ-loop
-    loop-holds
-    shared-slice-read-b
-    is-decimal-requires
-    told-requires
-    returns
-    mul-n
-    sub-n
-    cast-n
-    add-n
-    returns-2
-    add-at
-    loop-less
-    loop-again
-    told-requires-2
-    returns-3)
+    tie.close (tie.spec Inv-loop μ-loop loop-holds (λ c. omega arith) (λ c κs. search needs) told-requires returns (λ c. omega arith) sub-n
+    cast-n add-n returns-2 (λ c. omega arith) (λ c. omega arith) loop-again told-requires-2 returns-3)

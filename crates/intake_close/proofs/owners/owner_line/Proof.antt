@@ -3,15 +3,6 @@ use borrow.Author.Needs.{needs}
 use Rattle.intake_close.proofs.owners.owner_line.Statement.{statement}
 use Rattle.intake_close.proofs.owners.owner_line.Tie as tie
 
-number-requires : tie.Need-number-requires
-number-requires c κs = search needs
-
-enum-told : tie.Need-enum-told
-enum-told c = search needs
-
-enum-known-u : tie.Need-enum-known-u
-enum-known-u c = search needs
-
 after-uid-requires : tie.Need-after-uid-requires
 after-uid-requires c κs = ends-within _ _ _ _ (c .before .before .before .number .ensures .within) (c .before .u .given .1)
 
@@ -22,6 +13,4 @@ returns-2 : tie.Need-returns-2
 returns-2 c = owner-more _ _ (c .before .before .before .before .number .ensures) _ _ _ (c .before .before .u .given .1) (c .after-uid .ensures)
 
 pub owner-line-spec : {M : Type 1} → statement M
-owner-line-spec =
-    tie.close
-    (tie.spec number-requires enum-told enum-known-u after-uid-requires returns returns-2)
+owner-line-spec = tie.close (tie.spec (λ c κs. search needs) (λ c. search needs) (λ c. search needs) after-uid-requires returns returns-2)

@@ -7,11 +7,8 @@ use Rattle.intake_close.proofs.owners.told.Tie as tie
 returns : tie.Need-returns
 returns c = told-none _ _ _ (c .if1 .taken)
 
-cast-t5 : tie.Need-cast-t5
-cast-t5 c = search needs
-
 returns-2 : tie.Need-returns-2
 returns-2 c = told-some _ _ _ (omega arith) (c .if1 .left)
 
 pub told-spec : {M : Type 1} → statement M
-told-spec = tie.close (tie.spec returns cast-t5 returns-2)
+told-spec = tie.close (tie.spec returns (λ c. search needs) returns-2)

@@ -9,9 +9,6 @@ use borrow.Author.Needs.{needs}
 use Rattle.intake_feed.proofs.feeding.end.Statement.{statement}
 use Rattle.intake_feed.proofs.feeding.end.Tie as tie
 
-good-state-requires : tie.Need-good-state-requires
-good-state-requires c κs = search needs
-
 returns : tie.Need-returns
 unfolding DumpEnded
 returns c = let a = c .before .before .before .before .args in ended-bad (now (a .s)) (now (a .out)) (sym (c .before .good-state .ensures) ∙ not-true _ (c .if1 .taken))
@@ -26,25 +23,11 @@ load-requires c κs = let a = c .before .before .before .before .before .before 
 at-end-requires : tie.Need-at-end-requires
 at-end-requires c κs = let a = c .before .before .before .before .before .before .before .args in end-requires (now (a .s)) (now (a .out)) (sym (c .before .before .before .before .good-state .ensures) ∙ not-false _ (c .before .before .before .if1 .left)) _ (c .load .ensures)
 
-told-requires : tie.Need-told-requires
-told-requires c κs = search needs
-
-same-length : tie.Need-same-length
-same-length c = search needs
-
 returns-3 : tie.Need-returns-3
 unfolding DumpEnded
 returns-3 c = let a = c .before .before .before .before .before .before .before .before .before .before .before .args in ended-told (now (a .s)) (now (a .out)) (sym (c .before .before .before .before .before .before .before .before .good-state .ensures) ∙ not-false _ (c .before .before .before .before .before .before .before .if1 .left)) (omega arith) _ _ _ _ (c .before .before .before .before .load .ensures) (c .before .before .before .at-end .ensures) (c .before .before .told .ensures)
 
 pub end-spec : {M : Type 1} → statement M
 end-spec =
-    tie.close
-    (tie.spec
-    good-state-requires
-    returns
-    returns-2
-    load-requires
-    at-end-requires
-    told-requires
-    same-length
+    tie.close (tie.spec (λ c κs. search needs) returns returns-2 load-requires at-end-requires (λ c κs. search needs) (λ c. search needs)
     returns-3)

@@ -8,9 +8,6 @@ use borrow.Author.Needs.{needs}
 use Rattle.intake_feed.proofs.feeding.state_stands.Statement.{statement}
 use Rattle.intake_feed.proofs.feeding.state_stands.Tie as tie
 
-good-state-requires : tie.Need-good-state-requires
-good-state-requires c κs = search needs
-
 returns : tie.Need-returns
 returns c = let a = c .before .before .before .before .args in stands-not (now (a .s)) (now (a .file)) (sym (c .before .good-state .ensures) ∙ not-true _ (c .if1 .taken))
 
@@ -21,5 +18,4 @@ returns-2 : tie.Need-returns-2
 returns-2 c = let a = c .before .before .before .before .before .args in stands-if (now (a .s)) (now (a .file)) _ (sym (c .before .before .good-state .ensures) ∙ not-false _ (c .before .if1 .left)) (c .owners-reach .ensures)
 
 pub state-stands-spec : {M : Type 1} → statement M
-state-stands-spec =
-    tie.close (tie.spec good-state-requires returns owners-reach-requires returns-2)
+state-stands-spec = tie.close (tie.spec (λ c κs. search needs) returns owners-reach-requires returns-2)

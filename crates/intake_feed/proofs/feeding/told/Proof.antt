@@ -8,17 +8,8 @@ use Rattle.intake_feed.proofs.feeding.told.Tie as tie
 returns : tie.Need-returns
 returns c = let a = c .before .before .args in (sym (c .if1 .taken), out-none (a .k .answer) (a .k .named) (now (a .out)) (c .if1 .taken))
 
-slice-write-out : tie.Need-slice-write-out
-slice-write-out c = search needs
-
-cast-result : tie.Need-cast-result
-cast-result c = search needs
-
-same-length : tie.Need-same-length
-same-length c = search needs
-
 returns-2 : tie.Need-returns-2
 returns-2 c = let a = c .before .before .before .args in (refl, out-set (a .k .answer) (a .k .named) (now (a .out)) (c .before .if1 .left))
 
 pub told-spec : {M : Type 1} → statement M
-told-spec = tie.close (tie.spec returns slice-write-out cast-result same-length returns-2)
+told-spec = tie.close (tie.spec returns (λ c. search needs) (λ c. search needs) (λ c. search needs) returns-2)

@@ -5,24 +5,6 @@ use Rattle.intake_feed.proofs.lines.end_line.Statement.{statement}
 use Rattle.intake_feed.proofs.lines.end_line.Tie as tie
 use Rattle.intake_line.proofs.line_end.Reads as line-end-reads
 
-line-end-requires : tie.Need-line-end-requires
-line-end-requires c κs = search needs
-
-enum-known-n : tie.Need-enum-known-n
-enum-known-n c = search needs
-
-enum-known-q : tie.Need-enum-known-q
-enum-known-q c = search needs
-
-stopped-requires : tie.Need-stopped-requires
-stopped-requires c κs = search needs
-
-enum-told : tie.Need-enum-told
-enum-told c = search needs
-
-close-line-requires : tie.Need-close-line-requires
-close-line-requires c κs = search needs
-
 returns : tie.Need-returns
 returns c =
     let p = c .before .before .before .before .before .before .before .before .before in let a = p .args in
@@ -33,12 +15,6 @@ returns-2 c =
     let p = c .before .before .before .before .before .before .before .before .before .before in let a = p .args in
     ended-stop (now (a .state)) (now (a .file)) (a .k) (now (a .parents)) (now (a .objects)) (p .pre) _ (c .before .before .before .before .line-end .ensures) _ _ (c .before .before .q .given .1) (c .stopped .ensures)
 
-same-length : tie.Need-same-length
-same-length c = search needs
-
-same-length-2 : tie.Need-same-length-2
-same-length-2 c = search needs
-
 returns-3 : tie.Need-returns-3
 returns-3 c =
     let p = c .before .before .before .before .before .before .before .before .before .before .before .before .before .before .before in let a = p .args in
@@ -46,16 +22,5 @@ returns-3 c =
 
 pub end-line-spec : {M : Type 1} → statement M
 end-line-spec =
-    tie.close
-    (tie.spec
-    line-end-requires
-    enum-known-n
-    enum-known-q
-    stopped-requires
-    enum-told
-    close-line-requires
-    returns
-    returns-2
-    same-length
-    same-length-2
-    returns-3)
+    tie.close (tie.spec (λ c κs. search needs) (λ c. search needs) (λ c. search needs) (λ c κs. search needs) (λ c. search needs)
+    (λ c κs. search needs) returns returns-2 (λ c. search needs) (λ c. search needs) returns-3)

@@ -27,18 +27,6 @@ feed-line-requires c κs =
     let l = c .before .before .before .before .before .loop .inv .3 in
     record { long = l .going .kept .held .long; held = l .going .kept .held .held; counts = omega (arith, l .size, l .within, p .pre .2); within = omega arith }
 
-with-line-requires : tie.Need-with-line-requires Inv-loop μ-loop
-with-line-requires c κs = search needs
-
-same-length : tie.Need-same-length Inv-loop μ-loop
-same-length c = omega arith
-
-same-length-2 : tie.Need-same-length-2 Inv-loop μ-loop
-same-length-2 c = omega arith
-
-same-length-3 : tie.Need-same-length-3 Inv-loop μ-loop
-same-length-3 c = omega arith
-
 returns : tie.Need-returns Inv-loop μ-loop
 returns c =
     let p = c .before .before .before .before .before .before .before .before .before .before .before .before .before .before .before .before .before in
@@ -78,15 +66,6 @@ loop-again c =
       reads-next _ _ _ _ _ _ (p .pre .1) (p .pre .2) _ _ _ _ _ (reads-line _ _ _ _ _ _ (p .pre .1) (p .pre .2) _ _ _ _ _ (c .before .before .before .before .before .before .before .before .before .before .before .before .before .before .before .before .before .before .before .before .before .loop .inv .3) _ _ (c .before .before .before .before .before .before .before .before .before .before .before .before .before .before .before .feed-line .ensures) _ (c .before .before .before .before .before .before .before .before .before .before .before .with-line .ensures)) (omega arith) _ _ _ (c .before .before .before .before .before .before .end-line .ensures) (c .if2 .left),
     )
 
-same-length-7 : tie.Need-same-length-7 Inv-loop μ-loop
-same-length-7 c = omega arith
-
-same-length-8 : tie.Need-same-length-8 Inv-loop μ-loop
-same-length-8 c = omega arith
-
-same-length-9 : tie.Need-same-length-9 Inv-loop μ-loop
-same-length-9 c = omega arith
-
 returns-3 : tie.Need-returns-3 Inv-loop μ-loop
 returns-3 c =
     let p = c .before .before .before .before .before .before .before in
@@ -94,26 +73,6 @@ returns-3 c =
 
 pub read-piece-spec : {M : Type 1} → statement M
 read-piece-spec =
-    tie.close
-    (tie.spec
-    Inv-loop
-    μ-loop
-    loop-holds
-    feed-line-requires
-    with-line-requires
-    same-length
-    same-length-2
-    same-length-3
-    returns
-    end-line-requires
-    same-length-4
-    same-length-5
-    same-length-6
-    returns-2
-    add-at
-    loop-less
-    loop-again
-    same-length-7
-    same-length-8
-    same-length-9
-    returns-3)
+    tie.close (tie.spec Inv-loop μ-loop loop-holds feed-line-requires (λ c κs. search needs) (λ c. omega arith) (λ c. omega arith)
+    (λ c. omega arith) returns end-line-requires same-length-4 same-length-5 same-length-6 returns-2 add-at loop-less loop-again
+    (λ c. omega arith) (λ c. omega arith) (λ c. omega arith) returns-3)

@@ -7,12 +7,6 @@ use Rattle.intake_feed.proofs.lines.stopped.Statement.{statement}
 use Rattle.intake_feed.proofs.lines.stopped.Tie as tie
 use Rattle.intake_line.proofs.new_line.Reads as new-line-reads
 
-add-line : tie.Need-add-line
-add-line c = search needs
-
-new-line-requires : tie.Need-new-line-requires
-new-line-requires c κs = search needs
-
 returns : tie.Need-returns
 unfolding stoppedAt
 returns c =
@@ -23,4 +17,4 @@ returns c =
     (c .new-line .ensures)
 
 pub stopped-spec : {M : Type 1} → statement M
-stopped-spec = tie.close (tie.spec add-line new-line-requires returns)
+stopped-spec = tie.close (tie.spec (λ c. search needs) (λ c κs. search needs) returns)

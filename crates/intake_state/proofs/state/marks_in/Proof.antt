@@ -3,18 +3,8 @@ use borrow.Author.Needs.{needs}
 use Rattle.intake_state.proofs.state.marks_in.Statement.{statement}
 use Rattle.intake_state.proofs.state.marks_in.Tie as tie
 
-number-at-requires : tie.Need-number-at-requires
-number-at-requires c κs = search needs
-
-number-at-requires-2 : tie.Need-number-at-requires-2
-number-at-requires-2 c κs = search needs
-
-number-at-requires-3 : tie.Need-number-at-requires-3
-number-at-requires-3 c κs = search needs
-
 returns : tie.Need-returns
 returns c = marks-are _ _ _ _ (c .before .before .number-at .ensures) (c .before .number-at2 .ensures) (c .number-at3 .ensures)
 
 pub marks-in-spec : {M : Type 1} → statement M
-marks-in-spec =
-    tie.close (tie.spec number-at-requires number-at-requires-2 number-at-requires-3 returns)
+marks-in-spec = tie.close (tie.spec (λ c κs. search needs) (λ c κs. search needs) (λ c κs. search needs) returns)

@@ -4,12 +4,9 @@ use Rattle.intake_state.proofs.state.number_at.Statement.{statement}
 use Rattle.intake_state.proofs.state.number_at.Tie as tie
 use Rattle.wire.proofs.le64.Reads as le64-reads
 
-le64-requires : tie.Need-le64-requires
-le64-requires c κs = search needs
-
 returns : tie.Need-returns
 unfolding numberAt
 returns c = c .le64 .ensures
 
 pub number-at-spec : {M : Type 1} → statement M
-number-at-spec = tie.close (tie.spec le64-requires returns)
+number-at-spec = tie.close (tie.spec (λ c κs. search needs) returns)

@@ -5,21 +5,6 @@ use borrow.Author.Needs.{needs}
 use Rattle.intake_state.proofs.state.store.Statement.{statement}
 use Rattle.intake_state.proofs.state.store.Tie as tie
 
-put-three-requires : tie.Need-put-three-requires
-put-three-requires c κs = search needs
-
-put-three-requires-2 : tie.Need-put-three-requires-2
-put-three-requires-2 c κs = search needs
-
-put-three-requires-3 : tie.Need-put-three-requires-3
-put-three-requires-3 c κs = search needs
-
-put-three-requires-4 : tie.Need-put-three-requires-4
-put-three-requires-4 c κs = search needs
-
-same-length : tie.Need-same-length
-same-length c = search needs
-
 returns : tie.Need-returns
 returns c =
     let p = c .before .before .before .before .before .before .before .before .before .before .before .before .before .before .before .before .before .before .before .before in let a = p .args in
@@ -27,11 +12,4 @@ returns c =
 
 pub store-spec : {M : Type 1} → statement M
 store-spec =
-    tie.close
-    (tie.spec
-    put-three-requires
-    put-three-requires-2
-    put-three-requires-3
-    put-three-requires-4
-    same-length
-    returns)
+    tie.close (tie.spec (λ c κs. search needs) (λ c κs. search needs) (λ c κs. search needs) (λ c κs. search needs) (λ c. search needs) returns)

@@ -8,14 +8,8 @@ use Rattle.intake_line.proofs.good_size.Reads as good-size-reads
 returns : tie.Need-returns
 returns c = mark-none _ _ (c .if1 .taken)
 
-sub-good-size : tie.Need-sub-good-size
-sub-good-size c = search needs
-
-good-size-requires : tie.Need-good-size-requires
-good-size-requires c κs = search needs
-
 returns-2 : tie.Need-returns-2
 returns-2 c = c .good-size .ensures ∙ mark-some _ _ (c .before .if1 .left)
 
 pub good-mark-spec : {M : Type 1} → statement M
-good-mark-spec = tie.close (tie.spec returns sub-good-size good-size-requires returns-2)
+good-mark-spec = tie.close (tie.spec returns (λ c. search needs) (λ c κs. search needs) returns-2)
