@@ -1,23 +1,27 @@
 -- Calls one after another come to what the definition gives on the whole dump, and nothing comes after a stop. Assumes nothing.
 use Prim.Native.Nat.{ℕ, _≤_}
-use mathlib.Core.Path.{_≡_, refl, sym, ap, _∙_}
+use mathlib.Core.Path.{_≡_, refl, sym, ap, subst, _∙_}
 use mathlib.Core.List.{List, [], _∷_}
 use mathlib.Core.Bool.{true, _&&_}
 use native.Mathlib.Omega.{arith}
-use lib.ListN.{length}
+use lib.ListN.{length, getD}
 use lib.Dec.{leb}
 use borrow.Author.Tests.{le-leb}
 use Rattle.wire.proofs.Both.{and-first, and-both}
-use Rattle.tables.specs.Bytes.{layoutRoom, join}
+use Rattle.tables.specs.Bytes.{layoutRoom, parentRows, objectRows, join}
 use Rattle.tables.specs.Check.{parentsWhole, objectsWhole, firstFailing}
+use Rattle.intake.specs.Lines.{lines}
+use Rattle.intake.specs.Given.{Becomes, RowsGiven, EveryRowGiven, NothingFresh}
 use Rattle.intake.specs.Reading.{badDump, Reading, Stop, going, stopped, dumpReading, dumpEnds, ended}
 use Rattle.intake.specs.Machine.{State, feed, begin, finish}
+use Rattle.intake.proofs.GivenLaws.{every-row-given}
+use Rattle.intake.proofs.FreshLaws.{nothing-fresh}
 use Rattle.intake.proofs.Simulation.{feedAll, pieces, cut-anywhere, end-anywhere}
 use Rattle.intake_state.specs.State.{machineOf, keptOf, machineIn, goodState, stateStands}
 use Rattle.intake_feed.specs.Feed.{maxPiece, stopNumber, stopLine, PieceFed}
 use Rattle.intake_feed.specs.End.{endRefusal, endStop, DumpEnded}
 use Rattle.intake_feed.proofs.FedLaws.{join-parents, join-objects, stop-number}
-use Rattle.intake_calls.specs.Calls.{Calls, beginning, Short, CutAnywhere, EveryCut, NothingAfter, NothingAfterStop}
+use Rattle.intake_calls.specs.Calls.{Calls, beginning, Short, CutAnywhere, EveryCut, EveryRowComes, NothingAfter, NothingAfterStop}
 use Rattle.intake_calls.proofs.WholeLaws.{Taken, taken, rows-are}
 use Rattle.intake_calls.proofs.CallLaws.{line-twice, stop-stays, SoFar, accepted, from-zero}
 
@@ -61,6 +65,28 @@ module _ (file p o out : List ℕ) where
 pub every-cut : EveryCut
 unfolding EveryCut
 every-cut file cut p o out s′ p′ o′ out′ r′ l c = cut-is file p o out cut s′ p′ o′ out′ r′ (from-zero file p o out cut s′ p′ o′ out′ r′ l c)
+
+-- ## Rows
+
+-- of rows that are given otherwise
+same-rows : (So : List ℕ → List ℕ → Type 0) (before now after : List (List ℕ)) → now ≡ after → ((r : ℕ) → Becomes So (getD before r []) (getD after r []))
+    → (r : ℕ) → Becomes So (getD before r []) (getD now r [])
+same-rows So before now after e h r = subst (λ (rows : List (List ℕ)). Becomes So (getD before r []) (getD rows r [])) (sym e) (h r)
+
+pub every-row-comes : EveryRowComes
+unfolding EveryRowComes EveryRowGiven NothingFresh beginning
+every-row-comes file cut p o out s′ p′ o′ out′ r′ l c =
+    let h : SoFar file p o out (join cut) s′ p′ o′ out′ r′ = from-zero file p o out cut s′ p′ o′ out′ r′ l c in
+    let B : Reading = beginning file p o in
+    let e : machineIn s′ file p′ o′ .reading ≡ dumpReading layoutRoom B (join cut) =
+    ap (λ (S : State). S .reading) (h .machine ∙ sym (pieces layoutRoom (begin B) cut)) ∙ cut-anywhere layoutRoom B cut in
+    let a = rows-are s′ file p′ o′ (machineIn s′ file p′ o′) refl in
+    let g : RowsGiven layoutRoom (lines (join cut) .complete) B (dumpReading layoutRoom B (join cut)) = every-row-given layoutRoom B (join cut) refl in
+    record {
+      parents = same-rows _ (parentRows p) (parentRows p′) _ (a .0 ∙ ap (λ (S : Reading). S .parents) e) (g .parents);
+      objects = same-rows _ (objectRows o) (objectRows o′) _ (a .1 ∙ ap (λ (S : Reading). S .objects) e) (g .objects);
+      fresh = same-rows _ (objectRows o) (objectRows o′) _ (a .1 ∙ ap (λ (S : Reading). S .objects) e) (nothing-fresh layoutRoom B (join cut) refl);
+    }
 
 -- ## After a stop
 

@@ -4,9 +4,11 @@ use Prim.Native.Nat.{ℕ, _≤_}
 use mathlib.Core.Path.{_≡_}
 use mathlib.Core.List.{List, [], _∷_}
 use mathlib.Core.Bool.{true}
-use lib.ListN.{length, replicate}
+use lib.ListN.{length, getD, replicate}
 use Rattle.tables.specs.Bytes.{layoutRoom, parentRows, objectRows, join}
 use Rattle.tables.specs.Check.{parentsWhole, objectsWhole}
+use Rattle.intake.specs.Lines.{lines}
+use Rattle.intake.specs.Given.{GivenParent, GivenObject, Becomes, NotFresh}
 use Rattle.intake.specs.Reading.{badDump, Reading, outside, going, dumpReading, dumpEnds}
 use Rattle.intake_state.specs.State.{stateSize, maxRead, stateStands}
 use Rattle.intake_feed.specs.Feed.{maxPiece, stopNumber, stopLine, PieceFed}
@@ -55,6 +57,17 @@ unfoldable pub EveryCut : Type 0
 EveryCut =
     (file : List ℕ) (cut : List (List ℕ)) (p o out s′ p′ o′ out′ : List ℕ) (r′ : ℕ) → Lent cut p o out
     → Calls file cut zeroState p o out 0 s′ p′ o′ out′ r′ → CutAnywhere file cut p o out s′ p′ o′ out′ r′
+
+-- each row of the lent tables stands as it was, or was unused and an entry of the dump gave it, byte for byte; and "nothing is fresh"
+pub record RowsCome (file : List ℕ) (cut : List (List ℕ)) (p o p′ o′ : List ℕ) : Type 0 where
+  pub parents : (r : ℕ) → Becomes (GivenParent layoutRoom file (lines (join cut) .complete)) (getD (parentRows p) r []) (getD (parentRows p′) r [])
+  pub objects : (r : ℕ) → Becomes (GivenObject file (lines (join cut) .complete)) (getD (objectRows o) r []) (getD (objectRows o′) r [])
+  pub fresh : (r : ℕ) → Becomes NotFresh (getD (objectRows o) r []) (getD (objectRows o′) r [])
+
+unfoldable pub EveryRowComes : Type 0
+EveryRowComes =
+    (file : List ℕ) (cut : List (List ℕ)) (p o out s′ p′ o′ out′ : List ℕ) (r′ : ℕ) → Lent cut p o out
+    → Calls file cut zeroState p o out 0 s′ p′ o′ out′ r′ → RowsCome file cut p o p′ o′
 
 -- 33 to 37 "stop the reading": every further call gives the same answer and line, and leaves state and tables as they are
 pub record NothingAfter (s p o out : List ℕ) (r : ℕ) (s′ p′ o′ out′ : List ℕ) (r′ : ℕ) : Type 0 where
