@@ -15,7 +15,7 @@ use Rattle.tables.specs.Check.{parentsWhole, objectsWhole}
 use Rattle.intake.specs.Reading.{Stop, going, stopped, isGoing}
 use Rattle.intake.specs.Machine.{State, feed, begin, fresh}
 use Rattle.intake.proofs.Simulation.{feed-append}
-use Rattle.intake_line.specs.Lent.{keptIn, digitsIn, partialIn}
+use Rattle.intake_bytes.specs.Lent.{keptIn, digitsIn, partialIn}
 use Rattle.intake_line.specs.Entry.{openIn, goodMark}
 use Rattle.intake_state.specs.State.{stopIs, machineOf, numberAt, lineIn, marksIn, readerIn, keptOf, machineIn, maxRead, goodStop, bareMarks, goodOpen, goodLine, goodKept, goodState, stateStands}
 use Rattle.intake_feed.specs.Feed.{maxPiece, feedRefusal, stopNumber, stopLine, PieceFed}

@@ -14,9 +14,9 @@ use Rattle.intake.specs.declared.Kind.the-variants.{Lov, Fid, Lma, Other}
 use Rattle.intake.specs.Says.{kindOf, wanted}
 use Rattle.intake.specs.Reading.{none, had, outside, inside, attributeOf}
 use Rattle.intake.specs.Machine.{Digits, broken, even, odd}
-use Rattle.intake_line.specs.declared.Marks.{Marks}
-use Rattle.intake_line.specs.declared.Unfinished.{Unfinished}
-use Rattle.intake_line.specs.Lent.{baseOf, wantOf, keptIn, digitsIn, partialIn, partOf, Held}
+use Rattle.intake_bytes.specs.declared.Marks.{Marks}
+use Rattle.intake_bytes.specs.declared.Unfinished.{Unfinished}
+use Rattle.intake_bytes.specs.Lent.{baseOf, wantOf, keptIn, digitsIn, partialIn, partOf, Held}
 use Rattle.intake_line.specs.Entry.{attributeIn, entryIn, openIn, MarksHeld}
 use Rattle.intake_line.proofs.GlueLaws.{want-open}
 use Rattle.intake_state.specs.State.{stateSize}

@@ -21,8 +21,8 @@ use Rattle.intake.specs.Says.{goodSize, wanted}
 use Rattle.intake.specs.Owners.{Owning, noOwner, owning, nextOwner, afterLine, untilLine, first, decimal}
 use Rattle.intake.specs.Reading.{Attribute, none, had, Entry, Reading, stopsAt, filled, fills, withSelf, closesEntry, firstUnused, parentFrom, objectFrom}
 use Rattle.intake.proofs.HeadLaws.{drop-take}
-use Rattle.intake_line.specs.declared.Marks.{Marks}
-use Rattle.intake_line.specs.Lent.{markOf, baseOf, partOf}
+use Rattle.intake_bytes.specs.declared.Marks.{Marks}
+use Rattle.intake_bytes.specs.Lent.{markOf, baseOf, partOf}
 use Rattle.intake_line.specs.Entry.{attributeIn, entryIn, goodMark, GoodMarks}
 use Rattle.intake_close.specs.declared.Closed.{Closed}
 use Rattle.intake_close.specs.declared.Closed.the-variants.{Filled, Refused}

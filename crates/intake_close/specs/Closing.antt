@@ -10,8 +10,8 @@ use Rattle.tables.specs.declared.Owner.{Owner}
 use Rattle.intake.specs.Says.{lmaSelfAt}
 use Rattle.intake.specs.Owners.{owning, afterLine}
 use Rattle.intake.specs.Reading.{badDump, noFit, none, had, Entry, Reading, stopsAt, filled, fills, withSelf, closesEntry}
-use Rattle.intake_line.specs.declared.Marks.{Marks}
-use Rattle.intake_line.specs.Lent.{fidAt, lmaAt, layoutAt}
+use Rattle.intake_bytes.specs.declared.Marks.{Marks}
+use Rattle.intake_bytes.specs.Lent.{fidAt, lmaAt, layoutAt}
 use Rattle.intake_line.specs.Entry.{entryIn}
 use Rattle.intake_close.specs.declared.Closed.{Closed}
 use Rattle.intake_close.specs.declared.Closed.the-variants.{Filled, Refused}

@@ -7,7 +7,7 @@ use intake::BAD_DUMP;
 use intake::NO_FIT;
 use intake::NO_KIND;
 use intake::NO_SELF;
-use intake_line::Marks;
+use intake_bytes::Marks;
 use rules::Row;
 use search::first;
 use tables::Owner;
@@ -18,7 +18,7 @@ ghost use mathlib.Core.Path.{_≡_};
 ghost use Prim.Native.Nat.{_+_, _≤_};
 ghost use lib.ListN.{length};
 ghost use Rattle.tables.specs.Bytes.{layoutRoom};
-ghost use Rattle.intake_line.specs.Lent.{layoutAt};
+ghost use Rattle.intake_bytes.specs.Lent.{layoutAt};
 ghost use Rattle.intake_line.specs.Entry.{GoodMarks};
 ghost use Rattle.intake_close.specs.Closing.{ParentClosed, ObjectClosed, EntryClosed, OwnedClosed};
 

@@ -1,9 +1,9 @@
 // The row that an entry fills, from what is kept of the entry in the lent bytes.
-use intake_line::FID_AT;
-use intake_line::LAYOUT_AT;
-use intake_line::LMA_AT;
-use intake_line::LMA_SELF_AT;
-use intake_line::LMA_SIZE;
+use intake_bytes::FID_AT;
+use intake_bytes::LAYOUT_AT;
+use intake_bytes::LMA_AT;
+use intake_bytes::LMA_SELF_AT;
+use intake_bytes::LMA_SIZE;
 use stores::pieces;
 use tables::Owner;
 use tables::rows::CLAIM_AT;
@@ -22,7 +22,7 @@ ghost use lib.ListN.{length, take, drop};
 ghost use lib.Seq.{sets};
 ghost use Rattle.tables.specs.Bytes.{parentSize, objectSize, layoutRoom};
 ghost use Rattle.intake.specs.Reading.{parentFrom, objectFrom};
-ghost use Rattle.intake_line.specs.Lent.{layoutAt};
+ghost use Rattle.intake_bytes.specs.Lent.{layoutAt};
 ghost use Rattle.intake_close.specs.Closing.{selfIn, claimIn, layoutIn};
 
 // Where the self FID stands in the lent bytes, and where it ends.

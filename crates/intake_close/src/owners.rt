@@ -1,7 +1,7 @@
 // The second file: a line `uid gid index` for each entry.
 use super::NumberRead;
 use super::OwnerRead;
-use intake_line::NEWLINE;
+use intake_bytes::NEWLINE;
 use wire::MAX_WORD;
 ghost use mathlib.Core.Path.{_≡_};
 ghost use Prim.Native.Nat.{_≤_};

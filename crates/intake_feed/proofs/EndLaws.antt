@@ -13,8 +13,8 @@ use Rattle.tables.specs.Check.{test, firstFailing}
 use Rattle.intake.specs.Says.{isEmpty}
 use Rattle.intake.specs.Reading.{Entry, Open, outside, inside, Stop, going, stopped, isGoing, atEnd, ended}
 use Rattle.intake.specs.Machine.{finish}
-use Rattle.intake_line.specs.declared.Marks.{Marks}
-use Rattle.intake_line.specs.Lent.{maxCount, partialIn}
+use Rattle.intake_bytes.specs.declared.Marks.{Marks}
+use Rattle.intake_bytes.specs.Lent.{maxCount, partialIn}
 use Rattle.intake_line.specs.Entry.{entryIn, openIn}
 use Rattle.intake_state.specs.declared.Kept.{Kept}
 use Rattle.intake_state.specs.State.{stateSize, stopIs, machineOf, KeptHeld, keptOf, goodState, machineIn}

@@ -13,7 +13,7 @@ use Rattle.tables.specs.Check.{wholeRows, parentsWhole, objectsWhole, all, used
 use Rattle.stores.proofs.TableLaws.{join-rows}
 use Rattle.intake.specs.Reading.{Stop, going, stopped, isGoing}
 use Rattle.intake.specs.Machine.{State, byte, feed}
-use Rattle.intake_line.specs.Lent.{maxCount}
+use Rattle.intake_bytes.specs.Lent.{maxCount}
 use Rattle.intake_state.specs.declared.Kept.{Kept}
 use Rattle.intake_feed.specs.Piece.{Going, PieceRead}
 use Rattle.intake_state.specs.State.{stopIs, machineOf, KeptHeld, keptOf, maxRead, goodKept, goodState, machineIn, Stored, stateStands}

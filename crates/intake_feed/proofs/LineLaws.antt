@@ -14,13 +14,13 @@ use Rattle.intake.specs.declared.Kind.{Kind}
 use Rattle.intake.specs.Reading.{Reading, Stop, going, stopped, isGoing, outside, inside, stopsAt, filled, closesEntry}
 use Rattle.intake.specs.Owners.{afterLine}
 use Rattle.intake.specs.Machine.{State, byte, fresh, wantIn}
-use Rattle.intake_line.specs.declared.Marks.{Marks}
-use Rattle.intake_line.specs.declared.Unfinished.{Unfinished}
+use Rattle.intake_bytes.specs.declared.Marks.{Marks}
+use Rattle.intake_bytes.specs.declared.Unfinished.{Unfinished}
 use Rattle.intake_line.specs.declared.Reader.{Reader}
-use Rattle.intake_line.specs.declared.Fed.{Fed}
+use Rattle.intake_bytes.specs.declared.Fed.{Fed}
 use Rattle.intake_line.specs.declared.Turn.{Turn}
 use Rattle.intake_line.specs.declared.Turn.the-variants.{Next, Stop as Halt, Close}
-use Rattle.intake_line.specs.Lent.{layoutAt, maxCount, newLine, partialIn, wantOf, Held, Others, Feeding, LineFed}
+use Rattle.intake_bytes.specs.Lent.{layoutAt, maxCount, newLine, partialIn, wantOf, Held, Others, Feeding, LineFed}
 use Rattle.intake_line.specs.Entry.{noMarks, entryIn, openIn, GoodMarks, MarksHeld, ReaderHeld, NextHeld, TurnHeld, stateIn, turnIs, TurnTaken}
 use Rattle.intake_line.proofs.EntryLaws.{no-entry}
 use Rattle.intake_line.proofs.GlueLaws.{want-open, open-stays}

@@ -13,13 +13,13 @@ use Rattle.tables.specs.Bytes.{layoutRoom, parentRows, objectRows}
 use Rattle.intake.specs.declared.Kind.{Kind}
 use Rattle.intake.specs.Reading.{Reading, Open, going, stopped, isGoing}
 use Rattle.intake.specs.Machine.{State, Partial, byte, goingByte, wantIn}
-use Rattle.intake_line.specs.declared.Marks.{Marks}
-use Rattle.intake_line.specs.declared.Unfinished.{Unfinished}
+use Rattle.intake_bytes.specs.declared.Marks.{Marks}
+use Rattle.intake_bytes.specs.declared.Unfinished.{Unfinished}
 use Rattle.intake_line.specs.declared.Reader.{Reader}
-use Rattle.intake_line.specs.declared.Fed.{Fed}
-use Rattle.intake_line.specs.Lent.{maxCount, partialIn, wantOf, Held, Others, Feeding, LineFed}
+use Rattle.intake_bytes.specs.declared.Fed.{Fed}
+use Rattle.intake_bytes.specs.Lent.{maxCount, partialIn, wantOf, Held, Others, Feeding, LineFed}
 use Rattle.intake_line.specs.Entry.{openIn, ReaderHeld}
-use Rattle.intake_line.proofs.FeedLaws.{held-at}
+use Rattle.intake_bytes.proofs.FeedLaws.{held-at}
 use Rattle.intake_line.proofs.GlueLaws.{want-open, open-stays}
 use Rattle.intake_state.specs.declared.Kept.{Kept}
 use Rattle.intake_feed.specs.Piece.{withLine, Going, LineEnded, PieceRead}

@@ -7,8 +7,8 @@ use Rattle.tables.specs.Bytes.{layoutRoom}
 use Rattle.intake.specs.Lines.{newline}
 use Rattle.intake.specs.Reading.{closesEntry}
 use Rattle.intake.specs.Machine.{State, byte, fresh}
-use Rattle.intake_line.specs.declared.Unfinished.{Unfinished}
-use Rattle.intake_line.specs.Lent.{maxCount, newLine}
+use Rattle.intake_bytes.specs.declared.Unfinished.{Unfinished}
+use Rattle.intake_bytes.specs.Lent.{maxCount, newLine}
 use Rattle.intake_line.specs.Entry.{noMarks, entryIn}
 use Rattle.intake_state.specs.declared.Kept.{Kept}
 use Rattle.intake_state.specs.State.{machineOf, KeptHeld}

@@ -10,7 +10,7 @@ ghost use Prim.Native.Nat.{_≤_, _<_};
 ghost use lib.ListN.{length};
 ghost use lib.Dec.{leb};
 ghost use Rattle.intake.specs.Reading.{noFit};
-ghost use Rattle.intake_line.specs.Lent.{layoutAt, maxCount};
+ghost use Rattle.intake_bytes.specs.Lent.{layoutAt, maxCount};
 ghost use Rattle.intake_state.specs.State.{keptOf, stateStands};
 ghost use Rattle.intake_feed.specs.Feed.{feedRefusal, outLine, PieceFed};
 ghost use Rattle.intake_feed.specs.End.{unclosedAt, EndTold, DumpEnded};

@@ -1,15 +1,15 @@
 // The lines of a piece, one after another, with the state's numbers in local values.
+use intake_bytes::Unfinished;
 use intake_close::Closed;
 use intake_close::closing;
 use intake_close::owners;
 use intake_line::Reader;
 use intake_line::Turn;
-use intake_line::Unfinished;
 use intake_state::Kept;
 ghost use mathlib.Core.Path.{_≡_};
 ghost use Prim.Native.Nat.{_+_, _≤_, _<_};
 ghost use lib.ListN.{length};
-ghost use Rattle.intake_line.specs.Lent.{maxCount};
+ghost use Rattle.intake_bytes.specs.Lent.{maxCount};
 ghost use Rattle.intake_feed.specs.Piece.{stoppedAt, closedAt, withLine, Going, LineClosed, LineEnded, PieceRead};
 
 // The state after a line that stops the reading.
@@ -24,7 +24,7 @@ fn stopped(k: Kept, q: usize) -> Kept
         from: x.from,
         marks: m,
         count: line,
-        line: intake_line::new_line(),
+        line: intake_bytes::new_line(),
     };
     Kept {
         answer: q,
@@ -44,7 +44,7 @@ fn closed(k: Kept, taken: usize) -> Kept
         from: 0,
         marks: intake_line::no_marks(),
         count: x.count + 1,
-        line: intake_line::new_line(),
+        line: intake_bytes::new_line(),
     };
     Kept {
         answer: 0,
@@ -124,7 +124,7 @@ pub fn read_piece(
         let x = k.reader;
         let m = x.marks;
         let line = x.line;
-        let fed = intake_line::feed_line(state, m, line, piece, at);
+        let fed = intake_bytes::feed_line(state, m, line, piece, at);
         let end = fed.at;
         let part = fed.line;
         k = with_line(k, part);

@@ -10,14 +10,15 @@ use lib.Dec.{eqb}
 use borrow.Author.Tests.{eq-eqb, ne-eqb}
 use Rattle.intake.specs.declared.Kind.{Kind}
 use Rattle.intake.specs.declared.Kind.the-variants.{Lov, Fid, Lma, Other}
-use Rattle.intake_line.specs.declared.Unfinished.{Unfinished}
+use Rattle.intake_bytes.specs.declared.Unfinished.{Unfinished}
 use Rattle.intake_line.specs.declared.Said.{Said}
 use Rattle.intake_line.specs.declared.Said.the-variants.{Opens, Closes, Skipped, Bad, Takes}
 use Rattle.intake.specs.Says.{Value, wrong, holds, Line, opens, closes, skipped, bad, takes, starts, fileWord, trustedWord, valueWord, kindOf, goodSize, sized, attribute, isEmpty, judge}
 use Rattle.intake.specs.Machine.{Digits, broken, even, odd, valueOf, Partial, lineEnd}
-use Rattle.intake_line.specs.Lent.{keptIn, digitsIn, partialIn, isOther, valueIs}
+use Rattle.intake_bytes.specs.Lent.{keptIn, digitsIn, partialIn}
+use Rattle.intake_line.specs.Ending.{isOther, valueIs}
 use Rattle.intake.proofs.HeadLaws.{drop-take}
-use Rattle.intake_line.proofs.StartsLaws.{starts-short}
+use Rattle.intake_bytes.proofs.StartsLaws.{starts-short}
 
 -- ## Over a head and a value
 

@@ -9,14 +9,15 @@ use lib.Dec.{eqb}
 use borrow.Author.Tests.{eq-eqb, ne-eqb}
 use Rattle.intake.specs.declared.Kind.{Kind}
 use Rattle.intake.specs.declared.Kind.the-variants.{Lov, Fid, Lma, Other}
-use Rattle.intake_line.specs.declared.Marks.{Marks}
+use Rattle.intake_bytes.specs.declared.Marks.{Marks}
 use Rattle.intake_line.specs.declared.Said.{Said}
 use Rattle.intake_line.specs.declared.Said.the-variants.{Opens, Closes, Skipped, Bad, Takes}
 use Rattle.intake_line.specs.declared.After.{After}
 use Rattle.intake_line.specs.declared.After.the-variants.{Goes, Stops, Closing}
 use Rattle.intake.specs.Says.{Line, takes, goodSize}
 use Rattle.intake.specs.Reading.{Attribute, none, had, Entry, Open, outside, inside, Reading, goesOn, stopsAt, closesEntry, has, attributeOf, withAttribute, onLine}
-use Rattle.intake_line.specs.Lent.{markOf, partOf, lineOf}
+use Rattle.intake_bytes.specs.Lent.{markOf, partOf}
+use Rattle.intake_line.specs.Ending.{lineOf}
 use Rattle.intake_line.specs.Entry.{marksWith, attributeIn, entryIn, openIn, goodMark, noMarks, MarksHeld, AfterHeld, afterIs, Standing, EntryStep}
 
 module _ (buf : List ℕ) (from : ℕ) (m : Marks) where

@@ -9,12 +9,12 @@ use lib.Dec.{eqb}
 use borrow.Author.Tests.{eq-eqb, ne-eqb, eqb-true, eqb-false}
 use Rattle.intake.specs.declared.Kind.{Kind}
 use Rattle.intake.specs.declared.Kind.the-variants.{Lov, Fid, Lma, Other}
-use Rattle.intake_line.specs.declared.Marks.{Marks}
-use Rattle.intake_line.specs.declared.Unfinished.{Unfinished}
+use Rattle.intake_bytes.specs.declared.Marks.{Marks}
+use Rattle.intake_bytes.specs.declared.Unfinished.{Unfinished}
 use Rattle.intake.specs.Says.{wanted, kindOf}
 use Rattle.intake.specs.Reading.{Attribute, none, had, Entry, Open, outside, inside, Reading, isGoing, takeLine, has, attributeOf}
 use Rattle.intake.specs.Machine.{Partial, fresh, lineEnd, State, goingByte, byte, wantIn}
-use Rattle.intake_line.specs.Lent.{baseOf, markOf, wantOf, keptIn, partialIn, partOf, Held, Others}
+use Rattle.intake_bytes.specs.Lent.{baseOf, markOf, wantOf, keptIn, partialIn, partOf, Held, Others}
 use Rattle.intake_line.specs.Entry.{attributeIn, entryIn, openIn}
 use Rattle.intake_line.proofs.EntryLaws.{kind-in, has-not, has-one, open-out, open-in}
 

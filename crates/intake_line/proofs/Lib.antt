@@ -1,8 +1,3 @@
-pub mod StartsLaws
-pub mod StoreLaws
-pub mod WordLaws
-pub mod HoldLaws
-pub mod FeedLaws
 pub mod EndLaws
 pub mod EntryLaws
 pub mod GlueLaws

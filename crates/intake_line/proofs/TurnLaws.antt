@@ -7,8 +7,8 @@ use native.Mathlib.Numerals.{add-one}
 use native.Mathlib.Omega.{arith}
 use lib.ListN.{length, take, drop}
 use Rattle.intake.specs.declared.Kind.{Kind}
-use Rattle.intake_line.specs.declared.Marks.{Marks}
-use Rattle.intake_line.specs.declared.Unfinished.{Unfinished}
+use Rattle.intake_bytes.specs.declared.Marks.{Marks}
+use Rattle.intake_bytes.specs.declared.Unfinished.{Unfinished}
 use Rattle.intake_line.specs.declared.Reader.{Reader}
 use Rattle.intake_line.specs.declared.Said.{Said}
 use Rattle.intake_line.specs.declared.Said.the-variants.{Takes}
@@ -19,7 +19,8 @@ use Rattle.intake_line.specs.declared.Turn.the-variants.{Next, Stop, Clo
 use Rattle.intake.specs.Says.{Line, kindOf}
 use Rattle.intake.specs.Reading.{Reading, isGoing, takeLine, onLine, goesOn, stopsAt, closesEntry}
 use Rattle.intake.specs.Machine.{State, Partial, byte, goingByte, fresh, lineEnd, even}
-use Rattle.intake_line.specs.Lent.{markOf, partOf, lineOf, wantOf, newLine, keptIn, digitsIn, partialIn, Held, LineSaid}
+use Rattle.intake_bytes.specs.Lent.{markOf, partOf, wantOf, newLine, keptIn, digitsIn, partialIn, Held}
+use Rattle.intake_line.specs.Ending.{lineOf, LineSaid}
 use Rattle.intake_line.specs.Entry.{entryIn, openIn, MarksHeld, AfterHeld, afterIs, Standing, EntryStep, ReaderHeld, NextHeld, TurnHeld, stateIn, turnIs, TurnTaken}
 use Rattle.intake_line.proofs.GlueLaws.{stands}
 

@@ -9,13 +9,14 @@ use Rattle.intake.specs.Lines.{newline}
 use Rattle.intake.specs.Says.{goodSize}
 use Rattle.intake.specs.declared.Kind.{Kind}
 use Rattle.intake.specs.declared.Kind.the-variants.{Lov, Fid, Lma, Other}
-use Rattle.intake_line.specs.declared.Marks.{Marks}
+use Rattle.intake_bytes.specs.declared.Marks.{Marks}
 use Rattle.intake_line.specs.declared.Said.{Said}
 use Rattle.intake_line.specs.declared.Said.the-variants.{Takes}
 use Rattle.intake_line.specs.declared.After.{After}
 use Rattle.intake_line.specs.declared.After.the-variants.{Goes, Stops, Closing}
 use Rattle.intake.specs.Reading.{badDump, attributeTwice, Attribute, none, had, Entry, Open, outside, inside, Reading, goesOn, stopsAt, closesEntry, onLine, going}
-use Rattle.intake_line.specs.Lent.{layoutAt, maxCount, markOf, partOf, lineOf, wantOf, partialIn, Held}
+use Rattle.intake_bytes.specs.Lent.{layoutAt, maxCount, markOf, partOf, wantOf, partialIn, Held}
+use Rattle.intake_line.specs.Ending.{lineOf}
 use Rattle.intake.specs.Machine.{State, byte, fresh}
 use Rattle.intake_line.specs.declared.Reader.{Reader}
 use Rattle.intake_line.specs.declared.Turn.{Turn}

@@ -15,10 +15,10 @@ use Rattle.wire.proofs.Splice.{sets-at, sets-front}
 use Rattle.wire.proofs.RowLaws.{drop-sets-le}
 use Rattle.intake.specs.declared.Kind.{Kind}
 use Rattle.intake.specs.Says.{kindOf}
-use Rattle.intake_line.specs.declared.Marks.{Marks}
-use Rattle.intake_line.specs.declared.Unfinished.{Unfinished}
+use Rattle.intake_bytes.specs.declared.Marks.{Marks}
+use Rattle.intake_bytes.specs.declared.Unfinished.{Unfinished}
 use Rattle.intake_line.specs.declared.Reader.{Reader}
-use Rattle.intake_line.specs.Lent.{baseOf, wantOf}
+use Rattle.intake_bytes.specs.Lent.{baseOf, wantOf}
 use Rattle.intake_state.specs.declared.Kept.{Kept}
 use Rattle.intake_state.specs.State.{numberAt, eights, lineIn, marksIn, readerIn, keptOf, numbersIn, numbersOf, Stored}
 

@@ -11,9 +11,9 @@ use Rattle.wire.proofs.Both.{and-both}
 use Rattle.intake.specs.Says.{kindOf}
 use Rattle.intake.specs.declared.Kind.{Kind}
 use Rattle.intake.specs.declared.Kind.the-variants.{Lov, Fid, Lma}
-use Rattle.intake_line.specs.declared.Marks.{Marks}
-use Rattle.intake_line.specs.declared.Unfinished.{Unfinished}
-use Rattle.intake_line.specs.Lent.{markOf, baseOf, wantOf, Held}
+use Rattle.intake_bytes.specs.declared.Marks.{Marks}
+use Rattle.intake_bytes.specs.declared.Unfinished.{Unfinished}
+use Rattle.intake_bytes.specs.Lent.{markOf, baseOf, wantOf, Held}
 use Rattle.intake_line.specs.Entry.{goodMark, MarksHeld}
 use Rattle.intake_state.specs.declared.Kept.{Kept}
 use Rattle.intake_state.specs.State.{stateSize, KeptHeld, lineIn, keptOf, maxRead, goodStop, bareMarks, goodOpen, goodLine, goodKept, goodState, Stored, stateStands}

@@ -13,12 +13,12 @@ use Rattle.intake.specs.declared.Kind.{Kind}
 use Rattle.intake.specs.Says.{kindOf, wanted}
 use Rattle.intake.specs.Reading.{Open, Stop}
 use Rattle.intake.specs.Machine.{Digits, broken, even, odd, Partial, State}
-use Rattle.intake_line.specs.declared.Marks.{Marks}
-use Rattle.intake_line.specs.declared.Unfinished.{Unfinished}
-use Rattle.intake_line.specs.Lent.{baseOf, wantOf, partOf, Held, Others, keptIn, digitsIn, partialIn}
+use Rattle.intake_bytes.specs.declared.Marks.{Marks}
+use Rattle.intake_bytes.specs.declared.Unfinished.{Unfinished}
+use Rattle.intake_bytes.specs.Lent.{baseOf, wantOf, partOf, Held, Others, keptIn, digitsIn, partialIn}
 use Rattle.intake_line.specs.Entry.{openIn}
 use Rattle.intake_line.proofs.GlueLaws.{open-stays}
-use Rattle.intake_line.proofs.HoldLaws.{base-past}
+use Rattle.intake_bytes.proofs.HoldLaws.{base-past}
 use Rattle.intake_state.specs.declared.Kept.{Kept}
 use Rattle.intake_state.specs.State.{stopIs, machineOf, KeptHeld, numberAt, lineIn, marksIn, readerIn, keptOf, numbersIn, numbersOf, machineIn, Stored}
 

@@ -11,11 +11,11 @@ use Rattle.wire.proofs.Both.{and-first, and-second}
 use Rattle.intake.specs.declared.Kind.{Kind}
 use Rattle.intake.specs.declared.Kind.the-variants.{Lov, Fid, Lma, Other}
 use Rattle.intake.specs.Says.{goodSize, kindOf}
-use Rattle.intake_line.specs.declared.Marks.{Marks}
-use Rattle.intake_line.specs.declared.Unfinished.{Unfinished}
-use Rattle.intake_line.specs.Lent.{maxCount, markOf, baseOf, wantOf, Held}
+use Rattle.intake_bytes.specs.declared.Marks.{Marks}
+use Rattle.intake_bytes.specs.declared.Unfinished.{Unfinished}
+use Rattle.intake_bytes.specs.Lent.{maxCount, markOf, baseOf, wantOf, Held}
 use Rattle.intake_line.specs.Entry.{goodMark, GoodMarks, MarksHeld, ReaderHeld}
-use Rattle.intake_line.proofs.HoldLaws.{base-past, want-fits}
+use Rattle.intake_bytes.proofs.HoldLaws.{base-past, want-fits}
 use Rattle.intake_state.specs.declared.Kept.{Kept}
 use Rattle.intake_state.specs.State.{stateSize, KeptHeld, lineIn, marksIn, readerIn, keptOf, maxRead, goodStop, bareMarks, goodOpen, goodLine, goodKept, goodState}
 

@@ -11,10 +11,10 @@ use Rattle.intake.specs.declared.Kind.the-variants.{Lov, Fid, Lma}
 use Rattle.tables.specs.Bytes.{layoutRoom, parentRows, objectRows}
 use Rattle.intake.specs.Reading.{badDump, noFit, Stop, going, stopped}
 use Rattle.intake.specs.Machine.{State}
-use Rattle.intake_line.specs.declared.Marks.{Marks}
-use Rattle.intake_line.specs.declared.Unfinished.{Unfinished}
+use Rattle.intake_bytes.specs.declared.Marks.{Marks}
+use Rattle.intake_bytes.specs.declared.Unfinished.{Unfinished}
 use Rattle.intake_line.specs.declared.Reader.{Reader}
-use Rattle.intake_line.specs.Lent.{headAt, fidAt, layoutAt, baseOf, wantOf, partialIn}
+use Rattle.intake_bytes.specs.Lent.{headAt, fidAt, layoutAt, baseOf, wantOf, partialIn}
 use Rattle.intake_line.specs.Entry.{goodMark, openIn, ReaderHeld}
 use Rattle.intake_state.specs.declared.Kept.{Kept}
 

@@ -1,18 +1,18 @@
 // The state's numbers in its first bytes.
 use super::Kept;
-use intake_line::FID_AT;
-use intake_line::HEAD_AT;
-use intake_line::HEAD_END;
-use intake_line::HEAD_SIZE;
-use intake_line::Marks;
+use intake_bytes::FID_AT;
+use intake_bytes::HEAD_AT;
+use intake_bytes::HEAD_END;
+use intake_bytes::HEAD_SIZE;
+use intake_bytes::Marks;
+use intake_bytes::Unfinished;
 use intake_line::Reader;
-use intake_line::Unfinished;
 ghost use mathlib.Core.Path.{_≡_};
 ghost use mathlib.Core.List.{[], _∷_};
 ghost use Prim.Native.Nat.{_+_, _≤_};
 ghost use lib.ListN.{length};
 ghost use lib.Seq.{sets};
-ghost use Rattle.intake_line.specs.Lent.{layoutAt};
+ghost use Rattle.intake_bytes.specs.Lent.{layoutAt};
 ghost use Rattle.intake_state.specs.State.{numberAt, eights, lineIn, marksIn, readerIn, keptOf, Stored};
 
 // Where the numbers stand, 8 bytes each: the stop, the entry and its marks, the unfinished line.
@@ -59,11 +59,11 @@ fn line_in(state: &[u8], m: Marks, seen: usize, half: usize, size: usize) -> Unf
             size: size,
         };
     }
-    let k = intake_line::kind_of(&state[HEAD_AT..HEAD_END]);
+    let k = intake_bytes::kind_of(&state[HEAD_AT..HEAD_END]);
     Unfinished {
         seen: seen,
-        base: intake_line::base_of(k),
-        most: intake_line::most_of(k, m, state.len()),
+        base: intake_bytes::base_of(k),
+        most: intake_bytes::most_of(k, m, state.len()),
         half: half,
         size: size,
     }

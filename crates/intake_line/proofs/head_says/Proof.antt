@@ -5,7 +5,7 @@ use mathlib.Core.Path.{_≡_, sym, ap, _∙_}
 use Rattle.wire.proofs.Splice.{drop-take-all}
 use Rattle.intake.specs.declared.Kind.{Kind}
 use Rattle.intake.specs.Says.{starts, valueWord, goodSize}
-use Rattle.intake_line.specs.Lent.{lineOf}
+use Rattle.intake_line.specs.Ending.{lineOf}
 use Rattle.intake_line.proofs.EndLaws.{ends-empty, ends-opens, ends-bad, ends-skipped, ends-short, ends-unmarked, ends-odd, ends-taken, ends-unfit, opens-not, closes-not, skipped-not, bad-not, takes-same}
 use Rattle.intake_line.proofs.head_says.Statement.{statement}
 use Rattle.intake_line.proofs.head_says.Tie as tie

@@ -1,4 +1,4 @@
-use Rattle.intake_line.specs.Lent.{isOther}
+use Rattle.intake_line.specs.Ending.{isOther}
 use borrow.Author.Needs.{needs}
 use Rattle.intake_line.proofs.is_other.Statement.{statement}
 use Rattle.intake_line.proofs.is_other.Tie as tie

@@ -1,6 +1,6 @@
 use borrow.Author.Needs.{needs}
 use mathlib.Core.Path.{_≡_, _∙_}
-use Rattle.intake_line.specs.Lent.{keptIn}
+use Rattle.intake_bytes.specs.Lent.{keptIn}
 use Rattle.intake_line.proofs.EndLaws.{ends-lent, ends-whole}
 use Rattle.intake_line.proofs.line_says.Statement.{statement}
 use Rattle.intake_line.proofs.line_says.Tie as tie

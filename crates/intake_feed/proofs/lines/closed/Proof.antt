@@ -2,7 +2,7 @@ use Rattle.intake_feed.specs.Piece.{closedAt}
 use borrow.Author.Needs.{needs}
 use Rattle.intake_feed.proofs.lines.closed.Statement.{statement}
 use Rattle.intake_feed.proofs.lines.closed.Tie as tie
-use Rattle.intake_line.proofs.new_line.Reads as new-line-reads
+use Rattle.intake_bytes.proofs.new_line.Reads as new-line-reads
 use Rattle.intake_line.proofs.no_marks.Reads as no-marks-reads
 
 returns : tie.Need-returns

@@ -6,7 +6,7 @@ use borrow.Author.Needs.{needs}
 use Rattle.intake_feed.proofs.PieceLaws.{Reads, reads-start, reads-line, reads-all, reads-stop, reads-next}
 use Rattle.intake_feed.proofs.lines.read_piece.Statement.{statement}
 use Rattle.intake_feed.proofs.lines.read_piece.Tie as tie
-use Rattle.intake_line.proofs.feed_line.Reads as feed-line-reads
+use Rattle.intake_bytes.proofs.feed_line.Reads as feed-line-reads
 
 abbrev Inv-loop : tie.InvT-loop
 Inv-loop state₀ piece file parents₀ objects₀ k₀ at₀ state parents objects k at =

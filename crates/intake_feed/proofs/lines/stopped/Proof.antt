@@ -2,10 +2,10 @@ use Rattle.intake_feed.specs.Piece.{stoppedAt}
 use borrow.Author.Needs.{needs}
 use Prim.Native.Nat.{_+_}
 use mathlib.Core.Path.{ap}
-use Rattle.intake_line.specs.declared.Unfinished.{Unfinished}
+use Rattle.intake_bytes.specs.declared.Unfinished.{Unfinished}
 use Rattle.intake_feed.proofs.lines.stopped.Statement.{statement}
 use Rattle.intake_feed.proofs.lines.stopped.Tie as tie
-use Rattle.intake_line.proofs.new_line.Reads as new-line-reads
+use Rattle.intake_bytes.proofs.new_line.Reads as new-line-reads
 
 returns : tie.Need-returns
 unfolding stoppedAt

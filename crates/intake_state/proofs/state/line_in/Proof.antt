@@ -4,9 +4,9 @@ use Rattle.intake_state.proofs.NumberLaws.{line-short, line-full}
 use borrow.Author.Needs.{needs}
 use Rattle.intake_state.proofs.state.line_in.Statement.{statement}
 use Rattle.intake_state.proofs.state.line_in.Tie as tie
-use Rattle.intake_line.proofs.base_of.Reads as base-of-reads
-use Rattle.intake_line.proofs.kind_of.Reads as kind-of-reads
-use Rattle.intake_line.proofs.most_of.Reads as most-of-reads
+use Rattle.intake_bytes.proofs.base_of.Reads as base-of-reads
+use Rattle.intake_bytes.proofs.kind_of.Reads as kind-of-reads
+use Rattle.intake_bytes.proofs.most_of.Reads as most-of-reads
 
 returns : tie.Need-returns
 returns c = let a = c .before .before .args in line-short (now (a .state)) (a .m) (a .seen) (a .half) (a .size) (c .if1 .taken)
