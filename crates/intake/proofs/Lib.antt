@@ -9,6 +9,7 @@ pub mod EntryLaws
 pub mod TwiceLaws
 pub mod Simulation
 pub mod RowLaws
+pub mod TouchLaws
 pub mod FilledLaws
 pub mod ClosedLaws
 pub mod GivenLaws
