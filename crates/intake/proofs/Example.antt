@@ -11,7 +11,7 @@ use Rattle.intake.specs.Lines.{Lines, lines, onto}
 use Rattle.intake.specs.Says.{Value, Line, fileWord, trustedWord, lovWord, fidWord, lmaWord, valueWord, starts, named, digit, isDigit, Hex, more, hexBytes, keep, kindOf, goodSize, sized, attribute, isEmpty, judge, wanted, lineSays, saying, wrong, holds, opens, closes, skipped, bad, takes, noHex, hex}
 use Rattle.intake.specs.Owners.{Owning, Number, isDecimal, told, decimal, afterSpace, third, second, first, untilLine, afterLine, nextOwner, noOwner, owning, noNumber, number}
 use Rattle.intake.specs.Reading.{Attribute, Entry, Open, Stop, Reading, stopsAt, goesOn, has, attributeOf, withAttribute, firstUnused, parentFrom, objectFrom, filled, fills, withSelf, closesEntry, onLine, isGoing, takeLine, readLine, readAll, atEnd, ended, dumpReading, dumpEnds, none, had, outside, inside, going, stopped}
-use Rattle.intake.specs.Machine.{Digits, store, digitByte, valueOf, Partial, fresh, lineByte, lineEnd, State, goingByte, byte, feed, begin, finish, wantIn, broken, even, odd}
+use Rattle.intake.specs.Machine.{Digits, store, digitByte, valueOf, Partial, noLine, lineByte, lineEnd, State, goingByte, byte, feed, begin, finish, wantIn, broken, even, odd}
 use Rattle.intake.proofs.Simulation.{feedAll, cut-anywhere}
 
 -- `# file: mnt/a`, `trusted.dummy=0xzz`, `trusted.lov=0x0102030405060708`
@@ -54,7 +54,7 @@ small = record { parents = (0 ∷ replicate 38 9) ∷ []; objects = usedRow ∷ 
 fileRow : List ℕ
 fileRow = 1 ∷ 0 ∷ 1 ∷ 2 ∷ 3 ∷ 4 ∷ 5 ∷ 6 ∷ 7 ∷ 8 ∷ 9 ∷ 10 ∷ 11 ∷ 12 ∷ 13 ∷ 14 ∷ 15 ∷ 232 ∷ 3 ∷ 0 ∷ 0 ∷ 100 ∷ 0 ∷ 0 ∷ 0 ∷ 8 ∷ 0 ∷ 1 ∷ 2 ∷ 3 ∷ 4 ∷ 5 ∷ 6 ∷ 7 ∷ 8 ∷ replicate 4 9
 
--- OST 9, 7 and 8, the first 16 bytes of the claim, not fresh
+-- OST 9, 7 and 8, the first 16 bytes of the claim, not noLine
 objectRow : List ℕ
 objectRow = 1 ∷ 100 ∷ 101 ∷ 102 ∷ 103 ∷ 104 ∷ 105 ∷ 106 ∷ 107 ∷ 108 ∷ 109 ∷ 110 ∷ 111 ∷ 112 ∷ 113 ∷ 114 ∷ 115 ∷ 9 ∷ 0 ∷ 0 ∷ 0 ∷ 7 ∷ 0 ∷ 0 ∷ 0 ∷ 8 ∷ 0 ∷ 0 ∷ 0 ∷ 32 ∷ 33 ∷ 34 ∷ 35 ∷ 36 ∷ 37 ∷ 38 ∷ 39 ∷ 40 ∷ 41 ∷ 42 ∷ 43 ∷ 44 ∷ 45 ∷ 46 ∷ 47 ∷ 0 ∷ []
 
@@ -71,10 +71,10 @@ by-computation :
     × (dumpEnds 12 small (fileHead ++ 10 ∷ []) ≡ stopped 35 4)
     × (dumpEnds 12 small (fileHead ++ drop 10 object) ≡ stopped 36 6)
     × (dumpEnds 12 (record { parents = []; objects = []; owners = []; count = 0; entry = outside; stop = going }) (fileHead ++ 10 ∷ []) ≡ stopped 33 4)
-unfolding fileHead fileLma file object usedRow ownersFile small fileRow objectRow feedAll join lines onto starts named digit isDigit more hexBytes keep kindOf goodSize sized attribute isEmpty judge wanted saying lineSays isDecimal told decimal afterSpace third second first untilLine afterLine nextOwner stopsAt goesOn has attributeOf withAttribute firstUnused parentFrom objectFrom filled fills withSelf closesEntry onLine isGoing takeLine readLine readAll atEnd ended dumpReading dumpEnds store digitByte valueOf fresh lineByte lineEnd goingByte byte feed begin finish isUsed bytes
+unfolding fileHead fileLma file object usedRow ownersFile small fileRow objectRow feedAll join lines onto starts named digit isDigit more hexBytes keep kindOf goodSize sized attribute isEmpty judge wanted saying lineSays isDecimal told decimal afterSpace third second first untilLine afterLine nextOwner stopsAt goesOn has attributeOf withAttribute firstUnused parentFrom objectFrom filled fills withSelf closesEntry onLine isGoing takeLine readLine readAll atEnd ended dumpReading dumpEnds store digitByte valueOf noLine lineByte lineEnd goingByte byte feed begin finish isUsed bytes
 by-computation = (refl, refl, refl, refl, refl, refl, refl, refl, refl, refl)
 
 -- cut within a word, within a byte's two digits and at a line's end
-in-pieces : feedAll 12 (begin small) (take 3 file ∷ drop 3 (take 51 file) ∷ drop 51 file ∷ object ∷ []) .reading ≡ dumpReading 12 small (file ++ object)
+in-pieces : feedAll 12 (begin small) (take 3 file ∷ drop 3 (take 52 file) ∷ drop 52 file ∷ object ∷ []) .reading ≡ dumpReading 12 small (file ++ object)
 unfolding fileHead fileLma file object join
-in-pieces = cut-anywhere 12 small (take 3 file ∷ drop 3 (take 51 file) ∷ drop 51 file ∷ object ∷ []) ∙ ap (dumpReading 12 small) (append-nil (file ++ object))
+in-pieces = cut-anywhere 12 small (take 3 file ∷ drop 3 (take 52 file) ∷ drop 52 file ∷ object ∷ []) ∙ ap (dumpReading 12 small) (append-nil (file ++ object))

@@ -10,7 +10,7 @@ use lib.Dec.{ltb, leb}
 use borrow.Author.Tests.{leb-true, leb-false, lt-ltb, le-ltb}
 use Rattle.intake.specs.declared.Kind.{Kind}
 use Rattle.intake.specs.Says.{Value, keep, hexBytes, kindOf, judge, saying}
-use Rattle.intake.specs.Machine.{Digits, even, digitByte, valueOf, Partial, fresh, lineByte, lineEnd}
+use Rattle.intake.specs.Machine.{Digits, even, digitByte, valueOf, Partial, noLine, lineByte, lineEnd}
 use Rattle.intake.proofs.HeadLaws.{kindOf-take, judge-take}
 use Rattle.intake.proofs.DigitLaws.{digits-all}
 
@@ -20,7 +20,7 @@ partial h d = record { head = h; digits = d }
 module _ (want : Kind → ℕ) where
   -- the machine over the bytes of a line
   unfoldable pub lineState : List ℕ → Partial
-  lineState l = foldl (lineByte want) fresh l
+  lineState l = foldl (lineByte want) noLine l
 
   pub head-byte : (h : List ℕ) (d : Digits) (b : ℕ) → length h < 14 → lineByte want (partial h d) b ≡ partial (h ++ b ∷ []) d
   unfolding lineByte partial
@@ -44,7 +44,7 @@ module _ (want : Kind → ℕ) where
   digitsOf l = foldl (digitByte (want (kindOf l))) (even 0 []) (drop 14 l)
 
   pub state-is : (l : List ℕ) → lineState l ≡ partial (take 14 l) (digitsOf l)
-  unfolding lineState digitsOf partial fresh
+  unfolding lineState digitsOf partial noLine
   state-is l = go (leb (length l) 14) refl where
     go : (t : Bool) → leb (length l) 14 ≡ t → foldl (lineByte want) (partial [] (even 0 [])) l ≡ partial (take 14 l) (digitsOf l)
     go true e =
@@ -68,4 +68,4 @@ module _ (want : Kind → ℕ) where
   -- one more byte of the line
   pub state-more : (l : List ℕ) (b : ℕ) → lineByte want (lineState l) b ≡ lineState (l ++ b ∷ [])
   unfolding lineState
-  state-more l b = sym (foldl-append (lineByte want) fresh l (b ∷ []))
+  state-more l b = sym (foldl-append (lineByte want) noLine l (b ∷ []))

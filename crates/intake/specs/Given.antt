@@ -1,5 +1,5 @@
 -- What a whole dump gives, in words of its lines: each row stands, or an entry gave it byte for byte. Document 02, 2026-03: "fill the tables", "Take a
--- parent's `trusted.lov`, an object's `trusted.fid` and each one's `trusted.lma`", "nothing is fresh".
+-- parent's `trusted.lov`, an object's `trusted.fid` .. and each one's `trusted.lma`", "nothing is fresh".
 use Prim.Native.Nat.{ℕ, zero, suc, _+_, _/_, _%_, _≤_}
 use mathlib.Core.Path.{_≡_}
 use mathlib.Core.List.{List, [], _∷_, _++_}

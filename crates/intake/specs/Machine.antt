@@ -35,8 +35,9 @@ pub record Partial : Type 0 where
   pub head : List ℕ
   pub digits : Digits
 
-unfoldable pub fresh : Partial
-fresh = record { head = []; digits = even 0 [] }
+-- a line of which nothing has been read
+unfoldable pub noLine : Partial
+noLine = record { head = []; digits = even 0 [] }
 
 unfoldable pub lineByte : (Kind → ℕ) → Partial → ℕ → Partial
 lineByte want p b =
@@ -57,7 +58,7 @@ pub record State : Type 0 where
 
 unfoldable pub goingByte : ℕ → State → ℕ → State
 goingByte room s b =
-    cond (eqb b newline) (record { reading = takeLine room (s .reading) (lineEnd (s .line)); line = fresh })
+    cond (eqb b newline) (record { reading = takeLine room (s .reading) (lineEnd (s .line)); line = noLine })
     (record { reading = s .reading; line = lineByte (wantIn room (s .reading .entry)) (s .line) b })
 
 -- a reading that has stopped stays as it is
@@ -69,7 +70,7 @@ unfoldable pub feed : ℕ → State → List ℕ → State
 feed room s l = foldl (byte room) s l
 
 unfoldable pub begin : Reading → State
-begin R = record { reading = R; line = fresh }
+begin R = record { reading = R; line = noLine }
 
 unfoldable pub finish : State → Stop
 finish s = ended (s .reading) (s .line .head)

@@ -15,7 +15,7 @@ use Rattle.intake.specs.Owners.{Owning, noOwner, owning, nextOwner}
 
 -- ## The numbers that stop a reading
 
--- "A bad line, hex or length or an unclosed last entry (33)", and no good owners line
+-- "A bad line, hex .. or length or an unclosed last entry (33)", and no good owners line
 abbrev pub badDump : ℕ
 badDump = 33
 

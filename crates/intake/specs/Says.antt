@@ -1,5 +1,5 @@
--- What one line of a dump says. Document 02, 2026-03: "Take a parent's `trusted.lov`, an object's `trusted.fid` and each one's `trusted.lma`, skip other
--- `trusted.` lines".
+-- What one line of a dump says. Document 02, 2026-03: "Take a parent's `trusted.lov`, an object's `trusted.fid` .. and each one's `trusted.lma` ..,
+-- skip other `trusted.` lines".
 use Prim.Native.Nat.{ℕ, _+_, _-_, _*_}
 use mathlib.Core.List.{List, [], _∷_, _++_}
 use mathlib.Core.Bool.{Bool, true, false, cond, _&&_, _||_}

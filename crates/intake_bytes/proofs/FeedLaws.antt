@@ -16,7 +16,7 @@ use Rattle.intake.specs.Reading.{Reading, isGoing}
 use Rattle.intake.specs.Says.{kindOf, digit}
 use Rattle.intake.specs.Machine.{Digits, digitByte, Partial, lineByte, State, goingByte, byte, wantIn}
 use Rattle.intake_bytes.specs.Lent.{wantOf, partialIn, partOf, Room, valued, DigitStep, PairStep, Held, Others, LineStep, Feeding, PastHead, DigitsFed, ValueFed, LineFed}
-use Rattle.intake_bytes.specs.declared.Fed.{Fed}
+use Rattle.intake_bytes.specs.declared.Reached.{Reached}
 use Rattle.intake_bytes.proofs.HoldLaws.{digit-step}
 use Rattle.intake_bytes.proofs.StoreLaws.{first-half}
 
@@ -163,7 +163,7 @@ module _ (m : Marks) (before : List ℕ) (x : Unfinished) (piece : List ℕ) (fr
         within = f .within;
       }
 
-  pub value-then : (after : List ℕ) (r : Fed) → ValueFed now y piece at after r → LineFed (wantOf m (length before)) before x piece from after r
+  pub value-then : (after : List ℕ) (r : Reached) → ValueFed now y piece at after r → LineFed (wantOf m (length before)) before x piece from after r
   unfolding ValueFed
   value-then after r v =
       let g : LineFed (wantOf m (length now)) now y piece at after r = v m (held-at m (length before) (length now) now y (sym (f .long)) (f .held)) in
@@ -175,7 +175,7 @@ module _ (m : Marks) (before : List ℕ) (x : Unfinished) (piece : List ℕ) (fr
       }
 
 -- digits two at a time, and then the others
-pub pairs-then : (before : List ℕ) (x : Unfinished) (piece : List ℕ) (from : ℕ) (now : List ℕ) (y : Unfinished) (at : ℕ) (after : List ℕ) (r : Fed)
+pub pairs-then : (before : List ℕ) (x : Unfinished) (piece : List ℕ) (from : ℕ) (now : List ℕ) (y : Unfinished) (at : ℕ) (after : List ℕ) (r : Reached)
     → DigitsFed before x piece from now y at → ValueFed now y piece at after r → ValueFed before x piece from after r
 unfolding ValueFed
 pairs-then before x piece from now y at after r d v = λ m g. value-then m before x piece from now y at (d .fed m g) after r v

@@ -11,14 +11,15 @@ use Rattle.intake.specs.declared.Kind.{Kind}
 use Rattle.intake.specs.declared.Kind.the-variants.{Lov, Fid, Lma, Other}
 use Rattle.intake_bytes.specs.declared.Marks.{Marks}
 use Rattle.intake_bytes.specs.declared.Unfinished.{Unfinished}
-use Rattle.intake_bytes.specs.declared.Fed.{Fed}
+use Rattle.intake_bytes.specs.declared.Reached.{Reached}
 use Rattle.intake.specs.Says.{headSize, digit, kindOf, wanted}
 use Rattle.intake.specs.Machine.{Digits, broken, even, odd, digitByte, Partial, lineByte, State, byte, wantIn}
 use Rattle.intake.specs.Reading.{Reading, isGoing}
 
 -- ## Where things stand
 
--- the state's numbers come first, then the first bytes of the unfinished line, then the attributes of the open entry, the layout last
+-- the state's numbers come first, then the first bytes of the unfinished line, then the attributes of the open entry, the layout last; each part has room to
+-- spare, 208 bytes before the layout in all
 abbrev pub headAt : ℕ
 headAt = 128
 
@@ -42,6 +43,10 @@ baseOf Other = fidAt
 abbrev pub maxCount : ℕ
 maxCount = 0xffffffffffffffff
 
+-- the half byte of digits that aren't hex
+abbrev pub brokenHalf : ℕ
+brokenHalf = 17
+
 -- ## The unfinished line
 
 unfoldable pub markOf : Marks → Kind → ℕ
@@ -61,7 +66,7 @@ keptIn buf x = take (x .size) (take (x .most) (drop (x .base) buf))
 unfoldable pub digitsIn : List ℕ → Unfinished → Digits
 digitsIn buf x =
     cond (eqb (x .half) 0) (even (x .size) (keptIn buf x))
-    (cond (eqb (x .half) 17) broken (odd (x .half - 1) (x .size) (keptIn buf x)))
+    (cond (eqb (x .half) brokenHalf) broken (odd (x .half - 1) (x .size) (keptIn buf x)))
 
 unfoldable pub partialIn : List ℕ → Unfinished → Partial
 partialIn buf x = record { head = take (x .seen) (drop headAt buf); digits = digitsIn buf x }
@@ -82,7 +87,7 @@ valued x half size = record { seen = x .seen; base = x .base; most = x .most; ha
 pub record Room (n : ℕ) (x : Unfinished) : Type 0 where
   pub fits : x .base + x .most ≤ n
   pub past : fidAt ≤ x .base
-  pub halves : x .half ≤ 17
+  pub halves : x .half ≤ brokenHalf
   pub counts : x .size < maxCount
 
 -- bytes from base on, most of them, may have changed, and no others
@@ -97,7 +102,7 @@ pub record DigitStep (before : List ℕ) (x : Unfinished) (b : ℕ) (after : Lis
   pub seen : r .seen ≡ x .seen
   pub base : r .base ≡ x .base
   pub most : r .most ≡ x .most
-  pub halves : r .half ≤ 17
+  pub halves : r .half ≤ brokenHalf
   pub counts : r .size ≤ suc (x .size)
 
 -- two digits of a whole byte: from the first one on, what the second does
@@ -113,7 +118,7 @@ pub record Held (want : Kind → ℕ) (buf : List ℕ) (x : Unfinished) : Type 0
   pub keeps : headSize ≤ x .seen → x .most ≡ want (kindOf (take headSize (drop headAt buf)))
   pub past : fidAt ≤ x .base
   pub fits : x .base + x .most ≤ length buf
-  pub halves : x .half ≤ 17
+  pub halves : x .half ≤ brokenHalf
 
 -- the part of the lent bytes in which an attribute is kept
 unfoldable pub partOf : ℕ → Kind → List ℕ → List ℕ
@@ -150,7 +155,7 @@ pub record Feeds (buf : List ℕ) (m : Marks) (x : Unfinished) (piece : List ℕ
   pub within : from ≤ length piece
 
 -- up to the line's end, or the piece's
-pub record LineFed (want : Kind → ℕ) (before : List ℕ) (x : Unfinished) (piece : List ℕ) (from : ℕ) (after : List ℕ) (r : Fed) : Type 0 where
+pub record LineFed (want : Kind → ℕ) (before : List ℕ) (x : Unfinished) (piece : List ℕ) (from : ℕ) (after : List ℕ) (r : Reached) : Type 0 where
   pub fed : Feeding want before x piece from after (r .line) (r .at)
   pub stop : r .at < length piece → getD piece (r .at) 0 ≡ newline
 
@@ -172,6 +177,6 @@ pub record DigitsFed (before : List ℕ) (x : Unfinished) (piece : List ℕ) (fr
   pub fed : (m : Marks) → Held (wantOf m (length before)) before x → Feeding (wantOf m (length before)) before x piece from after r at
 
 -- up to the line's end, or the piece's, whatever the entry has
-unfoldable pub ValueFed : List ℕ → Unfinished → List ℕ → ℕ → List ℕ → Fed → Type 0
+unfoldable pub ValueFed : List ℕ → Unfinished → List ℕ → ℕ → List ℕ → Reached → Type 0
 ValueFed before x piece from after r =
     (m : Marks) → Held (wantOf m (length before)) before x → LineFed (wantOf m (length before)) before x piece from after r

@@ -60,7 +60,7 @@ pub struct Unfinished {
 }
 
 // Where in a piece the reading stands, and the line there.
-pub struct Fed {
+pub struct Reached {
     pub at: usize,
     pub line: Unfinished,
 }
@@ -275,7 +275,7 @@ fn put_pair(buf: &mut [u8], x: Unfinished, high: usize, low: usize) -> Unfinishe
 }
 
 // Whole bytes of a value: two digits at a time, as long as they are digits.
-fn feed_pairs(buf: &mut [u8], line: Unfinished, piece: &[u8], from: usize) -> Fed
+fn feed_pairs(buf: &mut [u8], line: Unfinished, piece: &[u8], from: usize) -> Reached
     requires { ⌜ PastHead (length (now buf)) line (length (now piece)) from × (line .half ≡ 0) ⌝ }
     ensures { λ r. ⌜ DigitsFed (now (buf .entry)) line (now (piece .entry)) from (now (buf .exit)) (r .line) (r .at) ⌝ }
 {
@@ -286,19 +286,19 @@ fn feed_pairs(buf: &mut [u8], line: Unfinished, piece: &[u8], from: usize) -> Fe
         let high = digit(piece[at]);
         let low = digit(piece[next]);
         if high == 16 {
-            return Fed { at: at, line: x };
+            return Reached { at: at, line: x };
         }
         if low == 16 {
-            return Fed { at: at, line: x };
+            return Reached { at: at, line: x };
         }
         x = put_pair(buf, x, high, low);
         at += 2;
     }
-    Fed { at: at, line: x }
+    Reached { at: at, line: x }
 }
 
 // The digits of a value one by one, up to the line's end.
-fn feed_digits(buf: &mut [u8], line: Unfinished, piece: &[u8], from: usize) -> Fed
+fn feed_digits(buf: &mut [u8], line: Unfinished, piece: &[u8], from: usize) -> Reached
     requires { ⌜ PastHead (length (now buf)) line (length (now piece)) from ⌝ }
     ensures { λ r. ⌜ ValueFed (now (buf .entry)) line (now (piece .entry)) from (now (buf .exit)) r ⌝ }
 {
@@ -307,16 +307,16 @@ fn feed_digits(buf: &mut [u8], line: Unfinished, piece: &[u8], from: usize) -> F
     while at < piece.len() {
         let b = piece[at];
         if b == NEWLINE {
-            return Fed { at: at, line: x };
+            return Reached { at: at, line: x };
         }
         x = digit_byte(buf, x, b);
         at += 1;
     }
-    Fed { at: at, line: x }
+    Reached { at: at, line: x }
 }
 
 // The bytes of a piece after a line's head, up to the line's end.
-fn feed_value(buf: &mut [u8], line: Unfinished, piece: &[u8], from: usize) -> Fed
+fn feed_value(buf: &mut [u8], line: Unfinished, piece: &[u8], from: usize) -> Reached
     requires { ⌜ PastHead (length (now buf)) line (length (now piece)) from ⌝ }
     ensures { λ r. ⌜ ValueFed (now (buf .entry)) line (now (piece .entry)) from (now (buf .exit)) r ⌝ }
 {
@@ -330,7 +330,7 @@ fn feed_value(buf: &mut [u8], line: Unfinished, piece: &[u8], from: usize) -> Fe
 }
 
 // The bytes of a piece up to the line's end.
-pub fn feed_line(buf: &mut [u8], m: Marks, line: Unfinished, piece: &[u8], from: usize) -> Fed
+pub fn feed_line(buf: &mut [u8], m: Marks, line: Unfinished, piece: &[u8], from: usize) -> Reached
     requires { ⌜ Feeds (now buf) m line (now piece) from ⌝ }
     ensures { λ r. ⌜ LineFed (wantOf m (length (now (buf .entry)))) (now (buf .entry)) line (now (piece .entry)) from (now (buf .exit)) r ⌝ }
 {
@@ -342,12 +342,12 @@ pub fn feed_line(buf: &mut [u8], m: Marks, line: Unfinished, piece: &[u8], from:
         }
         let b = piece[at];
         if b == NEWLINE {
-            return Fed { at: at, line: x };
+            return Reached { at: at, line: x };
         }
         x = head_byte(buf, m, x, b);
         at += 1;
     }
-    Fed { at: at, line: x }
+    Reached { at: at, line: x }
 }
 
 // A line of which nothing has been read.

@@ -13,7 +13,7 @@ use Rattle.wire.proofs.Both.{and-both}
 use Rattle.tables.specs.Bytes.{layoutRoom, join}
 use Rattle.tables.specs.Check.{parentsWhole, objectsWhole}
 use Rattle.intake.specs.Reading.{Stop, going, stopped, isGoing}
-use Rattle.intake.specs.Machine.{State, feed, begin, fresh}
+use Rattle.intake.specs.Machine.{State, feed, begin, noLine}
 use Rattle.intake.proofs.Simulation.{feed-append}
 use Rattle.intake_bytes.specs.Lent.{keptIn, digitsIn, partialIn}
 use Rattle.intake_line.specs.Entry.{openIn, goodMark}
@@ -28,7 +28,7 @@ use Rattle.intake_calls.proofs.WholeLaws.{Taken, taken, whole-stays}
 
 -- it stands for the reading that begins
 zero-begins : (file p o : List ℕ) → machineIn zeroState file p o ≡ begin (beginning file p o)
-unfolding machineIn machineOf keptOf readerIn marksIn lineIn numberAt zeroState beginning begin openIn stopIs partialIn digitsIn keptIn fresh le
+unfolding machineIn machineOf keptOf readerIn marksIn lineIn numberAt zeroState beginning begin openIn stopIs partialIn digitsIn keptIn noLine le
 zero-begins file p o = refl
 
 zero-good : goodState zeroState ≡ true

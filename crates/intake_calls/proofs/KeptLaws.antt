@@ -11,7 +11,7 @@ use Rattle.intake.specs.declared.Kind.{Kind}
 use Rattle.intake.specs.declared.Kind.the-variants.{Lov, Fid, Lma, Other}
 use Rattle.intake.specs.Says.{Line, opens, closes, skipped, bad, takes, starts, isDigit, digit, kindOf, goodSize, sized, attribute, isEmpty, judge, wanted, fileWord, trustedWord, valueWord}
 use Rattle.intake.specs.Reading.{Attribute, none, had, Entry, Open, outside, inside, has, attributeOf, withAttribute}
-use Rattle.intake.specs.Machine.{Digits, broken, even, odd, store, digitByte, valueOf, Partial, fresh, lineByte, lineEnd, wantIn}
+use Rattle.intake.specs.Machine.{Digits, broken, even, odd, store, digitByte, valueOf, Partial, noLine, lineByte, lineEnd, wantIn}
 
 -- ## The bytes that are kept
 
@@ -85,8 +85,8 @@ few-digit w most (odd h n v) b m f = go (isDigit b) where
   go false = few-broken w
 
 module _ (room : ℕ) where
-  pub few-fresh : FewLine room fresh
-  unfolding fresh keptDigits counted
+  pub few-fresh : FewLine room noLine
+  unfolding noLine keptDigits counted
   few-fresh = record { count = omega arith; head = λ h. refl; most = omega arith }
 
   pub few-byte : (o : Open) (p : Partial) (b : ℕ) → FewLine room p → FewLine room (lineByte (wantIn room o) p b)

@@ -1,4 +1,4 @@
--- Marks stay good: a row that is filled is marked used and isn't fresh, the other rows stay. Assumes nothing.
+-- Marks stay good: a row that is filled is marked used and isn't noLine, the other rows stay. Assumes nothing.
 use Prim.Native.Nat.{ℕ, zero, suc, _≤_}
 use mathlib.Core.Path.{_≡_, refl, ap}
 use mathlib.Core.List.{List, [], _∷_, _++_}
@@ -16,7 +16,7 @@ use Rattle.intake.specs.declared.Kind.the-variants.{Fid, Lma}
 use Rattle.intake.specs.Says.{Line, opens, closes, skipped, bad, takes, wanted}
 use Rattle.intake.specs.Owners.{Owning, noOwner, owning, nextOwner}
 use Rattle.intake.specs.Reading.{Attribute, none, had, Entry, Open, outside, inside, Reading, stopsAt, goesOn, has, attributeOf, withAttribute, firstUnused, parentFrom, objectFrom, filled, fills, withSelf, closesEntry, onLine, isGoing, takeLine}
-use Rattle.intake.specs.Machine.{State, fresh, lineByte, lineEnd, wantIn, goingByte, byte, feed}
+use Rattle.intake.specs.Machine.{State, noLine, lineByte, lineEnd, wantIn, goingByte, byte, feed}
 use Rattle.intake_calls.proofs.KeptLaws.{keptOf, FewOpen, FewLine, FewSaid, few-fresh, few-byte, few-said, few-none, few-with}
 
 -- ## Rows
@@ -159,7 +159,7 @@ module _ (room : ℕ) where
     next = onLine room R (suc (R .count)) (R .entry) (lineEnd (S .line))
 
     go : (t u : Bool)
-        → MarkedState (cond t (cond u (record { reading = cond t next R; line = fresh })
+        → MarkedState (cond t (cond u (record { reading = cond t next R; line = noLine })
         (record { reading = R; line = lineByte (wantIn room (R .entry)) (S .line) b })) S)
     go true true = record {
       reading = marked-line R (m .reading) (suc (R .count)) (R .entry) (m .reading .entry) (lineEnd (S .line)) (few-said room (S .line) (m .line));

@@ -36,6 +36,7 @@ unfoldable pub closedAs : Reading → ℕ → List ℕ → List ℕ → List ℕ
 closedAs R line after p o Filled = filled R line after (parentRows p) (objectRows o)
 closedAs R line after p o (Refused q) = stopsAt (withTables R p o) q line
 
+-- the number of a refusal; a row that is filled has none, and stands for any that is good
 unfoldable pub stopOf : Closed → ℕ
 stopOf Filled = noFit
 stopOf (Refused q) = q

@@ -13,11 +13,11 @@ use Rattle.tables.specs.Bytes.{layoutRoom, parentRows, objectRows}
 use Rattle.intake.specs.declared.Kind.{Kind}
 use Rattle.intake.specs.Reading.{Reading, Stop, going, stopped, isGoing, outside, inside, stopsAt, filled, closesEntry}
 use Rattle.intake.specs.Owners.{afterLine}
-use Rattle.intake.specs.Machine.{State, byte, fresh, wantIn}
+use Rattle.intake.specs.Machine.{State, byte, noLine, wantIn}
 use Rattle.intake_bytes.specs.declared.Marks.{Marks}
 use Rattle.intake_bytes.specs.declared.Unfinished.{Unfinished}
 use Rattle.intake_line.specs.declared.Reader.{Reader}
-use Rattle.intake_bytes.specs.declared.Fed.{Fed}
+use Rattle.intake_bytes.specs.declared.Reached.{Reached}
 use Rattle.intake_line.specs.declared.Turn.{Turn}
 use Rattle.intake_line.specs.declared.Turn.the-variants.{Next, Stop as Halt, Close}
 use Rattle.intake_bytes.specs.Lent.{layoutAt, maxCount, newLine, partialIn, wantOf, Held, Others, Feeding, LineFed}
@@ -71,13 +71,13 @@ module _ (s file : List ℕ) (k : Kept) (p o : List ℕ) (g : Going s file k) wh
 
   -- the machine after a stop at this line
   stop-machine : (p o : List ℕ) (q : ℕ) → 33 ≤ q
-      → record { reading = stopsAt (machineOf s k file p o .reading) q (suc (k .reader .count)); line = fresh } ≡ machineOf s (stoppedAt k q) file p o
+      → record { reading = stopsAt (machineOf s k file p o .reading) q (suc (k .reader .count)); line = noLine } ≡ machineOf s (stoppedAt k q) file p o
   unfolding machineOf stoppedAt stopsAt
   stop-machine p o q h = rw (stops-at q (k .reader .count + 1) h, add-one, ← new-is s)
 
   -- and after a row was filled
   row-machine : (p o : List ℕ) (taken : ℕ) (R : Reading) (after : List ℕ) → after ≡ drop taken file
-      → record { reading = filled R (suc (k .reader .count)) after (parentRows p) (objectRows o); line = fresh } ≡ machineOf s (closedAt k taken) file p o
+      → record { reading = filled R (suc (k .reader .count)) after (parentRows p) (objectRows o); line = noLine } ≡ machineOf s (closedAt k taken) file p o
   unfolding machineOf closedAt filled openIn stopIs
   row-machine p o taken R after e = rw (e, add-one, ← new-is s)
 
@@ -97,18 +97,18 @@ module _ (s file : List ℕ) (k : Kept) (p o : List ℕ) (g : Going s file k) wh
   -- what the closing line comes to, by the code's answer
   closing-is : (p′ o′ : List ℕ) (x : Closed) → EntryClosed s (k .reader .marks) file (k .taken) p o p′ o′ x
       → closingOf s k file p o
-      ≡ record { reading = closedAs (machineOf s k file p o .reading) (suc (k .reader .count)) (afterLine (drop (k .taken) file)) p′ o′ x; line = fresh }
+      ≡ record { reading = closedAs (machineOf s k file p o .reading) (suc (k .reader .count)) (afterLine (drop (k .taken) file)) p′ o′ x; line = noLine }
   unfolding closingOf
-  closing-is p′ o′ x c = ap (λ (z : Reading). record { reading = z; line = fresh })
+  closing-is p′ o′ x c = ap (λ (z : Reading). record { reading = z; line = noLine })
       (ap (λ (z : Reading). closesEntry layoutRoom z (suc (k .reader .count)) (entryIn s (k .reader .from) (k .reader .marks))) (sym (with-tables p o))
       ∙ c .closes (machineOf s k file p o .reading) (suc (k .reader .count)) (k .reader .from) owners-are)
 
   refused-machine : (p′ o′ : List ℕ) (q : ℕ) → 33 ≤ q
-      → record { reading = closedAs (machineOf s k file p o .reading) (suc (k .reader .count)) (afterLine (drop (k .taken) file)) p′ o′ (Refused q); line = fresh }
+      → record { reading = closedAs (machineOf s k file p o .reading) (suc (k .reader .count)) (afterLine (drop (k .taken) file)) p′ o′ (Refused q); line = noLine }
       ≡ machineOf s (stoppedAt k q) file p′ o′
   unfolding closedAs
   refused-machine p′ o′ q h =
-      ap (λ (z : Reading). record { reading = stopsAt z q (suc (k .reader .count)); line = fresh }) (with-tables p′ o′) ∙ stop-machine p′ o′ q h
+      ap (λ (z : Reading). record { reading = stopsAt z q (suc (k .reader .count)); line = noLine }) (with-tables p′ o′) ∙ stop-machine p′ o′ q h
 
   stop-count : (q : ℕ) → stoppedAt k q .reader .count ≡ k .reader .count + 1
   unfolding stoppedAt
@@ -138,7 +138,7 @@ module _ (s file : List ℕ) (k : Kept) (p o : List ℕ) (g : Going s file k) wh
       (record {
         machine =
             closing-is p′ o′ x c
-            ∙ ap (λ (y : Closed). record { reading = closedAs (machineOf s k file p o .reading) (suc (k .reader .count)) (afterLine (drop (k .taken) file)) p′ o′ y; line = fresh }) e
+            ∙ ap (λ (y : Closed). record { reading = closedAs (machineOf s k file p o .reading) (suc (k .reader .count)) (afterLine (drop (k .taken) file)) p′ o′ y; line = noLine }) e
             ∙ refused-machine p′ o′ q (n .0);
         count = stop-count q;
         size = stop-size q;
@@ -146,7 +146,7 @@ module _ (s file : List ℕ) (k : Kept) (p o : List ℕ) (g : Going s file k) wh
       })
 
   filled-machine : (p′ o′ : List ℕ) (taken : ℕ) → afterLine (drop (k .taken) file) ≡ drop taken file
-      → record { reading = closedAs (machineOf s k file p o .reading) (suc (k .reader .count)) (afterLine (drop (k .taken) file)) p′ o′ Filled; line = fresh }
+      → record { reading = closedAs (machineOf s k file p o .reading) (suc (k .reader .count)) (afterLine (drop (k .taken) file)) p′ o′ Filled; line = noLine }
       ≡ machineOf s (closedAt k taken) file p′ o′
   unfolding closedAs
   filled-machine p′ o′ taken e = row-machine p′ o′ taken (machineOf s k file p o .reading) (afterLine (drop (k .taken) file)) e
@@ -158,7 +158,7 @@ module _ (s file : List ℕ) (k : Kept) (p o : List ℕ) (g : Going s file k) wh
       (record {
         machine =
             closing-is p′ o′ x c
-            ∙ ap (λ (y : Closed). record { reading = closedAs (machineOf s k file p o .reading) (suc (k .reader .count)) (afterLine (drop (k .taken) file)) p′ o′ y; line = fresh }) e
+            ∙ ap (λ (y : Closed). record { reading = closedAs (machineOf s k file p o .reading) (suc (k .reader .count)) (afterLine (drop (k .taken) file)) p′ o′ y; line = noLine }) e
             ∙ filled-machine p′ o′ taken (a .after);
         count = row-count taken;
         size = row-size taken;
@@ -204,7 +204,7 @@ module _ (s file : List ℕ) (k : Kept) (p o : List ℕ) (g : Going s file k) wh
         (record {
           machine =
               ended ∙ ap (turnIs layoutRoom (machineOf s k file p o .reading) s (k .reader)) e
-              ∙ ap (λ (S : State). record { reading = stopsAt (S .reading) q (suc (k .reader .count)); line = fresh }) state-is
+              ∙ ap (λ (S : State). record { reading = stopsAt (S .reading) q (suc (k .reader .count)); line = noLine }) state-is
               ∙ stop-machine p o q (n .0);
           count = stop-count q;
           size = stop-size q;
@@ -217,7 +217,7 @@ module _ (s file : List ℕ) (k : Kept) (p o : List ℕ) (g : Going s file k) wh
         record {
           machine =
               ended ∙ ap (turnIs layoutRoom (machineOf s k file p o .reading) s (k .reader)) e
-              ∙ ap (λ (S : State). record { reading = closesEntry layoutRoom (S .reading) (suc (k .reader .count)) (entryIn s (k .reader .from) (k .reader .marks)); line = fresh }) state-is
+              ∙ ap (λ (S : State). record { reading = closesEntry layoutRoom (S .reading) (suc (k .reader .count)) (entryIn s (k .reader .from) (k .reader .marks)); line = noLine }) state-is
               ∙ c .machine;
           count = c .count;
           size = c .size;

@@ -16,7 +16,7 @@ use Rattle.intake.specs.Machine.{State, Partial, byte, goingByte, wantIn}
 use Rattle.intake_bytes.specs.declared.Marks.{Marks}
 use Rattle.intake_bytes.specs.declared.Unfinished.{Unfinished}
 use Rattle.intake_line.specs.declared.Reader.{Reader}
-use Rattle.intake_bytes.specs.declared.Fed.{Fed}
+use Rattle.intake_bytes.specs.declared.Reached.{Reached}
 use Rattle.intake_bytes.specs.Lent.{maxCount, partialIn, wantOf, Held, Others, Feeding, LineFed}
 use Rattle.intake_line.specs.Entry.{openIn, ReaderHeld}
 use Rattle.intake_bytes.proofs.FeedLaws.{held-at}
@@ -57,7 +57,7 @@ module _ (s₀ : List ℕ) (k₀ : Kept) (piece file p₀ o₀ : List ℕ) (c₀
   reads-start g = record { machine = refl; going = g; within = omega arith; count = omega arith; size = omega arith }
 
   module _ (at : ℕ) (s p o : List ℕ) (k : Kept) (i : Reads s₀ k₀ piece file p₀ o₀ at s p o k) where
-    module _ (s′ : List ℕ) (x : Fed) (f : LineFed (wantOf (k .reader .marks) (length s)) s (k .reader .line) piece at s′ x) where
+    module _ (s′ : List ℕ) (x : Reached) (f : LineFed (wantOf (k .reader .marks) (length s)) s (k .reader .line) piece at s′ x) where
       fed-machine : foldl (byte layoutRoom) (machineOf s k file p o) (drop at piece) ≡ foldl (byte layoutRoom) (machineOf s′ (withLine k (x .line)) file p o) (drop (x .at) piece)
       unfolding machineOf withLine
       fed-machine =

@@ -6,7 +6,7 @@ use lib.ListN.{length}
 use Rattle.tables.specs.Bytes.{layoutRoom}
 use Rattle.intake.specs.Lines.{newline}
 use Rattle.intake.specs.Reading.{closesEntry}
-use Rattle.intake.specs.Machine.{State, byte, fresh}
+use Rattle.intake.specs.Machine.{State, byte, noLine}
 use Rattle.intake_bytes.specs.declared.Unfinished.{Unfinished}
 use Rattle.intake_bytes.specs.Lent.{maxCount, newLine}
 use Rattle.intake_line.specs.Entry.{noMarks, entryIn}
@@ -54,7 +54,7 @@ unfoldable pub closingOf : List ℕ → Kept → List ℕ → List ℕ → List 
 closingOf s k file p o =
     record {
       reading = closesEntry layoutRoom (machineOf s k file p o .reading) (suc (k .reader .count)) (entryIn s (k .reader .from) (k .reader .marks));
-      line = fresh;
+      line = noLine;
     }
 
 pub record LineClosed (s file : List ℕ) (k : Kept) (p o p′ o′ : List ℕ) (r : Kept) : Type 0 where

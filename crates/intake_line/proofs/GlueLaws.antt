@@ -13,7 +13,7 @@ use Rattle.intake_bytes.specs.declared.Marks.{Marks}
 use Rattle.intake_bytes.specs.declared.Unfinished.{Unfinished}
 use Rattle.intake.specs.Says.{wanted, kindOf}
 use Rattle.intake.specs.Reading.{Attribute, none, had, Entry, Open, outside, inside, Reading, isGoing, takeLine, has, attributeOf}
-use Rattle.intake.specs.Machine.{Partial, fresh, lineEnd, State, goingByte, byte, wantIn}
+use Rattle.intake.specs.Machine.{Partial, noLine, lineEnd, State, goingByte, byte, wantIn}
 use Rattle.intake_bytes.specs.Lent.{baseOf, markOf, wantOf, keptIn, partialIn, partOf, Held, Others}
 use Rattle.intake_line.specs.Entry.{attributeIn, entryIn, openIn}
 use Rattle.intake_line.proofs.EntryLaws.{kind-in, has-not, has-one, open-out, open-in}
@@ -68,6 +68,6 @@ stands m buf x k g h q z =
 
 -- the byte that ends a line
 pub end-byte : (room : ℕ) (R : Reading) (p : Partial) → isGoing (R .stop) ≡ true
-    → byte room (record { reading = R; line = p }) 10 ≡ record { reading = takeLine room R (lineEnd p); line = fresh }
+    → byte room (record { reading = R; line = p }) 10 ≡ record { reading = takeLine room R (lineEnd p); line = noLine }
 unfolding byte goingByte
 end-byte room R p e = rw e

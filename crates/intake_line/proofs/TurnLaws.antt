@@ -18,14 +18,14 @@ use Rattle.intake_line.specs.declared.Turn.{Turn}
 use Rattle.intake_line.specs.declared.Turn.the-variants.{Next, Stop, Close}
 use Rattle.intake.specs.Says.{Line, kindOf}
 use Rattle.intake.specs.Reading.{Reading, isGoing, takeLine, onLine, goesOn, stopsAt, closesEntry}
-use Rattle.intake.specs.Machine.{State, Partial, byte, goingByte, fresh, lineEnd, even}
+use Rattle.intake.specs.Machine.{State, Partial, byte, goingByte, noLine, lineEnd, even}
 use Rattle.intake_bytes.specs.Lent.{markOf, partOf, wantOf, newLine, keptIn, digitsIn, partialIn, Held}
 use Rattle.intake_line.specs.Ending.{lineOf, LineSaid}
 use Rattle.intake_line.specs.Entry.{entryIn, openIn, MarksHeld, AfterHeld, afterIs, Standing, EntryStep, ReaderHeld, NextHeld, TurnHeld, stateIn, turnIs, TurnTaken}
 use Rattle.intake_line.proofs.GlueLaws.{stands}
 
-pub new-is : (buf : List ℕ) → fresh ≡ partialIn buf newLine
-unfolding fresh partialIn digitsIn keptIn
+pub new-is : (buf : List ℕ) → noLine ≡ partialIn buf newLine
+unfolding noLine partialIn digitsIn keptIn
 new-is buf = refl
 
 -- and it is held, whatever is wanted
@@ -52,11 +52,11 @@ module _ (buf : List ℕ) (r : Reader) (g : ReaderHeld buf r) (s : Said) (l : Li
 
   -- what the end byte does, by the code's answer
   ended : (room : ℕ) (R : Reading) → byte room (stateIn R buf r) 10
-      ≡ record { reading = afterIs room (stateIn R buf r .reading) (suc (r .count)) buf (r .from) (r .marks) a; line = fresh }
+      ≡ record { reading = afterIs room (stateIn R buf r .reading) (suc (r .count)) buf (r .from) (r .marks) a; line = noLine }
   unfolding byte goingByte takeLine isGoing stateIn
   ended room R =
-      ap (λ (x : Line). record { reading = onLine room (stateIn R buf r .reading) (suc (r .count)) (openIn buf (r .from) (r .marks)) x; line = fresh }) (sym (l .says))
-      ∙ ap (λ (z : Reading). record { reading = z; line = fresh })
+      ap (λ (x : Line). record { reading = onLine room (stateIn R buf r .reading) (suc (r .count)) (openIn buf (r .from) (r .marks)) x; line = noLine }) (sym (l .says))
+      ∙ ap (λ (z : Reading). record { reading = z; line = noLine })
       (subst (λ (n : ℕ). onLine room (stateIn R buf r .reading) n (openIn buf (r .from) (r .marks)) (lineOf s (r .line .size) (keptIn buf (r .line)))
       ≡ afterIs room (stateIn R buf r .reading) n buf (r .from) (r .marks) a) (add-one (r .count))
       (e .step room (stateIn R buf r .reading) buf (keptIn buf (r .line)) standing))

@@ -17,7 +17,7 @@ use Rattle.intake_line.specs.declared.After.the-variants.{Goes, Stops, C
 use Rattle.intake.specs.Reading.{badDump, attributeTwice, Attribute, none, had, Entry, Open, outside, inside, Reading, goesOn, stopsAt, closesEntry, onLine, going}
 use Rattle.intake_bytes.specs.Lent.{layoutAt, maxCount, markOf, partOf, wantOf, partialIn, Held}
 use Rattle.intake_line.specs.Ending.{lineOf}
-use Rattle.intake.specs.Machine.{State, byte, fresh}
+use Rattle.intake.specs.Machine.{State, byte, noLine}
 use Rattle.intake_line.specs.declared.Reader.{Reader}
 use Rattle.intake_line.specs.declared.Turn.{Turn}
 use Rattle.intake_line.specs.declared.Turn.the-variants.{Next, Stop, Close}
@@ -96,8 +96,8 @@ stateIn R buf r =
 -- the state after the byte that ends the line
 unfoldable pub turnIs : ℕ → Reading → List ℕ → Reader → Turn → State
 turnIs room R buf r (Next n) = stateIn R buf n
-turnIs room R buf r (Stop q) = record { reading = stopsAt (stateIn R buf r .reading) q (suc (r .count)); line = fresh }
-turnIs room R buf r Close = record { reading = closesEntry room (stateIn R buf r .reading) (suc (r .count)) (entryIn buf (r .from) (r .marks)); line = fresh }
+turnIs room R buf r (Stop q) = record { reading = stopsAt (stateIn R buf r .reading) q (suc (r .count)); line = noLine }
+turnIs room R buf r Close = record { reading = closesEntry room (stateIn R buf r .reading) (suc (r .count)) (entryIn buf (r .from) (r .marks)); line = noLine }
 
 -- a reader at the start of the next line
 pub record NextHeld (buf : List ℕ) (r n : Reader) : Type 0 where

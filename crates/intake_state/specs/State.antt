@@ -14,7 +14,7 @@ use Rattle.intake.specs.Machine.{State}
 use Rattle.intake_bytes.specs.declared.Marks.{Marks}
 use Rattle.intake_bytes.specs.declared.Unfinished.{Unfinished}
 use Rattle.intake_line.specs.declared.Reader.{Reader}
-use Rattle.intake_bytes.specs.Lent.{headAt, fidAt, layoutAt, baseOf, wantOf, partialIn}
+use Rattle.intake_bytes.specs.Lent.{headAt, fidAt, layoutAt, baseOf, wantOf, brokenHalf, partialIn}
 use Rattle.intake_line.specs.Entry.{goodMark, openIn, ReaderHeld}
 use Rattle.intake_state.specs.declared.Kept.{Kept}
 
@@ -148,7 +148,7 @@ goodOpen from m = goodMark Fid (m .fid) && (goodMark Lma (m .lma) && cond (eqb f
 -- a line has digits only after its head
 unfoldable pub goodLine : Unfinished → Bool
 goodLine x =
-    leb (x .seen) headSize && (leb (x .half) 17 && (leb (x .size) maxRead && cond (eqb headSize (x .seen)) true (eqb (x .half) 0 && eqb (x .size) 0)))
+    leb (x .seen) headSize && (leb (x .half) brokenHalf && (leb (x .size) maxRead && cond (eqb headSize (x .seen)) true (eqb (x .half) 0 && eqb (x .size) 0)))
 
 unfoldable pub goodKept : Kept → Bool
 goodKept k = goodStop (k .answer) && (goodOpen (k .reader .from) (k .reader .marks) && (goodLine (k .reader .line) && leb (k .reader .count) maxRead))
