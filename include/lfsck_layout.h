@@ -26,7 +26,8 @@ extern "C" {
 enum {
     LFSCK_OK = 0,             /* done; of a run, the end is reached */
     LFSCK_STEPS_USED = 1,     /* the steps are used up and the end is not reached */
-    LFSCK_BAD_TABLE = 11,     /* a table is not whole rows or too long, or a mark is not 0 or 1 */
+    LFSCK_BAD_TABLE = 11,     /* a table is not whole rows or too long, or a mark is not 0 or 1;
+                                 the piece of a dump is too long */
     LFSCK_BAD_POLICY = 12,    /* the policy is above 3 */
     LFSCK_BAD_LAYOUT = 13,    /* a layout or a slot is against the rules */
     LFSCK_BAD_FID = 14,       /* a bad FID, object index or claim, or fresh without claim */
