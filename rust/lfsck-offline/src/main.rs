@@ -55,6 +55,7 @@ mod story;
 mod tables;
 mod values;
 mod verdict;
+mod whence;
 mod why;
 
 use std::ffi::OsString;

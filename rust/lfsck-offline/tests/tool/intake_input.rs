@@ -1,8 +1,8 @@
 //! What an intake is handed: lists and files at their limits, files of every kind, and paths.
 
-use crate::intake::{LMA, LOV, entry, made, take};
-use crate::json::parse;
-use crate::tool::Case;
+use crate::intake::{FID, LMA, LOV, OWNERS, entry, intake, made, on_made, take};
+use crate::json::{Value, parse};
+use crate::tool::{Case, TOOL};
 
 /// A list of the most FIDs is taken; one more is refused with its line, and no case is made.
 #[test]
@@ -21,4 +21,68 @@ fn a_list_of_too_many_fids() {
     assert!(!made(&case).exists());
     case.write("list", most.as_bytes());
     take(&case, dump.as_bytes(), b"1 2 3", &words).expect(0);
+}
+
+/// A case directory with two dumps of which the second has the object of the first again.
+fn twice(name: &str) -> Case {
+    let case = Case::empty(name);
+    let first = entry("f", &[LMA, LOV]) + &entry("one\\012", &[LMA, FID]);
+    case.write("first", first.as_bytes());
+    case.write("second", entry("other \u{e9}", &[LMA, FID]).as_bytes());
+    case.write("owners", OWNERS.as_bytes());
+    case
+}
+
+/// Of a FID that stands twice both entries are told; `check` tells rows alone.
+#[test]
+fn a_fid_that_stands_twice_is_told_by_both_names() {
+    let case = twice("intake-twice");
+    let words = ["first", "second", "--owners", "owners"];
+    let told = intake(&case, TOOL.as_ref(), &words).expect(2);
+    let (fault, from) = (
+        "  objects.tbl row 1, self FID [0x200000401:0x1:0x0]: row 0 has it as well (15)\n",
+        "      \"other \\xc3\\xa9\", line 1 of second\n      \
+         row 0 is \"one\\\\012\", line 5 of first\n",
+    );
+    let list = "The tables are not sound: 15, a FID twice among used parents, or twice among used \
+                objects.\n";
+    assert!(
+        told.out.ends_with(&format!("{list}{fault}{from}")),
+        "{told:?}"
+    );
+    let told = on_made(&case, &["check"]).expect(2);
+    assert_eq!(told.out, format!("{list}{fault}"));
+}
+
+#[test]
+fn a_fid_that_stands_twice_is_told_to_machines_by_both_names() {
+    let case = twice("intake-twice-json");
+    let words = ["first", "second", "--owners", "owners", "--json"];
+    let told = parse(&intake(&case, TOOL.as_ref(), &words).expect(2).out);
+    let [fault] = told.list("faults") else {
+        panic!("{told:?}");
+    };
+    assert_eq!((fault.number("number"), fault.number("row")), (15, 1));
+    assert_eq!((fault.text("file"), fault.number("line")), ("second", 1));
+    assert_eq!(fault.text("name"), "other \u{e9}");
+    assert_eq!(fault.text("name_hex"), "6f7468657220c3a9");
+    assert_eq!(fault.number("other_row"), 0);
+    let other = (fault.text("other_file"), fault.number("other_line"));
+    assert_eq!(other, ("first", 5));
+    assert_eq!(fault.text("other_name"), "one\\012");
+    assert_eq!(fault.text("other_name_hex"), "6f6e655c303132");
+}
+
+/// A fault that is none of two rows has no other row.
+#[test]
+fn other_faults_have_no_other_row() {
+    let case = Case::empty("intake-no-other");
+    let dump = entry("a", &[LMA, "trusted.lov=0x00\n"]);
+    let told = take(&case, dump.as_bytes(), b"1 2 3", &["--json"]).expect(2);
+    let told = parse(&told.out);
+    let fault = &told.list("faults")[0];
+    assert_eq!(fault.text("name"), "a");
+    for name in ["row", "file", "line", "name", "name_hex"] {
+        assert_eq!(fault.get(&format!("other_{name}")), &Value::Null, "{name}");
+    }
 }
