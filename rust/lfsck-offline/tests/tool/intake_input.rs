@@ -1,8 +1,10 @@
 //! What an intake is handed: lists and files at their limits, files of every kind, and paths.
 
+use std::process::{Command, Stdio};
+
 use crate::intake::{FID, LMA, LOV, OWNERS, entry, intake, made, on_made, take};
 use crate::json::{Value, parse};
-use crate::tool::{Case, TOOL};
+use crate::tool::{Case, TOOL, Told};
 
 /// A list of the most FIDs is taken; one more is refused with its line, and no case is made.
 #[test]
@@ -85,4 +87,20 @@ fn other_faults_have_no_other_row() {
     for name in ["row", "file", "line", "name", "name_hex"] {
         assert_eq!(fault.get(&format!("other_{name}")), &Value::Null, "{name}");
     }
+}
+
+/// Who leaves out the directory gets no case in one named `-`.
+#[test]
+fn standard_input_is_no_directory() {
+    let case = Case::empty("intake-dash");
+    case.write("owners", OWNERS.as_bytes());
+    let mut command = Command::new(TOOL);
+    command.current_dir(case.path()).stdin(Stdio::null());
+    command.args(["intake", "-", "--owners", "owners"]);
+    let told: Told = command.output().expect("the tool").into();
+    told.expect_line(
+        64,
+        "the directory of the case is missing: '-' is standard input",
+    );
+    assert!(!case.path().join("-").exists());
 }
