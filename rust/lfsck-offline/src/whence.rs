@@ -18,7 +18,7 @@ pub struct Whence<'call> {
 
 impl fmt::Display for Whence<'_> {
     fn fmt(&self, out: &mut fmt::Formatter<'_>) -> fmt::Result {
-        let Whence { source, line, .. } = self;
+        let (source, line) = (self.source.shown(), self.line);
         if let Some(name) = self.name {
             write!(out, "{}, ", shown(name))?;
         }

@@ -16,6 +16,7 @@ use crate::intake::{Intake, Stop};
 use crate::json::Json;
 use crate::line_fault::LineFault;
 use crate::outcome::{Failure, Outcome, Status};
+use crate::quoted;
 use crate::reserve::Reserve;
 use crate::source::Source;
 use crate::tables::{Table, Tables};
@@ -217,7 +218,7 @@ impl Taken {
         let [files, objects] = self.rows;
         let mut text = format!(
             "A case is in {}: {} and {} from {}.\n",
-            directory.display(),
+            quoted::path(directory),
             counted(files, "file"),
             counted(objects, "object"),
             counted(options.dumps.len(), "dump")

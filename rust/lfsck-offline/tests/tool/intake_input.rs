@@ -104,3 +104,51 @@ fn standard_input_is_no_directory() {
     );
     assert!(!case.path().join("-").exists());
 }
+
+/// The tool with these words, started in the directory of the test.
+fn on_directory(case: &Case, words: &[&str]) -> Told {
+    let mut command = Command::new(TOOL);
+    command.current_dir(case.path()).args(words);
+    command
+        .stdin(Stdio::null())
+        .output()
+        .expect("the tool")
+        .into()
+}
+
+/// Paths with control characters stand in quotes on standard output, all others as they are.
+#[test]
+fn no_path_steers_a_terminal() {
+    let case = twice("intake-paths");
+    let steering = "a\u{1b}[2J\n\u{9b}1m";
+    let shown = r#""a\x1b[2J\x0a\xc2\x9b1m""#;
+    let dump = format!("{steering}.dump");
+    std::fs::rename(case.path().join("second"), case.path().join(&dump)).expect("a dump");
+    let words = ["first", &dump, "--owners", "owners"];
+    let told = on_directory(&case, &[&["intake", steering][..], &words].concat()).expect(2);
+    assert!(
+        !told
+            .out
+            .contains(|letter: char| letter.is_control() && letter != '\n')
+    );
+    let first = format!("A case is in {shown}: 1 file and 2 objects from 2 dumps.\n");
+    assert!(told.out.starts_with(&first), "{told:?}");
+    let from = "line 1 of \"a\\x1b[2J\\x0a\\xc2\\x9b1m.dump\"\n";
+    assert!(told.out.contains(from), "{told:?}");
+    let told = on_directory(&case, &["intake", "d \u{e9}\"", "first", "--owners=owners"]);
+    let first = "A case is in d \u{e9}\": 1 file";
+    assert!(told.out.starts_with(first), "{told:?}");
+}
+
+/// The same of a sample's directory, and of the log that a check cannot read.
+#[test]
+fn no_directory_steers_a_terminal() {
+    let case = Case::empty("sample-paths");
+    let told = on_directory(&case, &["sample", "b\u{1b}c"]).expect(0);
+    let first = r#"A sample case is in "b\x1bc": "#;
+    assert!(told.out.starts_with(first), "{told:?}");
+    std::fs::write(case.path().join("b\u{1b}c/lfsck-offline.log"), "no log\n").expect("a log");
+    let told = on_directory(&case, &["check", "b\u{1b}c"]).expect(0);
+    let warning = "\nWarning: b c/lfsck-offline.log: line 1 is no entry of the log.\n";
+    assert!(told.out.ends_with(warning), "{told:?}");
+}
