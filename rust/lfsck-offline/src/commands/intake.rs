@@ -41,6 +41,8 @@ pub fn intake(
     json: bool,
     bar: &Bar,
 ) -> Result<Outcome, Failure> {
+    require_spare("--spare-files", Table::Parents, options.spare_files)?;
+    require_spare("--spare-objects", Table::Objects, options.spare_objects)?;
     Case::require_none(directory)?;
     let taken = take(options, bar)?;
     Case::make(directory, &taken.tables, None)?;
@@ -104,17 +106,33 @@ fn work(dumps: &[Source]) -> Work {
     }
 }
 
+/// So many spare rows fit into an empty table.
+fn require_spare(option: &str, table: Table, spare: usize) -> Result<(), Failure> {
+    let (file, most) = (table.file(), table.most_rows());
+    match spare <= most {
+        true => Ok(()),
+        false => Err(Failure::refused(format!(
+            "{option} {spare}: {file} has at most {most} rows"
+        ))),
+    }
+}
+
 /// Adds unused rows to a table.
 fn add_spare(table: Table, bytes: &mut Vec<u8>, spare: usize) -> Result<(), Failure> {
     let (size, most) = (table.row_bytes(), table.most_rows());
     let used = bytes.len() / size;
-    let rows = used.checked_add(spare).filter(|rows| *rows <= most);
-    let Some(rows) = rows else {
+    let rows = used + spare;
+    if rows > most {
         let file = table.file();
+        let used = match used {
+            1 => "1 row that is used".to_string(),
+            _ => format!("{used} rows that are used"),
+        };
+        let spare = counted(spare, "spare one");
         return Err(Failure::refused(format!(
-            "{file} would have {used} rows that are used and {spare} spare ones; the most are {most}"
+            "{file} would have {used} and {spare}; the most are {most}"
         )));
-    };
+    }
     bytes.resize(rows * size, 0);
     Ok(())
 }
@@ -340,6 +358,23 @@ mod tests {
         let unknown = Work::Unmeasured("reading the dumps");
         assert_eq!(work(&[this, Source::Standard]), unknown);
         assert_eq!(work(&[Source::File("/dev/null".into())]), unknown);
+    }
+
+    #[test]
+    fn spare_rows_that_do_not_fit_are_counted_in_words() {
+        let refusal = |used: usize, spare: usize| {
+            let mut bytes = vec![1; used * Table::Objects.row_bytes()];
+            let added = add_spare(Table::Objects, &mut bytes, spare);
+            added.expect_err("too many rows").message
+        };
+        assert_eq!(
+            refusal(1, 65_536),
+            "objects.tbl would have 1 row that is used and 65536 spare ones; the most are 65536"
+        );
+        assert_eq!(
+            refusal(65_536, 1),
+            "objects.tbl would have 65536 rows that are used and 1 spare one; the most are 65536"
+        );
     }
 
     #[test]

@@ -544,7 +544,7 @@ fn tables_at_their_limits() {
         take(&case, text.as_bytes(), owners.as_bytes(), &[]).expect_line(2, words);
         let spare = ["--spare-files", "1024", "--spare-objects", "65536"];
         let told = take(&case, dump(1, line).as_bytes(), owners.as_bytes(), &spare);
-        told.expect_line(2, ".tbl would have 1 rows that are used and ");
+        told.expect_line(2, ".tbl would have 1 row that is used and ");
         assert!(!made(&case).exists());
         let spare = ["--spare-files", "1023", "--spare-objects", "65535"];
         take(&case, dump(1, line).as_bytes(), owners.as_bytes(), &spare).expect(0);

@@ -152,3 +152,29 @@ fn no_directory_steers_a_terminal() {
     let warning = "\nWarning: b c/lfsck-offline.log: line 1 is no entry of the log.\n";
     assert!(told.out.ends_with(warning), "{told:?}");
 }
+
+/// Spare rows that no table has are refused before a file is opened: none of these is there.
+#[test]
+fn too_many_spare_rows_are_refused_at_once() {
+    let case = Case::empty("intake-spare");
+    for (spare, words) in [
+        (
+            "--spare-files=1025",
+            "--spare-files 1025: parents.tbl has at most 1024 rows",
+        ),
+        (
+            "--spare-objects=65537",
+            "--spare-objects 65537: objects.tbl has at most 65536 rows",
+        ),
+        (
+            "--spare-objects=18446744073709551615",
+            "objects.tbl has at most 65536 rows",
+        ),
+    ] {
+        let told = intake(&case, TOOL.as_ref(), &["none", "--owners=none", spare]);
+        told.expect_line(2, words);
+    }
+    let most = ["--spare-files=1024", "--spare-objects=65536"];
+    let words = ["/dev/null", "--owners=/dev/null", most[0], most[1]];
+    intake(&case, TOOL.as_ref(), &words).expect(0);
+}
