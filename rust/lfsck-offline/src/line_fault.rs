@@ -1,6 +1,6 @@
 //! A line of a file that is refused: one line for people, fields for machines.
 
-use crate::dump::Origin;
+use crate::dump::{Origin, beginning};
 use crate::hex;
 use crate::json::Json;
 use crate::quoted::quoted;
@@ -45,7 +45,7 @@ impl LineFault {
     /// For machines.
     pub fn json(&self) -> Json {
         let entry = self.entry.as_ref();
-        let text = &self.text[..self.text.len().min(HANDED)];
+        let text = beginning(&self.text, HANDED);
         let mut members = vec![
             ("file", Json::text(&self.file)),
             ("line", Json::Number(self.line)),

@@ -178,3 +178,44 @@ fn too_many_spare_rows_are_refused_at_once() {
     let words = ["/dev/null", "--owners=/dev/null", most[0], most[1]];
     intake(&case, TOOL.as_ref(), &words).expect(0);
 }
+
+/// The fault of a dump, told to machines.
+fn fault_of(case: &Case, dump: &str) -> Value {
+    let told = take(case, dump.as_bytes(), b"1 2 3", &["--json"]).expect(2);
+    parse(&told.out).get("fault").clone()
+}
+
+/// The bytes that are in hexadecimal digits under a name.
+fn digits(value: &Value, name: &str) -> usize {
+    value.text(name).len() / 2
+}
+
+/// A line and a name of more than 1,024 bytes are cut, and no character with them.
+#[test]
+fn long_texts_are_cut_between_characters() {
+    let case = Case::empty("intake-cut");
+    for fill in ["", "x", "xx"] {
+        // Of three bytes each, so the cut falls on every byte of one.
+        let name = format!("{fill}{}", "\u{20ac}".repeat(400));
+        let line = format!("user.{name}");
+        let fault = fault_of(&case, &entry(&name, &[LMA, &format!("{line}\n")]));
+        let text = fault.text("text");
+        assert!(line.starts_with(text) && (1022..=1024).contains(&text.len()));
+        assert_eq!(digits(&fault, "text_hex"), text.len());
+        let cut = fault.text("name");
+        assert!(name.starts_with(cut) && (1014..=1016).contains(&cut.len()));
+        assert_eq!(digits(&fault, "name_hex"), cut.len());
+        // The entry's first line, where the dump ends too soon.
+        let fault = fault_of(&case, &format!("# file: {name}\n"));
+        assert_eq!(fault.text("text"), format!("# file: {cut}"));
+        // In the check's list.
+        let dump = entry(&name, &[LMA, "trusted.lov=0x00\n"]);
+        let told = parse(
+            &take(&case, dump.as_bytes(), b"1 2 3", &["--json"])
+                .expect(2)
+                .out,
+        );
+        assert_eq!(told.list("faults")[0].text("name"), cut);
+        std::fs::remove_dir_all(made(&case)).expect("the case");
+    }
+}
