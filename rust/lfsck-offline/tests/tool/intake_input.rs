@@ -1,5 +1,6 @@
 //! What an intake is handed: lists and files at their limits, files of every kind, and paths.
 
+use std::fs::File;
 use std::process::{Command, Stdio};
 
 use crate::intake::{FID, LMA, LOV, OWNERS, entry, intake, made, on_made, take};
@@ -218,4 +219,28 @@ fn long_texts_are_cut_between_characters() {
         assert_eq!(told.list("faults")[0].text("name"), cut);
         std::fs::remove_dir_all(made(&case)).expect("the case");
     }
+}
+
+/// Files of 64 and 16 MiB are read, longer ones refused; they have holes for most of their bytes.
+#[test]
+fn owners_and_lists_that_are_too_long() {
+    let case = Case::empty("intake-too-long");
+    case.write("dump", entry("a", &[LMA, LOV]).as_bytes());
+    case.write("owners", b"1 2 3\n");
+    case.write("list", b"# ");
+    let grow = |name: &str, length: u64| {
+        let file = File::options().write(true).open(case.path().join(name));
+        file.and_then(|file| file.set_len(length)).expect(name);
+    };
+    let words = ["dump", "--owners", "owners", "--reserve", "list"];
+    grow("list", (16 << 20) + 1);
+    let told = intake(&case, TOOL.as_ref(), &words);
+    told.expect_line(2, "list: this is longer than 16777216 bytes");
+    grow("owners", (64 << 20) + 1);
+    let told = intake(&case, TOOL.as_ref(), &words);
+    told.expect_line(2, "owners: this is longer than 67108864 bytes");
+    assert!(!made(&case).exists());
+    grow("owners", 64 << 20);
+    grow("list", 16 << 20);
+    intake(&case, TOOL.as_ref(), &words).expect(0);
 }
