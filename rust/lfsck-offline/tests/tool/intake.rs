@@ -68,7 +68,7 @@ pub fn table(case: &Case, name: &str) -> Vec<u8> {
     std::fs::read(made(case).join(name)).expect(name)
 }
 
-fn of_site(name: &str) -> Vec<u8> {
+pub fn of_site(name: &str) -> Vec<u8> {
     std::fs::read(Path::new(SITE).join(name)).expect(name)
 }
 

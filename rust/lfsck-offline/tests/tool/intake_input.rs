@@ -1,9 +1,10 @@
 //! What an intake is handed: lists and files at their limits, files of every kind, and paths.
 
 use std::fs::File;
+use std::io::Write;
 use std::process::{Command, Stdio};
 
-use crate::intake::{FID, LMA, LOV, OWNERS, entry, intake, made, on_made, take};
+use crate::intake::{FID, LMA, LOV, OWNERS, entry, intake, made, of_site, on_made, table, take};
 use crate::json::{Value, parse};
 use crate::tool::{Case, TOOL, Told};
 
@@ -243,4 +244,93 @@ fn owners_and_lists_that_are_too_long() {
     grow("owners", 64 << 20);
     grow("list", 16 << 20);
     intake(&case, TOOL.as_ref(), &words).expect(0);
+}
+
+/// A pipe with a name is read like a file, here in pieces of one line.
+#[test]
+fn a_pipe_with_a_name_is_a_dump() {
+    let case = Case::empty("intake-fifo");
+    case.write("owners", &of_site("owners.txt"));
+    let place = case.path().join("pipe");
+    let made = Command::new("mkfifo").arg(&place).status();
+    assert!(made.expect("mkfifo").success());
+    let writer = std::thread::spawn(move || {
+        let mut pipe = File::options().write(true).open(place)?;
+        let dump = of_site("dump.txt");
+        let mut lines = dump.split_inclusive(|&byte| byte == b'\n');
+        lines.try_for_each(|line| pipe.write_all(line))
+    });
+    intake(&case, TOOL.as_ref(), &["pipe", "--owners", "owners"]).expect(0);
+    writer.join().expect("a writer").expect("a whole dump");
+    assert!(table(&case, "parents.tbl") == of_site("parents.tbl"));
+    assert!(table(&case, "objects.tbl") == of_site("objects.tbl"));
+}
+
+/// A mark of the byte order is no part of a dump, and is shown.
+#[test]
+fn a_byte_order_mark_is_refused() {
+    let case = Case::empty("intake-bom");
+    let dump = format!("\u{feff}{}", entry("a", &[LMA, LOV]));
+    take(&case, dump.as_bytes(), OWNERS.as_bytes(), &[]).expect_line(
+        2,
+        "dump: line 1 is refused with 33: no entry is open, and this line begins none \
+         ('# file:'): \"\\xef\\xbb\\xbf# file: a\"",
+    );
+    assert!(!made(&case).exists());
+}
+
+/// A second dump that is missing, is a directory or cannot be read leaves no case of the first.
+#[test]
+fn a_second_dump_that_cannot_be_read() {
+    let case = Case::empty("intake-second-dump");
+    let dump = entry("a", &[LMA, LOV]);
+    // The tool's own memory can be opened, and its first byte is not there to be read.
+    for (second, words) in [
+        ("none", "none: "),
+        (".", ".: this is a directory"),
+        ("/proc/self/mem", "/proc/self/mem: "),
+    ] {
+        let told = take(&case, dump.as_bytes(), OWNERS.as_bytes(), &[second]);
+        told.expect_line(74, words);
+        assert!(!made(&case).exists(), "{second}");
+    }
+    take(&case, dump.as_bytes(), OWNERS.as_bytes(), &[]).expect(0);
+}
+
+/// The same dump twice is read twice: every FID of it stands twice, and is told by its name.
+#[test]
+fn the_same_dump_twice() {
+    let case = Case::empty("intake-same");
+    let dump = entry("a", &[LMA, LOV]) + &entry("b", &[LMA, FID]);
+    let told = take(
+        &case,
+        dump.as_bytes(),
+        "1 2 3\n".repeat(4).as_bytes(),
+        &["dump"],
+    );
+    assert_eq!(
+        told.expect(2).out,
+        "A case is in made: 2 files and 2 objects from 2 dumps.\n\
+         Spare rows: 0 for files, 0 for objects. FIDs in reserve: 0.\n\
+         The tables are not sound: 15, a FID twice among used parents, or twice among used \
+         objects.\n  \
+         parents.tbl row 1, self FID [0x200000401:0x1:0x0]: row 0 has it as well (15)\n      \
+         \"a\", line 1 of dump\n      \
+         row 0 is \"a\", line 1 of dump\n  \
+         objects.tbl row 1, self FID [0x200000401:0x1:0x0]: row 0 has it as well (15)\n      \
+         \"b\", line 5 of dump\n      \
+         row 0 is \"b\", line 5 of dump\n"
+    );
+}
+
+#[test]
+fn a_directory_is_no_owners_file_and_no_list() {
+    let case = Case::empty("intake-owners-directory");
+    let dump = entry("a", &[LMA, LOV]);
+    case.write("dump", dump.as_bytes());
+    let told = intake(&case, TOOL.as_ref(), &["dump", "--owners", "."]);
+    told.expect_line(74, ".: this is a directory");
+    let told = take(&case, dump.as_bytes(), b"1 2 3", &["--reserve", "."]);
+    told.expect_line(74, ".: this is a directory");
+    assert!(!made(&case).exists());
 }
