@@ -286,10 +286,7 @@ impl Words {
 
     fn call(mut self, topic: Topic) -> Result<Call, Failure> {
         self.expect_places(topic.most_places())?;
-        if self.places.first().is_none_or(|place| place.is_empty()) {
-            return Err(Failure::usage("the directory of the case is missing"));
-        }
-        let directory = self.places.remove(0).into();
+        let directory = self.directory(topic)?;
         let json = self.json;
         let command = match topic {
             Topic::Sample => Command::Sample,
@@ -312,6 +309,21 @@ impl Words {
             directory,
             json,
         })
+    }
+
+    /// The directory of the case, which is the first place.
+    fn directory(&mut self, topic: Topic) -> Result<PathBuf, Failure> {
+        let missing = "the directory of the case is missing";
+        if self.places.first().is_none_or(|place| place.is_empty()) {
+            return Err(Failure::usage(missing));
+        }
+        let place = self.places.remove(0);
+        match place == STANDARD && topic.takes_standard() {
+            true => Err(Failure::usage(format!(
+                "{missing}: '-' is standard input, and './-' a directory of that name"
+            ))),
+            false => Ok(place.into()),
+        }
     }
 
     fn run_options(&self) -> Result<RunOptions, Failure> {
@@ -521,6 +533,20 @@ mod tests {
             let failure = parse(line).expect_err(line);
             assert_eq!(failure.status, Status::Usage, "{line}");
         }
+    }
+
+    #[test]
+    fn standard_input_is_no_directory() {
+        for line in ["intake - --owners o", "intake --owners o -- - a"] {
+            let failure = parse(line).expect_err(line);
+            assert_eq!(failure.status, Status::Usage, "{line}");
+            let words = "the directory of the case is missing: '-' is standard input";
+            assert!(failure.message.starts_with(words), "{failure:?}");
+        }
+        assert_eq!(
+            call("intake ./- --owners o").directory,
+            PathBuf::from("./-")
+        );
     }
 
     #[test]

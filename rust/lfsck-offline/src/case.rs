@@ -12,6 +12,7 @@ use crate::journal::{Change, Edit};
 use crate::lock::{Share, lock};
 use crate::outcome::Failure;
 use crate::permissions::{Access, Permissions};
+use crate::quoted::on_one_line;
 use crate::save::{self, MOST_LOG, SAMPLE_LINK, SAVED};
 use crate::saved::{self, POSITION, Saved};
 use crate::slices::Run;
@@ -288,7 +289,7 @@ fn recover(disk: &Disk) -> Result<(), Failure> {
 /// A line on standard error about the case.
 fn tell(disk: &Disk, what: &str) {
     let line = format!("{}: {what}", disk.directory().display());
-    eprintln!("lfsck-offline: {}", line.replace(char::is_control, " "));
+    eprintln!("lfsck-offline: {}", on_one_line(&line));
 }
 
 #[cfg(test)]

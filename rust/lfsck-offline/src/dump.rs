@@ -74,6 +74,17 @@ pub struct Dumps {
     objects: Vec<Origin>,
 }
 
+/// The first bytes of a line, at most so many; a character that would be cut is left out.
+pub fn beginning(line: &[u8], most: usize) -> &[u8] {
+    let Some(first) = line.get(..most).filter(|first| first.len() < line.len()) else {
+        return line;
+    };
+    match str::from_utf8(first) {
+        Err(error) if error.error_len().is_none() => &first[..error.valid_up_to()],
+        _ => first,
+    }
+}
+
 impl Kind {
     /// The attribute of a line without its `trusted.`, and what stands from its `=` on.
     pub fn split(line: &[u8]) -> Option<(Kind, &[u8])> {
@@ -175,7 +186,7 @@ impl Dumps {
             origin: Origin {
                 dump: self.dump,
                 line: self.lines - self.before,
-                text: line[..line.len().min(MOST_FIRST)].to_vec(),
+                text: beginning(line, MOST_FIRST).to_vec(),
             },
             kinds: Vec::new(),
             layout: 0,
@@ -251,6 +262,18 @@ mod tests {
                 assert_eq!(Some(&*dumps.take_to(next, second)), expected, "{cut}");
             }
         }
+    }
+
+    #[test]
+    fn no_character_is_cut() {
+        let line = "ab\u{e9}\u{20ac}\u{1f600}c".as_bytes();
+        let kept = [0, 1, 2, 2, 4, 4, 4, 7, 7, 7, 7, 11, 12, 12];
+        for (most, length) in kept.into_iter().enumerate() {
+            assert_eq!(beginning(line, most), &line[..length], "{most}");
+        }
+        // What is no text anyway is cut where it is asked, and a whole line stays as it is.
+        assert_eq!(beginning(b"\xff\xc3\xa9", 2), b"\xff\xc3");
+        assert_eq!(beginning(b"a\xc3", 2), b"a\xc3");
     }
 
     #[test]

@@ -25,6 +25,8 @@ pub struct Fault {
     pub table: Table,
     /// The row; none where the table as a whole is at fault.
     pub row: Option<usize>,
+    /// The earlier row of the table that has the same FID, where that is the fault.
+    pub other: Option<usize>,
     /// The field.
     pub field: String,
     /// What is wrong with it.
@@ -44,8 +46,21 @@ impl Row<'_> {
             number,
             table: self.table,
             row: Some(self.row),
+            other: None,
             field: field.into(),
             reason: reason.into(),
+        });
+    }
+
+    /// The self FID is that of an earlier row.
+    fn add_twice(&mut self, own: Fid, first: usize) {
+        self.list.push(Fault {
+            number: FID_TWICE,
+            table: self.table,
+            row: Some(self.row),
+            other: Some(first),
+            field: format!("self FID {own}"),
+            reason: format!("row {first} has it as well"),
         });
     }
 }
@@ -93,6 +108,7 @@ fn length_fault(table: Table, bytes: &[u8]) -> Option<Fault> {
         number: BAD_TABLE,
         table,
         row: None,
+        other: None,
         field: "length".to_string(),
         reason,
     })
@@ -119,8 +135,7 @@ fn own(row: &mut Row, bytes: &[u8], known: &mut Known) {
     let at = row.row;
     let first = *known.entry(own).or_insert(at);
     if first != at {
-        let reason = format!("row {first} has it as well");
-        row.add(FID_TWICE, format!("self FID {own}"), reason);
+        row.add_twice(own, first);
     }
 }
 

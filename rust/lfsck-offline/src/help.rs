@@ -247,11 +247,12 @@ input is read. Of several dumps each is whole; the owners go on over all.
 
   --owners FILE      a line for each entry of the dumps, in their order: uid,
                      gid and OST index in decimal numbers, with one space
-                     between; the index of a file must be there and isn't used
+                     between; the index of a file must be there and isn't used;
+                     at most 64 MiB
   --spare-files N    add N unused rows to the files, for those that runs make
   --spare-objects N  add N unused rows to the objects, for those that runs make
-  --reserve FILE     the FIDs for new objects, one in a line; empty lines and
-                     lines that begin with # are skipped
+  --reserve FILE     the FIDs for new objects, one in a line, at most 65,536;
+                     empty lines and lines that begin with # are skipped
 
 A fault is told with file, line and reason, and the line is shown; with --json
 these are the members of fault. Then no case is made. Files of a case that are

@@ -1,6 +1,6 @@
 //! A line of a file that is refused: one line for people, fields for machines.
 
-use crate::dump::Origin;
+use crate::dump::{Origin, beginning};
 use crate::hex;
 use crate::json::Json;
 use crate::quoted::quoted;
@@ -45,7 +45,7 @@ impl LineFault {
     /// For machines.
     pub fn json(&self) -> Json {
         let entry = self.entry.as_ref();
-        let text = &self.text[..self.text.len().min(HANDED)];
+        let text = beginning(&self.text, HANDED);
         let mut members = vec![
             ("file", Json::text(&self.file)),
             ("line", Json::Number(self.line)),
@@ -58,17 +58,18 @@ impl LineFault {
                 Json::maybe_number(entry.map(|entry| entry.line)),
             ),
         ];
-        members.extend(named(entry.map(Origin::name)));
+        members.extend(named(["name", "name_hex"], entry.map(Origin::name)));
         Json::Object(members)
     }
 }
 
-/// The name of an entry for machines, as a text and in digits.
-pub fn named(name: Option<&[u8]>) -> [(&'static str, Json); 2] {
+/// The name of an entry for machines, as a text and in digits; each is a member of its own.
+pub fn named(members: [&'static str; 2], name: Option<&[u8]>) -> [(&'static str, Json); 2] {
     let text = name.and_then(|name| str::from_utf8(name).ok());
+    let digits = name.map(hex::encode);
     [
-        ("name", Json::maybe(text)),
-        ("name_hex", Json::maybe(name.map(hex::encode))),
+        (members[0], Json::maybe(text)),
+        (members[1], Json::maybe(digits)),
     ]
 }
 

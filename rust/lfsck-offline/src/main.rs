@@ -55,6 +55,7 @@ mod story;
 mod tables;
 mod values;
 mod verdict;
+mod whence;
 mod why;
 
 use std::ffi::OsString;
@@ -62,6 +63,7 @@ use std::io::{self, Write};
 use std::process::ExitCode;
 
 use outcome::{Failure, Outcome, Status};
+use quoted::on_one_line;
 
 fn main() -> ExitCode {
     let words: Vec<OsString> = std::env::args_os().skip(1).collect();
@@ -86,8 +88,7 @@ fn fail(failure: &Failure, json: bool) -> Status {
 
 /// A line on standard error.
 fn tell(message: &str) {
-    let message = message.replace(char::is_control, " ");
-    let _ = writeln!(io::stderr(), "lfsck-offline: {message}");
+    let _ = writeln!(io::stderr(), "lfsck-offline: {}", on_one_line(message));
 }
 
 fn write_out(text: &str) -> io::Result<()> {

@@ -1,6 +1,8 @@
-//! Names of any bytes, for people.
+//! Names of any bytes and paths, for people.
 
 use std::fmt::Write;
+use std::os::unix::ffi::OsStrExt;
+use std::path::Path;
 
 /// The name in quotes. Printable ASCII letters stand for themselves but for the quote and the
 /// backslash, which have a backslash before them; every other byte is `\x` and two digits. So
@@ -21,6 +23,20 @@ pub fn quoted(name: &[u8]) -> String {
     text
 }
 
+/// A path as it was given; in quotes where it has control characters.
+pub fn path(path: &Path) -> String {
+    let text = path.display().to_string();
+    match text.contains(char::is_control) {
+        true => quoted(path.as_os_str().as_bytes()),
+        false => text,
+    }
+}
+
+/// A message on one line, with spaces for control characters.
+pub fn on_one_line(message: &str) -> String {
+    message.replace(char::is_control, " ")
+}
+
 #[cfg(test)]
 mod tests {
     use super::*;
@@ -35,6 +51,22 @@ mod tests {
             quoted("\u{1b}[2Jé\n\u{7f}".as_bytes()),
             r#""\x1b[2J\xc3\xa9\x0a\x7f""#
         );
+    }
+
+    #[test]
+    fn a_path_is_in_quotes_where_it_would_steer() {
+        for text in ["case", "../a b/\"c\\d", "/tmp/\u{e9}", "-", "./-"] {
+            assert_eq!(path(Path::new(text)), text);
+        }
+        for (text, shown) in [
+            ("a\u{1b}[2J", r#""a\x1b[2J""#),
+            ("a\nb", r#""a\x0ab""#),
+            ("\u{e9}\u{9b}31m", r#""\xc3\xa9\xc2\x9b31m""#),
+            ("\u{7f}", r#""\x7f""#),
+        ] {
+            assert_eq!(path(Path::new(text)), shown);
+        }
+        assert_eq!(on_one_line("a\u{1b}b\nc"), "a b c");
     }
 
     #[test]

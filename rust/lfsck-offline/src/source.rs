@@ -8,6 +8,7 @@ use std::path::PathBuf;
 
 use crate::disk::trouble;
 use crate::outcome::Failure;
+use crate::quoted;
 
 /// The word that stands for standard input.
 pub const STANDARD: &str = "-";
@@ -64,6 +65,14 @@ impl Source {
                 let metadata = std::fs::metadata(path).ok()?;
                 metadata.is_file().then_some(metadata.len())
             }
+        }
+    }
+
+    /// Its name for people, which cannot steer a terminal.
+    pub fn shown(&self) -> String {
+        match self {
+            Source::Standard => self.to_string(),
+            Source::File(path) => quoted::path(path),
         }
     }
 

@@ -9,6 +9,7 @@ use crate::faults::{Fault, faults};
 use crate::json::Json;
 use crate::moments::two_moments;
 use crate::outcome::{Failure, Outcome, Status};
+use crate::quoted::on_one_line;
 use crate::tables::{Table, Tables};
 
 /// Checks a case.
@@ -26,7 +27,8 @@ pub fn check(directory: &Path, json: bool, bar: &Bar) -> Result<Outcome, Failure
             0 => sound(&tables),
             _ => unsound(number, &list),
         };
-        told + &warning.map_or(String::new(), |words| format!("Warning: {words}.\n"))
+        let warning = warning.map(|words| format!("Warning: {}.\n", on_one_line(&words)));
+        told + &warning.unwrap_or_default()
     };
     let status = match number {
         0 => Status::Done,

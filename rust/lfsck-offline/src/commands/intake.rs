@@ -9,16 +9,18 @@ use crate::answers::{CHECKING, fault_line, meaning};
 use crate::args::IntakeOptions;
 use crate::bar::{Bar, Work};
 use crate::case::Case;
-use crate::dump::{Dumps, Origin};
+use crate::dump::Dumps;
 use crate::dump_fault::Refused;
 use crate::faults::{Fault, faults};
 use crate::intake::{Intake, Stop};
 use crate::json::Json;
-use crate::line_fault::{LineFault, named, shown};
+use crate::line_fault::LineFault;
 use crate::outcome::{Failure, Outcome, Status};
+use crate::quoted;
 use crate::reserve::Reserve;
 use crate::source::Source;
 use crate::tables::{Table, Tables};
+use crate::whence::{Whence, members};
 
 /// The most bytes of an owners file: many times as long as one for full tables.
 const MOST_OWNERS: usize = 64 << 20;
@@ -39,6 +41,8 @@ pub fn intake(
     json: bool,
     bar: &Bar,
 ) -> Result<Outcome, Failure> {
+    require_spare("--spare-files", Table::Parents, options.spare_files)?;
+    require_spare("--spare-objects", Table::Objects, options.spare_objects)?;
     Case::require_none(directory)?;
     let taken = take(options, bar)?;
     Case::make(directory, &taken.tables, None)?;
@@ -102,17 +106,33 @@ fn work(dumps: &[Source]) -> Work {
     }
 }
 
+/// So many spare rows fit into an empty table.
+fn require_spare(option: &str, table: Table, spare: usize) -> Result<(), Failure> {
+    let (file, most) = (table.file(), table.most_rows());
+    match spare <= most {
+        true => Ok(()),
+        false => Err(Failure::refused(format!(
+            "{option} {spare}: {file} has at most {most} rows"
+        ))),
+    }
+}
+
 /// Adds unused rows to a table.
 fn add_spare(table: Table, bytes: &mut Vec<u8>, spare: usize) -> Result<(), Failure> {
     let (size, most) = (table.row_bytes(), table.most_rows());
     let used = bytes.len() / size;
-    let rows = used.checked_add(spare).filter(|rows| *rows <= most);
-    let Some(rows) = rows else {
+    let rows = used + spare;
+    if rows > most {
         let file = table.file();
+        let used = match used {
+            1 => "1 row that is used".to_string(),
+            _ => format!("{used} rows that are used"),
+        };
+        let spare = counted(spare, "spare one");
         return Err(Failure::refused(format!(
-            "{file} would have {used} rows that are used and {spare} spare ones; the most are {most}"
+            "{file} would have {used} and {spare}; the most are {most}"
         )));
-    };
+    }
     bytes.resize(rows * size, 0);
     Ok(())
 }
@@ -216,7 +236,7 @@ impl Taken {
         let [files, objects] = self.rows;
         let mut text = format!(
             "A case is in {}: {} and {} from {}.\n",
-            directory.display(),
+            quoted::path(directory),
             counted(files, "file"),
             counted(objects, "object"),
             counted(options.dumps.len(), "dump")
@@ -238,31 +258,40 @@ impl Taken {
         text
     }
 
-    /// A fault, and where it comes from.
+    /// A fault, and where it comes from; of a FID that stands twice, both rows.
     fn line(&self, options: &IntakeOptions, fault: &Fault) -> String {
-        let from = match (self.origin(fault), self.reserve_line(options, fault)) {
-            (Some(origin), _) => {
-                let (name, line) = (shown(origin.name()), origin.line);
-                let source = &options.dumps[origin.dump];
-                format!("      {name}, line {line} of {source}\n")
-            }
-            (None, Some((source, line))) => format!("      line {line} of {source}\n"),
-            (None, None) => String::new(),
-        };
-        format!("  {}\n{from}", fault_line(fault))
+        let mut text = format!("  {}\n", fault_line(fault));
+        if let Some(from) = self.whence(options, fault.table, fault.row) {
+            text += &format!("      {from}\n");
+        }
+        let other = self.whence(options, fault.table, fault.other);
+        if let (Some(row), Some(from)) = (fault.other, other) {
+            text += &format!("      row {row} is {from}\n");
+        }
+        text
     }
 
-    fn origin(&self, fault: &Fault) -> Option<&Origin> {
-        self.dumps.origin(fault.table, fault.row?)
-    }
-
-    fn reserve_line<'options>(
-        &self,
-        options: &'options IntakeOptions,
-        fault: &Fault,
-    ) -> Option<(&'options Source, usize)> {
-        let row = fault.row.filter(|_| fault.table == Table::Reserve)?;
-        Some((options.reserve.as_ref()?, *self.reserve.lines.get(row)?))
+    /// Where a row comes from.
+    fn whence<'call>(
+        &'call self,
+        options: &'call IntakeOptions,
+        table: Table,
+        row: Option<usize>,
+    ) -> Option<Whence<'call>> {
+        let row = row?;
+        if table == Table::Reserve {
+            return Some(Whence {
+                name: None,
+                source: options.reserve.as_ref()?,
+                line: *self.reserve.lines.get(row)? as u64,
+            });
+        }
+        let origin = self.dumps.origin(table, row)?;
+        Some(Whence {
+            name: Some(origin.name()),
+            source: &options.dumps[origin.dump],
+            line: origin.line,
+        })
     }
 
     fn machine(
@@ -290,23 +319,21 @@ impl Taken {
     }
 
     fn machine_fault(&self, options: &IntakeOptions, fault: &Fault) -> Json {
-        let origin = self.origin(fault);
-        let reserve = self.reserve_line(options, fault);
-        let source = origin.map(|origin| &options.dumps[origin.dump]);
-        let source = source.or(reserve.map(|(source, _)| source));
-        let line = origin.map(|origin| origin.line);
-        let line = line.or(reserve.map(|(_, line)| line as u64));
-        let mut members = vec![
+        let number = |row: Option<usize>| Json::maybe_number(row.map(|row| row as u64));
+        let whence = |row| self.whence(options, fault.table, row);
+        let (own, other) = (whence(fault.row), whence(fault.other));
+        let mut list = vec![
             ("number", Json::Number(fault.number.into())),
             ("table", Json::text(fault.table.file())),
-            ("row", Json::maybe_number(fault.row.map(|row| row as u64))),
+            ("row", number(fault.row)),
             ("field", Json::text(&fault.field)),
             ("reason", Json::text(&fault.reason)),
-            ("file", Json::maybe(source)),
-            ("line", Json::maybe_number(line)),
         ];
-        members.extend(named(origin.map(Origin::name)));
-        Json::Object(members)
+        list.extend(members(["file", "line", "name", "name_hex"], own.as_ref()));
+        list.push(("other_row", number(fault.other)));
+        let names = ["other_file", "other_line", "other_name", "other_name_hex"];
+        list.extend(members(names, other.as_ref()));
+        Json::Object(list)
     }
 }
 
@@ -331,6 +358,23 @@ mod tests {
         let unknown = Work::Unmeasured("reading the dumps");
         assert_eq!(work(&[this, Source::Standard]), unknown);
         assert_eq!(work(&[Source::File("/dev/null".into())]), unknown);
+    }
+
+    #[test]
+    fn spare_rows_that_do_not_fit_are_counted_in_words() {
+        let refusal = |used: usize, spare: usize| {
+            let mut bytes = vec![1; used * Table::Objects.row_bytes()];
+            let added = add_spare(Table::Objects, &mut bytes, spare);
+            added.expect_err("too many rows").message
+        };
+        assert_eq!(
+            refusal(1, 65_536),
+            "objects.tbl would have 1 row that is used and 65536 spare ones; the most are 65536"
+        );
+        assert_eq!(
+            refusal(65_536, 1),
+            "objects.tbl would have 65536 rows that are used and 1 spare one; the most are 65536"
+        );
     }
 
     #[test]

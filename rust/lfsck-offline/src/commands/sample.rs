@@ -10,6 +10,7 @@ use crate::fid::Fid;
 use crate::hex;
 use crate::json::Json;
 use crate::outcome::{Failure, Outcome};
+use crate::quoted;
 use crate::save::SAMPLE_LINK;
 use crate::tables::{Table, Tables};
 
@@ -39,7 +40,7 @@ pub fn sample(directory: &Path, json: bool) -> Result<Outcome, Failure> {
         format!(
             "A sample case is in {}: {parents} parent rows, {objects} object rows, \
              {reserve} FIDs in reserve; and a linkEA, {SAMPLE_LINK}.\n",
-            directory.display()
+            quoted::path(directory)
         )
     };
     Ok(Outcome {

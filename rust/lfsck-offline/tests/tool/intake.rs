@@ -14,21 +14,21 @@ use crate::tool::{Case, TOOL, Told, faulty};
 
 const SITE: &str = concat!(env!("CARGO_MANIFEST_DIR"), "/../../tests/data/site");
 /// A self FID, [0x200000401:0x1:0x0].
-const LMA: &str = "trusted.lma=0x000000000000000001040000020000000100000000000000\n";
+pub const LMA: &str = "trusted.lma=0x000000000000000001040000020000000100000000000000\n";
 /// The layout of a file with one slot.
-const LOV: &str = "trusted.lov=0xd00bd10b01000000010000000000000001040000020000000000100001000000\
+pub const LOV: &str = "trusted.lov=0xd00bd10b01000000010000000000000001040000020000000000100001000000\
                    000400400200000010000000000000000000000003000000\n";
 /// A claim on slot 0 of that file.
-const FID: &str = "trusted.fid=0x01040000020000000100000000000000\n";
-const OWNERS: &str = "1001 100 0\n1001 100 3\n1001 100 3\n";
+pub const FID: &str = "trusted.fid=0x01040000020000000100000000000000\n";
+pub const OWNERS: &str = "1001 100 0\n1001 100 3\n1001 100 3\n";
 
 /// The case that an intake makes, in a directory of the test's own.
-fn made(case: &Case) -> PathBuf {
+pub fn made(case: &Case) -> PathBuf {
     case.path().join("made")
 }
 
 /// Takes in a dump with an owners file.
-fn take(case: &Case, dump: &[u8], owners: &[u8], words: &[&str]) -> Told {
+pub fn take(case: &Case, dump: &[u8], owners: &[u8], words: &[&str]) -> Told {
     case.write("dump", dump);
     case.write("owners", owners);
     let words: Vec<&str> = ["dump", "--owners", "owners"]
@@ -39,7 +39,7 @@ fn take(case: &Case, dump: &[u8], owners: &[u8], words: &[&str]) -> Told {
 }
 
 /// The tool with its words after the directory.
-fn intake(case: &Case, tool: &Path, words: &[&str]) -> Told {
+pub fn intake(case: &Case, tool: &Path, words: &[&str]) -> Told {
     let mut command = Command::new(tool);
     command.current_dir(case.path()).arg("intake").arg("made");
     command.args(words).stdin(Stdio::null());
@@ -58,22 +58,22 @@ fn of_input(case: &Case, words: &[&str], input: &[u8]) -> Told {
 }
 
 /// Another command on the case that was made.
-fn on_made(case: &Case, words: &[&str]) -> Told {
+pub fn on_made(case: &Case, words: &[&str]) -> Told {
     let mut command = Command::new(TOOL);
     command.arg(words[0]).arg(made(case)).args(&words[1..]);
     command.output().expect("the tool").into()
 }
 
-fn table(case: &Case, name: &str) -> Vec<u8> {
+pub fn table(case: &Case, name: &str) -> Vec<u8> {
     std::fs::read(made(case).join(name)).expect(name)
 }
 
-fn of_site(name: &str) -> Vec<u8> {
+pub fn of_site(name: &str) -> Vec<u8> {
     std::fs::read(Path::new(SITE).join(name)).expect(name)
 }
 
 /// An entry of these lines.
-fn entry(name: &str, lines: &[&str]) -> String {
+pub fn entry(name: &str, lines: &[&str]) -> String {
     format!("# file: {name}\n{}\n", lines.concat())
 }
 
@@ -544,7 +544,7 @@ fn tables_at_their_limits() {
         take(&case, text.as_bytes(), owners.as_bytes(), &[]).expect_line(2, words);
         let spare = ["--spare-files", "1024", "--spare-objects", "65536"];
         let told = take(&case, dump(1, line).as_bytes(), owners.as_bytes(), &spare);
-        told.expect_line(2, ".tbl would have 1 rows that are used and ");
+        told.expect_line(2, ".tbl would have 1 row that is used and ");
         assert!(!made(&case).exists());
         let spare = ["--spare-files", "1023", "--spare-objects", "65535"];
         take(&case, dump(1, line).as_bytes(), owners.as_bytes(), &spare).expect(0);

@@ -9,6 +9,7 @@ mod earlier;
 mod foresee;
 mod histories;
 mod intake;
+mod intake_input;
 mod json;
 mod limits;
 mod link;
