@@ -27,7 +27,7 @@ use Rattle.intake_calls.proofs.WholeLaws.{Taken, taken, whole-stays}
 -- ## The state of zeros
 
 -- it stands for the reading that begins
-zero-begins : (file p o : List ℕ) → machineIn zeroState file p o ≡ begin (beginning file p o)
+pub zero-begins : (file p o : List ℕ) → machineIn zeroState file p o ≡ begin (beginning file p o)
 unfolding machineIn machineOf keptOf readerIn marksIn lineIn numberAt zeroState beginning begin openIn stopIs partialIn digitsIn keptIn noLine le
 zero-begins file p o = refl
 

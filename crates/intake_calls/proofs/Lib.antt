@@ -4,3 +4,4 @@ pub mod LentLaws
 pub mod WholeLaws
 pub mod CallLaws
 pub mod EveryCut
+pub mod DropOut

@@ -2,7 +2,7 @@
 -- the same tables".
 use Prim.Native.Nat.{ℕ, _≤_}
 use mathlib.Core.Path.{_≡_}
-use mathlib.Core.List.{List, [], _∷_}
+use mathlib.Core.List.{List, [], _∷_, _++_}
 use mathlib.Core.Bool.{true}
 use lib.ListN.{length, getD, replicate}
 use Rattle.tables.specs.Bytes.{layoutRoom, parentRows, objectRows, join}
@@ -11,7 +11,7 @@ use Rattle.intake.specs.Lines.{lines}
 use Rattle.intake.specs.Given.{GivenParent, GivenObject, Becomes, NotFresh}
 use Rattle.intake.specs.Reading.{badDump, Reading, outside, going, dumpReading, dumpEnds}
 use Rattle.intake_state.specs.State.{stateSize, maxRead, stateStands}
-use Rattle.intake_feed.specs.Feed.{maxPiece, stopNumber, stopLine, PieceFed}
+use Rattle.intake_feed.specs.Feed.{maxPiece, feedRefusal, stopNumber, stopLine, PieceFed}
 use Rattle.intake_feed.specs.End.{DumpEnded}
 
 -- calls of `feed` one after another, each on what the last one left, each as its contract says: state, tables, line and answer before and after
@@ -83,3 +83,34 @@ NothingAfterStop =
     (file : List ℕ) (cut more : List (List ℕ)) (p o out s₁ p₁ o₁ out₁ : List ℕ) (r₁ : ℕ) (s₂ p₂ o₂ out₂ : List ℕ) (r₂ : ℕ) → Lent cut p o out
     → Calls file cut zeroState p o out 0 s₁ p₁ o₁ out₁ r₁ → badDump ≤ r₁ → Short more → Calls file more s₁ p₁ o₁ out₁ r₁ s₂ p₂ o₂ out₂ r₂
     → NothingAfter s₁ p₁ o₁ out₁ r₁ s₂ p₂ o₂ out₂ r₂
+
+-- ## Refused calls in between
+
+-- a call that takes a piece, or one that is refused, whatever it is lent
+pub data Step : Type 0 where
+  takes : List ℕ → Step
+  refused : Step
+
+unfoldable pub One : List ℕ → Step → List ℕ → List ℕ → List ℕ → List ℕ → List ℕ → List ℕ → Type 0
+One file (takes piece) s p o s′ p′ o′ =
+    (out : List ℕ) × (out′ : List ℕ) × (r : ℕ) × PieceFed s piece file p o out s′ p′ o′ out′ r × (feedRefusal s piece file p o (length out) ≡ 0)
+One file refused s p o s′ p′ o′ =
+    (piece : List ℕ) × (other : List ℕ) × (out : List ℕ) × (out′ : List ℕ) × (r : ℕ) × PieceFed s piece other p o out s′ p′ o′ out′ r
+    × (feedRefusal s piece other p o (length out) ≡ 0 → ⊥)
+
+unfoldable pub Steps : List ℕ → List Step → List ℕ → List ℕ → List ℕ → List ℕ → List ℕ → List ℕ → Type 0
+Steps file [] s p o s′ p′ o′ = (s ≡ s′) × (p ≡ p′) × (o ≡ o′)
+Steps file (step ∷ more) s p o s′ p′ o′ = (s₁ : List ℕ) × (p₁ : List ℕ) × (o₁ : List ℕ) × One file step s p o s₁ p₁ o₁ × Steps file more s₁ p₁ o₁ s′ p′ o′
+
+-- the bytes that were taken
+unfoldable pub takenBytes : List Step → List ℕ
+takenBytes [] = []
+takenBytes (takes piece ∷ more) = piece ++ takenBytes more
+takenBytes (refused ∷ more) = takenBytes more
+
+-- "11, 16 and 17 change nothing, and reading can go on": the tables are those of the definition on the bytes that were taken
+unfoldable pub RefusedDropOut : Type 0
+RefusedDropOut =
+    (file : List ℕ) (steps : List Step) (p o s′ p′ o′ : List ℕ) → parentsWhole p ≡ true → objectsWhole o ≡ true → Steps file steps zeroState p o s′ p′ o′
+    → (p′ ≡ join (dumpReading layoutRoom (beginning file p o) (takenBytes steps) .parents))
+    × (o′ ≡ join (dumpReading layoutRoom (beginning file p o) (takenBytes steps) .objects))
