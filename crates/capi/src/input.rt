@@ -1,5 +1,4 @@
 // The check of the tables, where a run starts and how many steps it takes.
-use tables::Position;
 ghost use mathlib.Core.Path.{_≡_};
 ghost use Rattle.tables.specs.Positions.{place};
 ghost use Rattle.tables.specs.Check.{checkNumber};
@@ -20,12 +19,7 @@ pub extern "C" fn lfsck_check(
 ) -> u32
     ensures { λ r. ⌜ r ≡ checkNumber (now (parents .entry)) (now (objects .entry)) (now (reserve .entry)) policy (place stage row part) ⌝ }
 {
-    let at = Position {
-        stage: stage,
-        row: row,
-        part: part,
-    };
-    checks::check(parents, objects, reserve, policy, at)
+    capi_tables::check(parents, objects, reserve, policy, stage, row, part)
 }
 
 // Where a run starts: 3 numbers into position.

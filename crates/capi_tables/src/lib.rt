@@ -1,4 +1,4 @@
-// Positions, where a run starts and how many steps it takes, as numbers.
+// The check of the tables, positions, where a run starts and how many steps it takes, as numbers.
 use tables::Position;
 use tables::StartAnswer;
 use tables::StepsAnswer;
@@ -6,9 +6,31 @@ ghost use mathlib.Core.Path.{_≡_};
 ghost use Prim.Native.Nat.{_≤_};
 ghost use lib.ListN.{length};
 ghost use lib.Seq.{sets};
+ghost use Rattle.tables.specs.Positions.{place};
+ghost use Rattle.tables.specs.Check.{checkNumber};
 ghost use Rattle.tables.specs.Answers.{startAnswer, startNumber, stepsAnswer, stepsNumber};
 ghost use Rattle.capi_out.specs.Out.{outAnswer, outNumbers};
 ghost use Rattle.capi_tables.specs.Tables.{positionNumbers, positionGiven, startNumbers, stepsNumbers};
+
+// Checks the whole input: tables, policy and position.
+pub fn check(
+    parents: &[u8],
+    objects: &[u8],
+    reserve: &[u8],
+    policy: u64,
+    stage: u64,
+    row: u64,
+    part: u64,
+) -> u32
+    ensures { λ r. ⌜ r ≡ checkNumber (now (parents .entry)) (now (objects .entry)) (now (reserve .entry)) policy (place stage row part) ⌝ }
+{
+    let at = Position {
+        stage: stage,
+        row: row,
+        part: part,
+    };
+    checks::check(parents, objects, reserve, policy, at)
+}
 
 // The position that is handed in; another amount than three numbers is none.
 pub fn position_given(position: &[u64]) -> Position
