@@ -233,6 +233,30 @@ uint32_t lfsck_classes(const uint8_t *parents, size_t parents_bytes,
                        uint64_t *done, size_t done_count);
 
 /*
+ * The keeper of an object, the one slot that counts as naming it, and how many slots were compared
+ * to find it. Three cases are taken in turn, each up to its first hit, and none after a hit: the
+ * claimed slot, if the claimed file has that many; the slots of the claimed file from slot 0 on;
+ * all slots, file by file in the order of their rows. Without object, claim or claimed file there
+ * is the last alone. A hole is compared like any other slot, and a slot that was compared before
+ * counts again: 1 where the claimed slot names the object, and at most twice all slots plus 1.
+ *
+ *   parents, objects  the tables
+ *   sequence, id      the object's FID, whose version is 0; it may be absent
+ *   out               4 numbers, written: 1 where a slot names the object, its parent row and its
+ *                     slot, or 0, 0 and 0 where none does; then the slots compared
+ *
+ * LFSCK_OK           the keeper is in the first 4 numbers
+ * LFSCK_BAD_TABLE, LFSCK_BAD_LAYOUT, LFSCK_BAD_FID, LFSCK_FID_TWICE
+ *                    the tables do not pass the check; LFSCK_BAD_FID also where the FID that is
+ *                    asked for is not good, or its id above 32 bits
+ * LFSCK_NO_ROOM      fewer than 4 numbers
+ */
+uint32_t lfsck_keeper(const uint8_t *parents, size_t parents_bytes,
+                      const uint8_t *objects, size_t objects_bytes,
+                      uint64_t sequence, uint64_t id,
+                      uint64_t *out, size_t out_count);
+
+/*
  * Checks the input as lfsck_check does, then repairs in place, step by step.
  *
  *   parents, objects  the tables, changed

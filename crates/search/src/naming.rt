@@ -4,6 +4,7 @@ use fid::OstFid;
 use layout::SLOT_SIZE;
 use layout::Slot;
 use rules::Found;
+use rules::Search;
 use tables::rows;
 use tables::rows::PARENT_SIZE;
 ghost use mathlib.Core.Path.{_≡_};
@@ -14,6 +15,7 @@ ghost use Rattle.tables.specs.Bytes.{parseParents};
 ghost use Rattle.tables.specs.Check.{goodLayouts};
 ghost use Rattle.rules.specs.Search.{isSomewhere};
 ghost use Rattle.rules.specs.Rows.{namesAt, scan, named, namesElse, namedElse};
+ghost use Rattle.rules.specs.Compared.{upTo, allSlots};
 
 // Whether a search found something.
 pub fn is_somewhere(found: Found) -> bool
@@ -38,24 +40,29 @@ fn names_else(s: Slot, f: OstFid, k: usize, i: usize, r: usize, j: usize) -> boo
     i != j
 }
 
-// The first slot in scan order that names an object. The search stops at the first parent and slot that name it.
-pub fn first_naming(parents: &[u8], f: OstFid) -> Found
+// The first slot in scan order that names an object, and the slots compared up to it. The search stops at the first parent and
+// slot that name it.
+pub fn first_naming(parents: &[u8], f: OstFid) -> Search
     requires { ⌜ goodLayouts (now parents) ≡ true ⌝ }
-    ensures { λ a. ⌜ a ≡ scan (parseParents (now (parents .entry))) (namesAt (parseParents (now (parents .entry))) f) ⌝ }
+    ensures place { λ a. ⌜ a .place ≡ scan (parseParents (now (parents .entry))) (namesAt (parseParents (now (parents .entry))) f) ⌝ }
+    ensures compared { λ a. ⌜ a .compared ≡ upTo f (allSlots (parseParents (now (parents .entry)))) ⌝ }
 {
     let n = parents.len() / PARENT_SIZE;
-    let mut found = Found::Nowhere;
-    'rows: for r in 0..n {
-        let area = slots::slot_area(rows::row_at(parents, PARENT_SIZE, r));
-        let count = area.len() / SLOT_SIZE;
-        for j in 0..count {
-            if layout::names(layout::slot_at(area, j), f) {
-                found = Found::At(r, j);
-                break 'rows;
-            }
+    let mut seen = 0;
+    for r in 0..n {
+        let row = slots::first_in(parents, f, r);
+        seen = seen + row.compared;
+        if is_somewhere(row.place) {
+            return Search {
+                place: row.place,
+                compared: seen,
+            };
         }
     }
-    found
+    Search {
+        place: Found::Nowhere,
+        compared: seen,
+    }
 }
 
 // The first slot in scan order that names an object, other than slot j of row r.
@@ -83,7 +90,8 @@ pub fn named(parents: &[u8], f: OstFid) -> bool
     requires { ⌜ goodLayouts (now parents) ≡ true ⌝ }
     ensures { λ b. ⌜ b ≡ named (parseParents (now (parents .entry))) f ⌝ }
 {
-    is_somewhere(first_naming(parents, f))
+    let first = first_naming(parents, f);
+    is_somewhere(first.place)
 }
 
 // Whether a slot other than slot j of row r names an object.

@@ -13,6 +13,7 @@
 mod check;
 mod class;
 mod intake;
+mod keeper;
 mod layout;
 mod link;
 mod run;
@@ -20,6 +21,7 @@ mod run;
 pub use check::{check, start, steps};
 pub use class::{class, classes};
 pub use intake::{intake_end, intake_feed};
+pub use keeper::keeper;
 pub use layout::{layout_read, layout_slot, layout_write, slot_rewrite};
 pub use link::{link_read, link_record, link_write};
 pub use run::run;

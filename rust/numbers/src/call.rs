@@ -22,6 +22,8 @@ pub const END: [u64; POSITION] = [STAGE_END, 0, 0];
 pub const CLASSES: usize = 15;
 /// The numbers of a class: which one, and the claim of an object that claims another slot.
 pub const CLASS: usize = 4;
+/// The numbers of a keeper: whether there is one, its row and slot, and the slots compared.
+pub const KEEPER: usize = 4;
 /// The classes whose repairs a run counts.
 pub const COUNTED: usize = 9;
 /// The numbers of a run's report: the steps and the counts.
