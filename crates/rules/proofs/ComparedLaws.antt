@@ -231,7 +231,7 @@ module _ (ps : List ParentRow) (f : OstFid) where
     pub compared-in : (r : ℕ) → parentRow ps (p .file) ≡ RowIs r →
         inTurn f (take 1 (drop (p .index) (slotsOf (rowAt ps r))) ∷ slotsOf (rowAt ps r) ∷ allSlots ps ∷ []) ≡ comparedBy ps f (Claims p)
     unfolding comparedBy cases casesIn
-    compared-in r e = rw e
+    compared-in r e = ap (λ (a : Row). inTurn f (casesIn ps p a)) (sym e)
 
 -- the count is that of the object's claim
 pub compared-is : (T : Tables) (f : OstFid) (c : Claim) → c ≡ claimIn (objectOf (T .objects) f) → comparedBy (T .parents) f c ≡ compared T f
@@ -286,6 +286,7 @@ module _ (ps : List ParentRow) (f : OstFid) where
 pub less-looking : (T : Tables) (f : OstFid) → LessLooking T f
 unfolding compared
 less-looking T f = record {
+  holes = hole-counts f;
   once = λ p r h t. rw (h .0) (once-in (T .parents) f p r (h .1) t);
   most = most-by (T .parents) f (claimIn (objectOf (T .objects) f));
   unnamed = λ p r h n k. rw (h .0) (unnamed-in (T .parents) f p r (h .1) n k);

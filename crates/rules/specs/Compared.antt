@@ -7,6 +7,7 @@ use lib.ListN.{length, take, drop}
 use Rattle.fid.specs.declared.OstFid.{OstFid}
 use Rattle.layout.specs.Slot.{slotNames}
 use Rattle.layout.specs.declared.Slot.{Slot}
+use Rattle.layout.specs.declared.Slot.the-variants.{Hole}
 use Rattle.tables.specs.Records.{ParentRow, Tables}
 use Rattle.tables.specs.Positions.{slotsOf, rowAt, width}
 use Rattle.tables.specs.declared.Claim.{Claim}
@@ -64,6 +65,8 @@ abbrev pub ClaimsIn : Tables → OstFid → Place → ℕ → Type 0
 ClaimsIn T f p r = (claimIn (objectOf (T .objects) f) ≡ Claims p) × (parentRow (T .parents) (p .file) ≡ RowIs r)
 
 pub record LessLooking (T : Tables) (f : OstFid) : Type 0 where
+  -- a hole is compared like any other slot
+  pub holes : (rest : List Slot) → upTo f (Hole ∷ rest) ≡ suc (upTo f rest)
   -- "where the claimed slot names the object": "then 1"
   pub once : (p : Place) (r : ℕ) → ClaimsIn T f p r → namesAt (T .parents) f r (slotNumber (rowAt (T .parents) r) p) ≡ true → compared T f ≡ 1
   -- "never more than twice all slots plus 1"

@@ -26,16 +26,18 @@ returns : tie.Need-returns
 returns c =
     let d = c .before .before .before .before .before in
     let ps = parseParents (now (d .args .parents)) in
-    let none = sym (c .before .before .before .parent-row .ensures) ∙ c .before .enum-told .given .1 in
-    (c .first-naming .ensures .0 ∙ keeper-absent ps (d .args .f) (d .args .place) (checked-parents (now (d .args .parents)) (d .pre .1)) none,
-    c .first-naming .ensures .1 ∙ compared-absent ps (d .args .f) (d .args .place) none)
+    let none = sym (c .before .before .before .parent-row .ensures) ∙ c .before .enum-told .given .1 in (
+      c .first-naming .ensures .0 ∙ keeper-absent ps (d .args .f) (d .args .place) (checked-parents (now (d .args .parents)) (d .pre .1)) none,
+      c .first-naming .ensures .1 ∙ compared-absent ps (d .args .f) (d .args .place) none,
+    )
 
 returns-2 : tie.Need-returns-2
 returns-2 c =
     let d = c .before .before .before .before .before .before .before in
-    let ps = parseParents (now (d .args .parents)) in
-    (c .search-from .ensures .0 ∙ keeper-in ps (d .args .f) (d .args .place) (checked-parents (now (d .args .parents)) (d .pre .1)) _ (row-is (c .before)),
-    c .search-from .ensures .1 ∙ compared-in ps (d .args .f) (d .args .place) _ (row-is (c .before)))
+    let ps = parseParents (now (d .args .parents)) in (
+      c .search-from .ensures .0 ∙ keeper-in ps (d .args .f) (d .args .place) (checked-parents (now (d .args .parents)) (d .pre .1)) _ (row-is (c .before)),
+      c .search-from .ensures .1 ∙ compared-in ps (d .args .f) (d .args .place) _ (row-is (c .before)),
+    )
 
 pub search-at-spec : {M : Type 1} → statement M
 search-at-spec =
