@@ -233,11 +233,6 @@ module _ (ps : List ParentRow) (f : OstFid) where
     unfolding comparedBy cases casesIn
     compared-in r e = ap (λ (a : Row). inTurn f (casesIn ps p a)) (sym e)
 
--- the count is that of the object's claim
-pub compared-is : (T : Tables) (f : OstFid) (c : Claim) → c ≡ claimIn (objectOf (T .objects) f) → comparedBy (T .parents) f c ≡ compared T f
-unfolding compared
-compared-is T f c e = rw e
-
 -- ## What is promised
 
 pub take-one : (l : List Slot) → length (take 1 l) ≤ 1
