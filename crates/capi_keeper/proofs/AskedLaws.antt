@@ -34,7 +34,7 @@ order : Bool → Bool → Bool → Bool → ℕ
 order w l f d = firstFailing (test 11 w ∷ test 13 l ∷ test 14 f ∷ test 15 d ∷ [])
 
 -- where the FID asked for is bad, from the number of the tables: 11 and 13 come before
-refused : ℕ → ℕ
+pub refused : ℕ → ℕ
 refused n = cond (eqb n 11) 11 (cond (eqb n 13) 13 14)
 
 order-good : (w l f d : Bool) → order w l (f && true) d ≡ order w l f d
@@ -63,7 +63,7 @@ module _ (p o : List ℕ) (s i : ℕ) where
   unfolding keeperNumber keeperTests tablesNumber tablesTests order
   number-good h = rw h (sym (order-good (tablesWhole p o []) (goodLayouts p) (goodFids p o []) (allDifferent p o)))
 
-  number-bad : goodAsked s i ≡ false → refused (tablesNumber p o) ≡ keeperNumber p o s i
+  pub number-bad : goodAsked s i ≡ false → refused (tablesNumber p o) ≡ keeperNumber p o s i
   unfolding keeperNumber keeperTests tablesNumber tablesTests order
   number-bad h = rw h (sym (order-bad (tablesWhole p o []) (goodLayouts p) (goodFids p o []) (allDifferent p o)))
 
