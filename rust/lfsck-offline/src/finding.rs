@@ -28,6 +28,8 @@ pub struct Finding {
     pub repair: Option<Repair>,
     /// The keeper of the object and the rule that makes it so.
     pub keeper: Option<(Named, Rule)>,
+    /// How many slots are compared to find the keeper, or to find that there is none.
+    pub compared: Option<usize>,
     /// Why the claimed place of an object in CONFLICT cannot be had.
     pub denial: Option<String>,
     /// The class that the object has when a run comes to it, where that is another.
@@ -90,6 +92,7 @@ impl Finding {
             object_ost: None,
             repair: None,
             keeper: None,
+            compared: None,
             denial: None,
             turn: None,
         };
@@ -124,8 +127,7 @@ impl Finding {
         self.object_ost = site
             .object_of(stripe.object)
             .map(|object| object.ost.into());
-        self.keeper = why::keeper(site, stripe.object)
-            .and_then(|(keeper, rule)| Some((site.name(keeper)?, rule)));
+        self.add_keeper(site, stripe.object);
         self.repair = slot_repair(site, place, stripe, self.class);
     }
 
@@ -137,13 +139,19 @@ impl Finding {
         self.object_ost = Some(object.ost.into());
         self.file = object.claim.map(|claim| claim.file);
         self.slot = object.claim.map(|claim| claim.index);
-        self.keeper = why::keeper(site, object.fid)
-            .and_then(|(keeper, rule)| Some((site.name(keeper)?, rule)));
+        self.add_keeper(site, object.fid);
         match self.class {
             Class::Empty => self.repair = repair(Needs::Adopt, "destroy the object"),
             Class::Orphan | Class::Conflict => self.add_place(site, object),
             _ => (),
         }
+    }
+
+    fn add_keeper(&mut self, site: &Site, object: OstFid) {
+        let search = why::search(site, object);
+        let keeper = search.keeper;
+        self.keeper = keeper.and_then(|(place, rule)| Some((site.name(place)?, rule)));
+        self.compared = Some(search.compared);
     }
 
     /// How the claimed place can be had, or why it cannot.

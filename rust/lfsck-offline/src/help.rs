@@ -137,7 +137,9 @@ Lists every finding: file, slot, object, class, and what its repair would do and
 under which policy. Where a slot is to get the OST index of its object, it says
 which OST the slot names and where the object is. Where a run does something to
 the claimed slot of an object before it comes to the object, so that its class
-is another by then, it says so. Ends with the number of positions of each class.
+is another by then, it says so. Ends with the number of positions of each class,
+and how many slots are compared to find the keepers of the objects that slots
+name.
 
   --only CLASS   list the positions of this class alone, of any class:
                  CLEAN SELF HOLE MULTIPLE DANGLING BLANK UNMATCHED WRONG-OST
@@ -147,12 +149,12 @@ is another by then, it says so. Ends with the number of positions of each class.
   --ost N        objects on this OST, and slots that say so of theirs
   --owner UID[:GID]
                  files of this owner with their slots, and objects of this owner
-  --summary      print the number of positions of each class alone
+  --summary      print these numbers alone
   --exit-code    exit with 4 where a run with --create --adopt would repair
                  something of what is listed
 
 --only, --file, --object, --ost and --owner may be given several times: any of a
-kind may match, and one of each kind must. The numbers of positions are those of
+kind may match, and one of each kind must. The numbers at the end are those of
 the files, objects, OSTs and owners that are asked for.
 ";
 
@@ -185,8 +187,9 @@ const SHOW: &str = "\
 Usage: lfsck-offline show DIR FID [--json]
 
 Tells everything about one file or object: layout, slots, claims, class, and why
-(which rule makes a slot the keeper). FID is written [0x200000401:0x1:0x0], with
-or without brackets, in hexadecimal or decimal numbers.
+(which rule makes a slot the keeper); and how many slots were compared to find
+the keeper. FID is written [0x200000401:0x1:0x0], with or without brackets, in
+hexadecimal or decimal numbers.
 
 Exit status: 2 where nothing in the case has the FID.
 ";

@@ -35,6 +35,7 @@ mod line_fault;
 mod link;
 mod link_fault;
 mod lock;
+mod looks;
 mod moments;
 mod outcome;
 mod pace;

@@ -48,6 +48,8 @@ pub struct Site {
     object_rows: HashMap<OstFid, usize>,
     named_by: HashMap<OstFid, Vec<Place>>,
     first_claimants: HashMap<Claim, OstFid>,
+    /// How many slots come before each parent row in scan order, and how many there are.
+    slots_before: Vec<usize>,
 }
 
 impl Site {
@@ -60,10 +62,20 @@ impl Site {
             object_rows: HashMap::new(),
             named_by: HashMap::new(),
             first_claimants: HashMap::new(),
+            slots_before: vec![0],
         };
+        site.count_slots();
         site.find_files();
         site.find_objects();
         site
+    }
+
+    fn count_slots(&mut self) {
+        let mut count = 0;
+        for file in &self.files {
+            count += file.as_ref().map_or(0, |file| file.slots.len());
+            self.slots_before.push(count);
+        }
     }
 
     fn find_objects(&mut self) {
@@ -118,6 +130,19 @@ impl Site {
     /// The slots that name an object, in scan order.
     pub fn named_by(&self, fid: OstFid) -> &[Place] {
         self.named_by.get(&fid).map_or(&[], Vec::as_slice)
+    }
+
+    /// The first slot of a parent row that names an object.
+    pub fn first_in_row(&self, fid: OstFid, row: usize) -> Option<Place> {
+        let places = self.named_by(fid);
+        let first = places.partition_point(|place| place.row < row);
+        places.get(first).copied().filter(|place| place.row == row)
+    }
+
+    /// How many slots come before a parent row in scan order; after the last row, how many there
+    /// are.
+    pub fn slots_before(&self, row: usize) -> usize {
+        self.slots_before[row]
     }
 
     /// How many slots name objects, and how many of these are to be made or redirected.

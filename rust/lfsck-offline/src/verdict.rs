@@ -38,14 +38,8 @@ pub struct Verdicts<'case> {
 impl<'case> Verdicts<'case> {
     /// Verdicts on a case.
     pub fn new(tables: &'case Tables, site: &'case Site) -> Verdicts<'case> {
-        let widths = site.files.iter().map(|file| match file {
-            Some(file) => 1 + file.slots.len(),
-            None => 1,
-        });
-        let mut starts = vec![0];
-        for width in widths {
-            starts.push(starts[starts.len() - 1] + width);
-        }
+        let rows = 0..=site.files.len();
+        let starts: Vec<usize> = rows.map(|row| row + site.slots_before(row)).collect();
         let count = starts[starts.len() - 1] + site.objects.len();
         Verdicts {
             tables,

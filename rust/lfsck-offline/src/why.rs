@@ -18,6 +18,15 @@ pub enum Rule {
     ScanOrder,
 }
 
+/// What the search for the keeper of an object comes to.
+#[derive(Clone, Copy, Debug, PartialEq, Eq)]
+pub struct Search {
+    /// The keeper and the rule that makes it so; none where no slot names the object.
+    pub keeper: Option<(Place, Rule)>,
+    /// How many slots are compared, each as often as it is.
+    pub compared: usize,
+}
+
 /// How a claimed place can be had.
 #[derive(Clone, Copy, Debug, PartialEq, Eq)]
 pub enum Way {
@@ -109,24 +118,53 @@ impl Denial {
 
 /// The keeper of an object and the rule that makes it so; none where no slot names it.
 pub fn keeper(site: &Site, object: OstFid) -> Option<(Place, Rule)> {
-    let claim = site.object_of(object).and_then(|object| object.claim);
-    let claimed = claim.and_then(|claim| site.claimed_place(claim));
-    let by_claim = claimed.and_then(|claimed| keeper_by_claim(site, object, claimed));
-    by_claim.or_else(|| Some((*site.named_by(object).first()?, Rule::ScanOrder)))
+    search(site, object).keeper
 }
 
-/// The claimed slot if it names the object, else the first that does in the claimed file.
-fn keeper_by_claim(site: &Site, object: OstFid, claimed: Place) -> Option<(Place, Rule)> {
-    let names = |place: &Place| {
-        let stripe = site.stripe(*place);
-        stripe.is_some_and(|stripe| stripe.object == object)
+/// How many slots are compared to find the keeper of an object.
+pub fn compared(site: &Site, object: OstFid) -> usize {
+    search(site, object).compared
+}
+
+/// The search for the keeper of an object: the rules in turn, each up to the first slot that names
+/// the object, and none after that. The index tells where each ends, so no slots are gone through.
+pub fn search(site: &Site, object: OstFid) -> Search {
+    let claim = site.object_of(object).and_then(|object| object.claim);
+    let claimed = claim.and_then(|claim| site.claimed_place(claim));
+    let by_claim = claimed.map(|claimed| search_by_claim(site, object, claimed));
+    let before = match by_claim {
+        Some(search) if search.keeper.is_some() => return search,
+        Some(search) => search.compared,
+        None => 0,
     };
-    if names(&claimed) {
-        return Some((claimed, Rule::ClaimedSlot));
+    let first = site.named_by(object).first().copied();
+    let scanned = match first {
+        Some(place) => site.slots_before(place.row) + place.slot + 1,
+        None => site.slots_before(site.files.len()),
+    };
+    Search {
+        keeper: first.map(|place| (place, Rule::ScanOrder)),
+        compared: before + scanned,
     }
-    let row = claimed.row;
-    let mut slots = (0..site.file(row)?.slots.len()).map(|slot| Place { row, slot });
-    Some((slots.find(names)?, Rule::ClaimedFile))
+}
+
+/// The claimed slot if it names the object, else the first that does in the claimed file. A slot
+/// past the end of the file is not compared.
+fn search_by_claim(site: &Site, object: OstFid, claimed: Place) -> Search {
+    let slots = site.slots_before(claimed.row + 1) - site.slots_before(claimed.row);
+    let before = usize::from(claimed.slot < slots);
+    let stripe = site.stripe(claimed);
+    if stripe.is_some_and(|stripe| stripe.object == object) {
+        return Search {
+            keeper: Some((claimed, Rule::ClaimedSlot)),
+            compared: before,
+        };
+    }
+    let first = site.first_in_row(object, claimed.row);
+    Search {
+        keeper: first.map(|place| (place, Rule::ClaimedFile)),
+        compared: before + first.map_or(slots, |place| place.slot + 1),
+    }
 }
 
 /// How the claimed place can be had, or why it cannot.

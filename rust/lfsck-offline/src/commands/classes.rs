@@ -14,11 +14,31 @@ use crate::foretell::Turn;
 use crate::json::Json;
 use crate::outcome::{Failure, Outcome, Status};
 use crate::position::Position;
+use crate::rows::slots_words;
 use crate::site::Site;
 use crate::values::{self, Members};
+use crate::why;
 
 /// The number of positions of each class.
 type Counts = [u64; NAMES.len()];
+
+/// What there is to say of all positions together.
+#[derive(Default)]
+struct Summary {
+    counts: Counts,
+    compared: Compared,
+}
+
+/// How many slots are compared to find the keepers of the objects that slots name.
+#[derive(Default)]
+struct Compared {
+    /// The slots that name an object.
+    slots: usize,
+    /// The slots compared for all of these.
+    sum: u64,
+    /// The most that are compared for one of these.
+    greatest: u64,
+}
 
 /// Lists the findings of a case.
 pub fn classes(
@@ -32,19 +52,19 @@ pub fn classes(
     let filter = &options.filter;
     let admitted = Position::all(&site).filter(|position| filter.admits(&site, *position));
     let positions: Vec<Position> = admitted.collect();
-    let mut counts = Counts::default();
+    let mut summary = Summary::default();
     let mut findings = Vec::new();
     let classes = classes_at(&tables, &site, &positions, bar)?;
     for (position, class) in positions.into_iter().zip(classes) {
-        counts[class.number()] += 1;
+        summary.add(&site, position, class);
         if filter.lists(class) {
             findings.push(Finding::new(&site, position, class));
         }
     }
     let text = match (json, options.summary) {
-        (true, summary) => machine((!summary).then_some(&findings), &counts),
-        (false, true) => summary(&counts),
-        (false, false) => people(&findings, &counts, filter),
+        (true, short) => machine((!short).then_some(&findings), &summary),
+        (false, true) => summary.text(),
+        (false, false) => people(&findings, &summary, filter),
     };
     let to_mend = options.exit_code && findings.iter().any(Finding::can_be_mended);
     let status = if to_mend {
@@ -55,7 +75,70 @@ pub fn classes(
     Ok(Outcome::ended(text, status))
 }
 
-fn people(findings: &[Finding], counts: &Counts, filter: &Filter) -> String {
+impl Summary {
+    /// One position more.
+    fn add(&mut self, site: &Site, position: Position, class: Class) {
+        self.counts[class.number()] += 1;
+        let stripe = match position {
+            Position::Slot(place) => site.stripe(place),
+            _ => None,
+        };
+        if let Some(stripe) = stripe {
+            self.compared.add(why::compared(site, stripe.object) as u64);
+        }
+    }
+
+    fn text(&self) -> String {
+        let mut text = String::from("Summary:\n");
+        let named = NAMES.iter().zip(MEANINGS).zip(&self.counts);
+        for ((name, meaning), count) in named.filter(|(_, count)| **count > 0) {
+            text += &format!("  {name:<9} {count:>7}  {meaning}\n");
+        }
+        text + &self.compared.text()
+    }
+
+    fn counts_json(&self) -> Json {
+        let counts = NAMES.iter().zip(&self.counts);
+        let members = counts.map(|(name, count)| (*name, Json::Number(*count)));
+        Json::Object(members.collect())
+    }
+}
+
+impl Compared {
+    /// One slot more that names an object.
+    fn add(&mut self, compared: u64) {
+        self.slots += 1;
+        self.sum += compared;
+        self.greatest = self.greatest.max(compared);
+    }
+
+    /// In words, where a slot names an object.
+    fn text(&self) -> String {
+        let Compared {
+            slots,
+            sum,
+            greatest,
+        } = self;
+        match slots {
+            0 => String::new(),
+            _ => format!(
+                "Slots compared to find the keepers: {sum} in all for {} naming an object, at most \
+                 {greatest} for one.\n",
+                slots_words(*slots)
+            ),
+        }
+    }
+
+    fn json(&self) -> Json {
+        Json::Object(vec![
+            ("slots", Json::Number(self.slots as u64)),
+            ("sum", Json::Number(self.sum)),
+            ("greatest", Json::Number(self.greatest)),
+        ])
+    }
+}
+
+fn people(findings: &[Finding], summary: &Summary, filter: &Filter) -> String {
     let is_object = |finding: &&Finding| matches!(finding.position, Position::Object(_));
     let mut text = String::new();
     if findings.is_empty() {
@@ -67,7 +150,7 @@ fn people(findings: &[Finding], counts: &Counts, filter: &Filter) -> String {
         "Objects (file and slot are what the object claims):",
         &objects,
     );
-    text + &summary(counts)
+    text + &summary.text()
 }
 
 /// What is said where nothing is listed.
@@ -97,28 +180,12 @@ fn section(title: &str, findings: &[&Finding]) -> String {
     format!("{title}\n{}", columns::text(&lines))
 }
 
-fn summary(counts: &Counts) -> String {
-    let mut text = String::from("Summary:\n");
-    let named = NAMES.iter().zip(MEANINGS).zip(counts);
-    for ((name, meaning), count) in named.filter(|(_, count)| **count > 0) {
-        text += &format!("  {name:<9} {count:>7}  {meaning}\n");
-    }
-    text
-}
-
-fn machine(findings: Option<&Vec<Finding>>, counts: &Counts) -> String {
-    let counts = NAMES.iter().zip(counts);
+fn machine(findings: Option<&Vec<Finding>>, summary: &Summary) -> String {
     let list = |list: &Vec<Finding>| Json::List(list.iter().map(finding_json).collect());
     Json::Object(vec![
         ("findings", findings.map_or(Json::Null, list)),
-        (
-            "summary",
-            Json::Object(
-                counts
-                    .map(|(name, count)| (*name, Json::Number(*count)))
-                    .collect(),
-            ),
-        ),
+        ("summary", summary.counts_json()),
+        ("compared", summary.compared.json()),
     ])
     .line()
 }
@@ -155,7 +222,7 @@ pub fn finding_json(finding: &Finding) -> Json {
     Json::Object(members)
 }
 
-/// The keeper of the object and the rule that makes it so.
+/// The keeper of the object, the rule that makes it so, and how many slots are compared.
 fn keeper_members(finding: &Finding) -> Members {
     let keeper = finding.keeper;
     let place = keeper.map(|(keeper, _)| keeper);
@@ -168,6 +235,10 @@ fn keeper_members(finding: &Finding) -> Members {
         (
             "keeper_rule",
             Json::maybe(keeper.map(|(_, rule)| rule.name())),
+        ),
+        (
+            "compared",
+            Json::maybe_number(finding.compared.map(|compared| compared as u64)),
         ),
     ]
 }

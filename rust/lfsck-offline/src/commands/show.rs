@@ -3,7 +3,8 @@
 use std::collections::HashMap;
 use std::path::Path;
 
-use crate::bar::Bar;
+use crate::answers::refusal;
+use crate::bar::{Bar, Work};
 use crate::case::Case;
 use crate::class::Class;
 use crate::classing::classes_at;
@@ -11,17 +12,20 @@ use crate::commands::classes::finding_json;
 use crate::fid::{Fid, MdtFid, OstFid};
 use crate::finding::Finding;
 use crate::json::Json;
+use crate::looks::{Look, looks};
 use crate::outcome::{Failure, Outcome};
 use crate::position::Position;
 use crate::rows::{File, Object, slots_words};
-use crate::site::{Place, Site};
+use crate::site::{Named, Place, Site};
 use crate::values;
-use crate::why;
+use crate::why::{self, Rule};
 
 /// What there is to say of a FID.
 struct View<'case> {
     site: &'case Site,
     classes: HashMap<Position, Class>,
+    /// What the library answers for the objects of the file's slots, and for the object.
+    looks: HashMap<OstFid, Look>,
 }
 
 /// Shows a file, an object, or both where both have the FID.
@@ -30,16 +34,19 @@ pub fn show(directory: &Path, fid: Fid, json: bool, bar: &Bar) -> Result<Outcome
     let site = Site::new(&tables);
     let positions = positions(&site, fid);
     let classes = classes_at(&tables, &site, &positions, bar)?;
-    let view = View {
-        site: &site,
-        classes: positions.into_iter().zip(classes).collect(),
-    };
-    let file = view.is_file_known(MdtFid(fid));
-    let object = view.is_object_known(OstFid(fid));
+    let file = is_file_known(&site, MdtFid(fid));
+    let object = is_object_known(&site, OstFid(fid));
     if !file && !object {
         let message = format!("nothing in {} has the FID {fid}", directory.display());
         return Err(Failure::refused(message));
     }
+    bar.turn_to(Work::Unmeasured("looking for keepers"));
+    let looks = looks(&tables, &site, objects(&site, fid));
+    let view = View {
+        site: &site,
+        classes: positions.into_iter().zip(classes).collect(),
+        looks: looks.map_err(|number| refusal(number, &tables))?,
+    };
     let text = if json {
         view.machine(fid)
     } else {
@@ -64,6 +71,26 @@ fn positions(site: &Site, fid: Fid) -> Vec<Position> {
     own.chain(claimants).chain(row).chain(named_by).collect()
 }
 
+/// The objects whose keepers are told: those that the slots of the file name, and the object.
+fn objects(site: &Site, fid: Fid) -> Vec<OstFid> {
+    let file = site.file_row(MdtFid(fid)).and_then(|row| site.file(row));
+    let stripes = file
+        .into_iter()
+        .flat_map(|file| file.slots.iter().flatten());
+    let object = Some(OstFid(fid)).filter(|fid| is_object_known(site, *fid));
+    stripes.map(|stripe| stripe.object).chain(object).collect()
+}
+
+/// A row has the FID, or an object claims it.
+fn is_file_known(site: &Site, fid: MdtFid) -> bool {
+    site.file_row(fid).is_some() || !claimants(site, fid).is_empty()
+}
+
+/// A row has the FID, or a slot names it.
+fn is_object_known(site: &Site, fid: OstFid) -> bool {
+    site.object_row(fid).is_some() || !site.named_by(fid).is_empty()
+}
+
 /// The header and the slots of a file.
 fn file_positions(site: &Site, row: usize) -> Vec<Position> {
     let count = site.file(row).map_or(0, |file| file.slots.len());
@@ -82,23 +109,34 @@ fn claimants(site: &Site, fid: MdtFid) -> Vec<(usize, &Object)> {
 }
 
 impl View<'_> {
-    /// A row has the FID, or an object claims it.
-    fn is_file_known(&self, fid: MdtFid) -> bool {
-        self.site.file_row(fid).is_some() || !self.claimants(fid).is_empty()
-    }
-
-    /// A row has the FID, or a slot names it.
-    fn is_object_known(&self, fid: OstFid) -> bool {
-        self.site.object_row(fid).is_some() || !self.site.named_by(fid).is_empty()
-    }
-
     /// The objects that claim a slot of the file, with their rows.
     fn claimants(&self, fid: MdtFid) -> Vec<(usize, &Object)> {
         claimants(self.site, fid)
     }
 
+    /// What is found at a position of the file, of the object, or of a slot that names it. Keeper
+    /// and slots compared are the library's answer.
     fn finding(&self, position: Position) -> Finding {
+        let mut finding = Finding::new(self.site, position, self.classes[&position]);
+        if let Some(object) = finding.object {
+            let look = &self.looks[&object];
+            finding.keeper = self.keeper(look, finding.keeper.map(|(_, rule)| rule));
+            finding.compared = Some(look.compared);
+        }
+        finding
+    }
+
+    /// What is found at the row of an object that claims the file. There may be very many of them,
+    /// so the library is not asked for their keepers.
+    fn claimant(&self, row: usize) -> Finding {
+        let position = Position::Object(row);
         Finding::new(self.site, position, self.classes[&position])
+    }
+
+    /// The keeper that the library answered, with the rule that makes it so.
+    fn keeper(&self, look: &Look, rule: Option<Rule>) -> Option<(Named, Rule)> {
+        let place = look.keeper.and_then(|place| self.site.name(place));
+        place.zip(rule)
     }
 
     /// The findings of a file's header and slots.
@@ -116,7 +154,7 @@ impl View<'_> {
         };
         for (row, object) in self.claimants(fid) {
             let Some(claim) = object.claim else { continue };
-            let finding = self.finding(Position::Object(row));
+            let finding = self.claimant(row);
             if finding.class == Class::Kept {
                 continue;
             }
@@ -199,11 +237,23 @@ impl View<'_> {
             let class = self.classes[&Position::Slot(*place)].name();
             text += &format!("  named by {name}, on OST {}: {class}\n", stripe.ost);
         }
-        let keeper = why::keeper(self.site, fid);
-        let named = keeper.and_then(|(keeper, rule)| Some((self.site.name(keeper)?, rule)));
-        text + &match named {
-            Some((keeper, rule)) => format!("  the keeper is {keeper}: {}\n", rule.words()),
-            None => "  no slot names it\n".to_string(),
+        text + &self.keeper_lines(fid)
+    }
+
+    /// The keeper of an object, why it is that one, and how many slots were compared.
+    fn keeper_lines(&self, fid: OstFid) -> String {
+        let look = &self.looks[&fid];
+        let rule = why::keeper(self.site, fid).map(|(_, rule)| rule);
+        match self.keeper(look, rule) {
+            Some((keeper, rule)) => format!(
+                "  the keeper is {keeper}: {}\n  {}\n",
+                rule.words(),
+                compared_words(look.compared)
+            ),
+            None => format!(
+                "  no slot names it\n  {} compared in search of a keeper\n",
+                slots_words(look.compared)
+            ),
         }
     }
 
@@ -254,7 +304,7 @@ impl View<'_> {
                 Json::List(
                     self.claimants(MdtFid(fid))
                         .iter()
-                        .map(|(row, _)| finding_json(&self.finding(Position::Object(*row))))
+                        .map(|(row, _)| finding_json(&self.claimant(*row)))
                         .collect(),
                 ),
             ),
@@ -296,6 +346,11 @@ fn claim_words(object: &Object) -> String {
     }
 }
 
+/// How many slots were compared to find a keeper, in words.
+fn compared_words(compared: usize) -> String {
+    format!("{} compared to find the keeper", slots_words(compared))
+}
+
 /// Why a position has its class and what its repair would do, where there is something to say.
 fn more(finding: &Finding) -> String {
     let mut text = String::new();
@@ -307,6 +362,9 @@ fn more(finding: &Finding) -> String {
         }
         (Class::Kept, _) | (_, None) => (),
         (_, Some((_, rule))) => add(format!("this slot is the keeper: {}", rule.words())),
+    }
+    if let (Position::Slot(_), Some(compared)) = (finding.position, finding.compared) {
+        add(compared_words(compared));
     }
     if let Some(denial) = &finding.denial {
         add(format!("no repair: {denial}"));

@@ -1,5 +1,6 @@
-//! Cases that a version without the class WRONG-OST left: its log has no count of that class, and
-//! its position is of the first format, which never counts.
+//! Cases that earlier versions left. One is without the class WRONG-OST: its log has no count of it,
+//! and its position is of the first format, which never counts. Of the others logs and positions are
+//! like those of this version.
 
 use crate::bytes::{object_row, parent_row};
 use crate::json::Value;
@@ -118,6 +119,32 @@ fn its_run_can_be_taken_back() {
     case.run(&["undo"]).expect(0);
     assert_eq!(case.read("parents.tbl")[OWN_ID], 9);
     assert!(!case.files().contains_key(POSITION));
+}
+
+/// A run of a version with the class WRONG-OST is gone on with and taken back like one of this.
+#[test]
+fn versions_with_the_class_are_gone_on_from() {
+    for version in ["0.2.0", "0.3.0"] {
+        let case = Case::sample("earlier-goes-on");
+        let before = case.read("parents.tbl");
+        case.run(&["run", "--create", "--steps", "6"]).expect(1);
+        let log = String::from_utf8(case.read(LOG)).expect("a text");
+        let other = log.replace(VERSION, &format!("\"version\":\"{version}\""));
+        assert_ne!(other, log);
+        case.write(LOG, other.as_bytes());
+        let left = case.files();
+        let told = case.run(&["run", "--create"]).expect(0).out;
+        assert!(told.starts_with("The run goes on from the saved position.\n"));
+        let told = case.json(&["log"], 0);
+        let entries = told.list("entries");
+        let versions: Vec<&str> = entries.iter().map(|it| it.text("version")).collect();
+        assert_eq!(versions, [version, env!("CARGO_PKG_VERSION")]);
+        assert_eq!(entries[0].get("repairs").number("SELF"), 1);
+        case.restore(&left);
+        assert_ne!(case.read("parents.tbl"), before);
+        case.run(&["undo"]).expect(0);
+        assert_eq!(case.read("parents.tbl"), before);
+    }
 }
 
 /// A journal that puts a position in place where there is none.

@@ -82,7 +82,8 @@ fn full_tables_are_checked_classed_and_repaired() {
     // The two objects whose slots name others claim places that are taken.
     assert_eq!(summary.number("CONFLICT"), 2);
     assert_eq!(summary.number("UNUSED"), (OBJECTS - NAMED * SLOTS) as u64);
-    time("classes");
+    expect_compared(&case, classes.get("compared"));
+    time("classes and show");
 
     // The faults are in the first eight files.
     let steps = (8 * (1 + SLOTS)).to_string();
@@ -97,6 +98,19 @@ fn full_tables_are_checked_classed_and_repaired() {
     let left = (PARENTS - 8) * (1 + SLOTS) + OBJECTS;
     assert_eq!(report.number("steps_left"), left as u64);
     time("run");
+}
+
+/// One slot is compared for each, but 486 for the absent object, which slot 5 of the fourth file
+/// names, and 2 for the object of the seventh file that claims another slot of it.
+fn expect_compared(case: &Case, compared: &Value) {
+    let (slots, absent) = ((NAMED * SLOTS) as u64, (3 * SLOTS + 6) as u64);
+    let told = ["slots", "sum", "greatest"].map(|name| compared.number(name));
+    assert_eq!(told, [slots, slots - 2 + absent + 2, absent]);
+    let shown = case.json(&["show", "0x200000401:4"], 0);
+    let positions = &shown.get("file").list("positions")[1..];
+    let told: Vec<u64> = positions.iter().map(|it| it.number("compared")).collect();
+    let expected = (0..SLOTS).map(|slot| if slot == 5 { absent } else { 1 });
+    assert_eq!(told, expected.collect::<Vec<u64>>());
 }
 
 /// Starts a command that keeps the case long enough to see that nobody else gets it meanwhile.

@@ -5,6 +5,7 @@ mod beforehand;
 mod bytes;
 mod changes;
 mod commands;
+mod compared;
 mod earlier;
 mod foresee;
 mod histories;

@@ -45,7 +45,7 @@ Summary:
 ";
         assert!(told.starts_with(list), "{told}");
         let count = "  WRONG-OST       2  the object is on another OST than the slot names\n";
-        assert!(told.ends_with(count), "{told}");
+        assert!(told.contains(count), "{told}");
     }
     let json = case.json(&["classes", "--only", "WRONG-OST"], 0);
     let osts = |it: &Value| [it.number("slot_ost"), it.number("object_ost")];
@@ -70,6 +70,7 @@ fn show_tells_both_osts() {
   slot 0: WRONG-OST, names [0x240000400:0x29:0x0] on OST 2, generation 0
       the object is on OST 1, has owner 0:0 and claims slot 0 of [0x200000401:0xb:0x0]
       this slot is the keeper: the object claims this slot
+      1 slot compared to find the keeper
       repair, always: write the owner 1001:100, and OST 1, where the object is, into the slot, which names OST 2
 ";
     assert!(told.ends_with(lines), "{told}");
