@@ -128,7 +128,7 @@ fn compare(lent: Lent, [sequence, id]: [u64; 2], places: &[u64]) -> (u32, Vec<u6
         (answer, &theirs),
         (expected, &ours),
         "keeper of {sequence:#x}:{id:#x} in {}",
-        describe(lent.parents, lent.objects)
+        words_for(lent)
     );
     let (parents, objects) = black_box(&copy);
     assert!(
@@ -142,6 +142,15 @@ fn compare(lent: Lent, [sequence, id]: [u64; 2], places: &[u64]) -> (u32, Vec<u6
         "written past the keeper"
     );
     (answer, theirs)
+}
+
+/// The tables for a message; large ones only by their lengths.
+fn words_for(lent: Lent) -> String {
+    let lengths = [lent.parents.len(), lent.objects.len()];
+    if lengths.iter().sum::<usize>() > 100_000 {
+        return format!("tables of {lengths:?} bytes");
+    }
+    describe(lent.parents, lent.objects)
 }
 
 /// What was told is the keeper that the site knows and the length of the walk, within the bound.
