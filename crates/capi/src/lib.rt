@@ -2,6 +2,7 @@
 pub mod classes;
 pub mod input;
 pub mod intakes;
+pub mod keepers;
 pub mod layouts;
 pub mod links;
 pub mod runs;

@@ -1,12 +1,14 @@
 -- The keeper, case by case as the code finds it. Assumes nothing.
 use mathlib.Core.Path.{_≡_, refl, sym, ap, _∙_}
-use mathlib.Core.Bool.{Bool, true, false}
-use mathlib.Core.List.{List}
-use Prim.Native.Nat.{ℕ}
+use mathlib.Core.Bool.{Bool, true, false, cond}
+use mathlib.Core.List.{List, _∷_}
+use Prim.Native.Nat.{ℕ, _+_}
 use native.Mathlib.Omega.{arith}
+use lib.ListN.{take, drop}
+use Rattle.layout.specs.declared.Slot.{Slot}
 use Rattle.fid.specs.declared.OstFid.{OstFid}
 use Rattle.tables.specs.Records.{ParentRow, Tables}
-use Rattle.tables.specs.Positions.{width}
+use Rattle.tables.specs.Positions.{slotsOf, rowAt, width}
 use Rattle.tables.specs.declared.Claim.{Claim}
 use Rattle.tables.specs.declared.Claim.the-variants.{Claims}
 use Rattle.rules.specs.Search.{slotFrom, orElse, isSomewhere}
@@ -15,10 +17,13 @@ use Rattle.rules.specs.Keeper.{claimIn, inClaimed, atClaimed, keeperBy, keeper}
 use Rattle.rules.specs.declared.Row.the-variants.{RowIs, NoRow}
 use Rattle.rules.specs.declared.Found.{Found}
 use Rattle.rules.specs.declared.Found.the-variants.{At, Nowhere}
+use Rattle.rules.specs.Compared.{upTo, hit, inTurn}
+use Rattle.rules.proofs.ComparedLaws.{turn-hit, turn-miss, hit-claimed}
 use Rattle.rules.proofs.Tests.{clash}
 use Rattle.rules.proofs.Searches.{OneParent, FirstPlace, nowhere, first, scan-first, keeper-names}
 use Rattle.rules.proofs.Looks.{lookAt, lookIn, keeper-looks}
 use Rattle.tables.specs.declared.Place.{Place}
+use Rattle.search.proofs.PlaceSearch.{or-hit, or-miss}
 
 module _ (ps : List ParentRow) (f : OstFid) (home : Place) (one : OneParent ps) where
   -- the claimed parent is absent
@@ -26,26 +31,31 @@ module _ (ps : List ParentRow) (f : OstFid) (home : Place) (one : OneParent ps) 
   unfolding lookAt lookIn orElse
   keeper-absent e = rw (keeper-looks ps f home one, e)
 
-  module _ (m : ℕ) (e : parentRow ps (home .file) ≡ RowIs m) where
-    -- "the claimed slot if that one names it"
-    pub keeper-claimed : namesAt ps f m (home .index) ≡ true → At m (home .index) ≡ keeperBy ps f (Claims home)
-    unfolding lookAt lookIn orElse
-    keeper-claimed t = rw (keeper-looks ps f home one, e, t)
+  -- it is in row m: "the claimed slot if that one names it; else the first slot naming it in the claimed parent; else the first in scan order"
+  pub keeper-in : (m : ℕ) → parentRow ps (home .file) ≡ RowIs m →
+      orElse (cond (namesAt ps f m (home .index)) (At m (home .index)) Nowhere) (orElse (slotFrom m (width ps m) 0 (namesAt ps f)) (scan ps (namesAt ps f)))
+      ≡ keeperBy ps f (Claims home)
+  unfolding lookAt lookIn
+  keeper-in m e = rw (keeper-looks ps f home one, e)
 
-    -- "else the first slot naming it in the claimed parent; else the first in scan order"
-    pub keeper-near : namesAt ps f m (home .index) ≡ false → (a : Found) → a ≡ orElse (slotFrom m (width ps m) 0 (namesAt ps f)) (scan ps (namesAt ps f)) →
-        a ≡ keeperBy ps f (Claims home)
-    unfolding lookAt lookIn orElse
-    keeper-near t a q = rw (keeper-looks ps f home one, e, t) q
+-- ## One case after another: the first finds `here` among its slots or nothing, the others find `there`
 
--- the first of two searches that finds something
-pub or-found : (a b : Found) (r j : ℕ) → At r j ≡ a → At r j ≡ orElse a b
-unfolding orElse
-or-found a b r j e = rw (← e)
+module _ (f : OstFid) (l : List Slot) (rest : List (List Slot)) (here there : Found) (e : hit f l ≡ isSomewhere here) (x : Found) (n : ℕ) (q : x ≡ here) (k : n ≡ upTo f l) where
+  pub turn-found : isSomewhere x ≡ true → (x ≡ orElse here there) × (n ≡ inTurn f (l ∷ rest))
+  turn-found t = (or-hit here there x q t, k ∙ turn-hit f l rest (e ∙ ap isSomewhere (sym q) ∙ t))
 
-pub or-other : (a b c : Found) → Nowhere ≡ a → c ≡ b → c ≡ orElse a b
-unfolding orElse
-or-other a b c e q = rw (← e) q
+  pub turn-next : isSomewhere x ≡ false → (y : Found) (m : ℕ) → y ≡ there → m ≡ inTurn f rest → (y ≡ orElse here there) × (n + m ≡ inTurn f (l ∷ rest))
+  turn-next t y m u v =
+      (u ∙ sym (or-miss here there x q t), ap (λ (w : ℕ). w + m) k ∙ turn-miss f l rest m (e ∙ ap isSomewhere (sym q) ∙ t) v)
+
+-- the claimed slot is a hit where it is found
+pub hit-there : (ps : List ParentRow) (f : OstFid) (r j : ℕ) → hit f (take 1 (drop j (slotsOf (rowAt ps r)))) ≡ isSomewhere (cond (namesAt ps f r j) (At r j) Nowhere)
+unfolding isSomewhere
+hit-there ps f r j = hit-claimed ps f r j ∙ go (namesAt ps f r j)
+  where
+    go : (b : Bool) → b ≡ isSomewhere (cond b (At r j) Nowhere)
+    go true = refl
+    go false = refl
 
 -- the keeper is that of the object's claim
 pub keeper-is : (T : Tables) (f : OstFid) (c : Claim) → c ≡ claimIn (objectOf (T .objects) f) → keeperBy (T .parents) f c ≡ keeper T f

@@ -7,5 +7,6 @@ pub mod FoundRows
 -- Slots and the keeper
 pub mod SlotArea
 pub mod NamingLaws
+pub mod CountLaws
 pub mod KeeperLaws
 pub mod ReserveLaws

@@ -40,8 +40,9 @@ fn after(missed: usize, next: Search) -> Search
     ensures place { λ a. ⌜ a .place ≡ next .place ⌝ }
     ensures compared { λ a. ⌜ a .compared ≡ missed + next .compared ⌝ }
 {
+    let place = next.place;
     Search {
-        place: next.place,
+        place: place,
         compared: missed + next.compared,
     }
 }
@@ -53,7 +54,8 @@ fn search_in(parents: &[u8], f: OstFid, r: usize) -> Search
     ensures compared { λ a. ⌜ a .compared ≡ inTurn f (slotsOf (rowAt (parseParents (now (parents .entry))) r) ∷ allSlots (parseParents (now (parents .entry))) ∷ []) ⌝ }
 {
     let near = slots::first_in(parents, f, r);
-    if naming::is_somewhere(near.place) {
+    let place = near.place;
+    if naming::is_somewhere(place) {
         return near;
     }
     after(near.compared, naming::first_naming(parents, f))
@@ -66,7 +68,8 @@ fn search_from(parents: &[u8], f: OstFid, r: usize, j: usize) -> Search
     ensures compared { λ a. ⌜ a .compared ≡ inTurn f (take 1 (drop j (slotsOf (rowAt (parseParents (now (parents .entry))) r))) ∷ slotsOf (rowAt (parseParents (now (parents .entry))) r) ∷ allSlots (parseParents (now (parents .entry))) ∷ []) ⌝ }
 {
     let claimed = slots::claimed_at(parents, f, r, j);
-    if naming::is_somewhere(claimed.place) {
+    let place = claimed.place;
+    if naming::is_somewhere(place) {
         return claimed;
     }
     after(claimed.compared, search_in(parents, f, r))

@@ -48,20 +48,22 @@ pub fn first_naming(parents: &[u8], f: OstFid) -> Search
     ensures compared { λ a. ⌜ a .compared ≡ upTo f (allSlots (parseParents (now (parents .entry)))) ⌝ }
 {
     let n = parents.len() / PARENT_SIZE;
-    let mut seen = 0;
-    for r in 0..n {
-        let row = slots::first_in(parents, f, r);
-        seen = seen + row.compared;
-        if is_somewhere(row.place) {
-            return Search {
-                place: row.place,
-                compared: seen,
-            };
+    let mut place = Found::Nowhere;
+    let mut compared = 0;
+    'rows: for r in 0..n {
+        let area = slots::slot_area(rows::row_at(parents, PARENT_SIZE, r));
+        let count = area.len() / SLOT_SIZE;
+        for j in 0..count {
+            compared = compared + 1;
+            if layout::names(layout::slot_at(area, j), f) {
+                place = Found::At(r, j);
+                break 'rows;
+            }
         }
     }
     Search {
-        place: Found::Nowhere,
-        compared: seen,
+        place: place,
+        compared: compared,
     }
 }
 
@@ -91,7 +93,8 @@ pub fn named(parents: &[u8], f: OstFid) -> bool
     ensures { λ b. ⌜ b ≡ named (parseParents (now (parents .entry))) f ⌝ }
 {
     let first = first_naming(parents, f);
-    is_somewhere(first.place)
+    let place = first.place;
+    is_somewhere(place)
 }
 
 // Whether a slot other than slot j of row r names an object.
