@@ -104,6 +104,7 @@ enum {
     LFSCK_SLOT_NUMBERS = 5,     /* a slot */
     LFSCK_POSITION_NUMBERS = 3, /* a position: stage, row, part */
     LFSCK_CLASS_NUMBERS = 4,    /* a class and what it carries */
+    LFSCK_KEEPER_NUMBERS = 4,   /* a keeper and the slots compared */
     LFSCK_REPORT_NUMBERS = 10,  /* the report of a run */
     LFSCK_LINK_FIELDS = 4,      /* the header of a linkEA */
     LFSCK_RECORD_READ = 6,      /* a record of a linkEA that was read */

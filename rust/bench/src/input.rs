@@ -13,7 +13,10 @@ const SLOTS_AT: usize = parent::LAYOUT_AT + HEADER_ONE;
 const SLOT: usize = layout::SLOT_BYTES;
 
 const FILES: u64 = 0x2_0000_0401;
-const OBJECTS: u64 = 0x2_4000_0400;
+/// The sequence of objects.
+pub const OBJECTS: u64 = 0x2_4000_0400;
+/// An id above those of all objects, named and not.
+pub const PAST_OBJECTS: u64 = 3_000_000;
 
 /// The three tables of a call.
 #[derive(Clone, PartialEq, Eq)]

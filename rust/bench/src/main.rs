@@ -4,7 +4,7 @@ use std::io::Write;
 use std::time::Duration;
 
 use bench::dump::{Dump, Shape};
-use bench::input::{Names, Tables};
+use bench::input::{Names, OBJECTS, PAST_OBJECTS, Tables};
 use bench::measure::{Timed, Times, side_by_side, timed};
 use bench::plain;
 use numbers::call::{self, END};
@@ -20,6 +20,11 @@ const ROUNDS: usize = 3;
 const POLICY: u64 = call::BOTH;
 /// The sizes between which the growth is measured.
 const SIZES: [usize; 5] = [10_000, 20_000, 40_000, 80_000, 160_000];
+
+/// The calls for a keeper in one measurement.
+const KEEPERS: u64 = 1_000;
+/// The objects of their tables: few, so that a FID twice is soon looked for.
+const KEPT: u64 = 100;
 
 /// The records of a linkEA that is written or whose header is read.
 const RECORDS: usize = 1_000_000;
@@ -58,6 +63,7 @@ fn main() {
     let classes = measure_growth(rounds);
     measure_run(rounds);
     measure_listing(rounds);
+    measure_keepers(rounds);
     measure_link(rounds);
     for shape in SHAPES {
         measure_intake(shape, rounds);
@@ -163,6 +169,67 @@ fn list(tables: &Tables, call: ListCall) -> Timed<Vec<u64>> {
         timed(|| call(parents, objects, &mut position, &mut out, &mut done));
     assert_eq!((result, position, done), (0, END, steps[0]));
     Timed { result: out, took }
+}
+
+/// Keepers asked for one after the other in a thousand full files: of objects that claim the slots
+/// that name them, and of FIDs that no slot names.
+fn measure_keepers(rounds: usize) {
+    let slots = 1000 * SLOTS;
+    let mut tables = Tables::clean(slots, KEPT as usize, 0);
+    tables.fill(slots);
+    let clean: Vec<u64> = (0..KEEPERS).map(|call| call % KEPT + 1).collect();
+    let unnamed = (0..KEEPERS).map(|call| PAST_OBJECTS + call).collect();
+    let all = slots as u64;
+    for (what, ids, keeper) in [
+        ("of a clean slot's object", clean, [1, 1]),
+        ("of a FID that nothing names", unnamed, [0, all]),
+    ] {
+        let times = side_by_side(
+            rounds,
+            || keepers(&tables, &ids, keeper, lfsck_keeper),
+            || keepers(&tables, &ids, keeper, plain::keeper),
+        );
+        let calls = grouped(KEEPERS as usize);
+        let what =
+            format!("keeper {what}, {calls} calls: 1,000 files of 160 slots, {KEPT} objects");
+        print_line(&what, times, "");
+    }
+}
+
+/// A keeper by either side.
+type KeeperCall = fn(&[u8], &[u8], u64, u64, &mut [u64; call::KEEPER]) -> u32;
+
+/// The library's keeper.
+fn lfsck_keeper(
+    parents: &[u8],
+    objects: &[u8],
+    sequence: u64,
+    id: u64,
+    out: &mut [u64; call::KEEPER],
+) -> u32 {
+    lfsck_sys::keeper(parents, objects, sequence, id, out)
+}
+
+/// Times the calls for some ids, all of which must find a keeper, or none, with so many slots
+/// compared.
+fn keepers(
+    tables: &Tables,
+    ids: &[u64],
+    [found, compared]: [u64; 2],
+    call: KeeperCall,
+) -> Timed<Vec<[u64; call::KEEPER]>> {
+    let told = timed(|| {
+        let keeper = |&id| {
+            let mut out = [0; call::KEEPER];
+            let answer = call(&tables.parents, &tables.objects, OBJECTS, id, &mut out);
+            assert_eq!(answer, 0);
+            out
+        };
+        ids.iter().map(keeper).collect::<Vec<_>>()
+    });
+    let is_so = |keeper: &[u64; call::KEEPER]| [keeper[0], keeper[3]] == [found, compared];
+    assert!(told.result.iter().all(is_so));
+    told
 }
 
 /// A run by either side.

@@ -9,6 +9,7 @@ mod bytes;
 mod check;
 mod class;
 mod intake;
+mod keeper;
 mod layout;
 mod link;
 mod listing;
@@ -19,6 +20,7 @@ mod search;
 
 pub use check::check;
 pub use intake::{State as IntakeState, intake_end, intake_feed};
+pub use keeper::keeper;
 pub use link::{link_read, link_record, link_write};
 pub use listing::classes;
 pub use run::run;

@@ -1,9 +1,11 @@
 //! The plain algorithm does what the library does, so the comparison is a fair one.
 
 use bench::plain;
-use difftest::tables::{OBJECTS, Shape, random_tables, to_bytes};
+use difftest::tables::{OBJECTS, Shape, damage, random_tables, to_bytes};
 use difftest::{Coverage, Random};
 use numbers::call;
+use numbers::fid::FIRST_SEQUENCE;
+use reference::fid::Fid;
 
 const SHAPE: Shape = Shape {
     parents: 5,
@@ -81,6 +83,48 @@ fn the_classes_are_those_of_the_library() {
     }
     println!("{met:?}");
     assert!(met.iter().all(|&count| count > 100), "{met:?}");
+}
+
+/// Of FIDs that are known and of others, good and not, in tables that pass the check and in damaged
+/// ones.
+#[test]
+fn keepers_are_those_of_the_library() {
+    let mut random = Random::for_test("plain keepers");
+    let mut answers = Coverage::of("plain keepers", [0, 11, 13, 14, 15]);
+    let mut found = Coverage::of("plain keepers found", [false, true]);
+    let mut compared = Coverage::of("slots compared", ["none", "one", "several"]);
+    for _ in 0..20_000 {
+        let (mut parents, mut objects) = to_bytes(&random_tables(SHAPE, &mut random), &mut random);
+        if random.one_in(4) {
+            damage(&mut parents, &mut objects, &mut random);
+        }
+        for fid in OBJECTS {
+            let [sequence, id] = random_numbers(fid, &mut random);
+            let (mut out, mut plain_out) = ([99; call::KEEPER], [99; call::KEEPER]);
+            let answer = lfsck_sys::keeper(&parents, &objects, sequence, id, &mut out);
+            let plain_answer = plain::keeper(&parents, &objects, sequence, id, &mut plain_out);
+            assert_eq!((plain_answer, plain_out), (answer, out));
+            answers.met(answer);
+            if answer == 0 {
+                found.met(out[0] == 1);
+                compared.met(["none", "one", "several"][out[3].min(2) as usize]);
+            }
+        }
+    }
+    answers.require(1000);
+    found.require(1000);
+    compared.require(1000);
+}
+
+/// The numbers of a FID, now and then changed so that it is not good.
+fn random_numbers(fid: Fid, random: &mut Random) -> [u64; 2] {
+    let (sequence, id) = (fid.sequence, u64::from(fid.id));
+    match random.below(16) {
+        0 => [random.pick(&[0, FIRST_SEQUENCE - 1, u64::MAX]), id],
+        1 => [sequence, 0],
+        2 => [sequence, id | 1 << 32],
+        _ => [sequence, id],
+    }
 }
 
 #[test]

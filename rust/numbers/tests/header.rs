@@ -55,6 +55,7 @@ fn what_calls_are_handed() {
         ("LFSCK_SLOT_NUMBERS", call::SLOT),
         ("LFSCK_POSITION_NUMBERS", call::POSITION),
         ("LFSCK_CLASS_NUMBERS", call::CLASS),
+        ("LFSCK_KEEPER_NUMBERS", call::KEEPER),
         ("LFSCK_REPORT_NUMBERS", call::REPORT),
         ("LFSCK_LINK_FIELDS", call::LINK_HEADER),
         ("LFSCK_RECORD_READ", call::LINK_READ),

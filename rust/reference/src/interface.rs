@@ -5,6 +5,7 @@
 mod check;
 mod class;
 mod intake;
+mod keeper;
 mod layout;
 mod link;
 mod run;
@@ -12,6 +13,7 @@ mod run;
 pub use check::{check, start, steps};
 pub use class::{class, classes};
 pub use intake::{Feeding, STATE_BYTES};
+pub use keeper::keeper;
 pub use layout::{
     layout_of_numbers, layout_read, layout_slot, layout_write, numbers_of_slot, slot_of_numbers,
     slot_rewrite,

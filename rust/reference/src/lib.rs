@@ -14,6 +14,7 @@ pub mod layout;
 pub mod link;
 pub mod position;
 pub mod run;
+pub mod search;
 pub mod site;
 pub mod step;
 pub mod tables;

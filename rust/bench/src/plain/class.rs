@@ -99,7 +99,7 @@ pub fn slot(parents: &[u8], objects: &[u8], at: usize, index: usize) -> Class {
     let fid = Fid::read(slot, 0);
     let found = object_row(objects, fid);
     let claim = found.map_or(NO_FID, |object| claim_of(objects, object));
-    if keeper(parents, fid, claim) != Some((at, index)) {
+    if keeper(parents, fid, claim).found != Some((at, index)) {
         return Class::Multiple;
     }
     let Some(object) = found else {
@@ -133,7 +133,10 @@ pub fn object(parents: &[u8], objects: &[u8], at: usize) -> Class {
         return Class::Unused;
     }
     let claim = Fid::read(own, object::CLAIM_AT);
-    if keeper(parents, Fid::read(own, SELF_AT), claim).is_some() {
+    if keeper(parents, Fid::read(own, SELF_AT), claim)
+        .found
+        .is_some()
+    {
         Class::Kept
     } else if claim == NO_FID {
         Class::Spare

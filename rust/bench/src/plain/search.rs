@@ -33,15 +33,47 @@ pub fn slot_at(parents: &[u8], at: usize, index: usize) -> Option<&[u8]> {
     (index < area.len() / SLOT_BYTES).then(|| slot(area, index))
 }
 
+/// A search for a slot that names an object: what it found, and how many slots it compared.
+pub struct Search {
+    pub found: Option<Place>,
+    pub compared: usize,
+}
+
+impl Search {
+    /// The same search, with the slots that were compared before it.
+    fn after(self, compared: usize) -> Search {
+        Search {
+            compared: compared + self.compared,
+            ..self
+        }
+    }
+}
+
 /// The first slot of parent row `at` that names an object.
-fn first_in(parents: &[u8], fid: Fid, at: usize) -> Option<usize> {
-    let area = slot_area(row(parents, parent::BYTES, at));
-    (0..area.len() / SLOT_BYTES).find(|&index| names(slot(area, index), fid))
+fn first_in(parents: &[u8], fid: Fid, at: usize) -> Search {
+    let mut slots = slot_area(row(parents, parent::BYTES, at)).chunks_exact(SLOT_BYTES);
+    let count = slots.len();
+    let index = slots.position(|slot| names(slot, fid));
+    Search {
+        found: index.map(|index| (at, index)),
+        compared: index.map_or(count, |index| index + 1),
+    }
 }
 
 /// The first slot in scan order that names an object.
-pub fn first_naming(parents: &[u8], fid: Fid) -> Option<Place> {
-    (0..parents.len() / parent::BYTES).find_map(|at| Some((at, first_in(parents, fid, at)?)))
+fn first_naming(parents: &[u8], fid: Fid) -> Search {
+    let mut compared = 0;
+    for at in 0..parents.len() / parent::BYTES {
+        let search = first_in(parents, fid, at).after(compared);
+        if search.found.is_some() {
+            return search;
+        }
+        compared = search.compared;
+    }
+    Search {
+        found: None,
+        compared,
+    }
 }
 
 /// Whether a slot other than `place` names an object.
@@ -60,21 +92,27 @@ pub fn claim_of(objects: &[u8], at: usize) -> Fid {
 
 /// The keeper of an object with this claim: the claimed slot if that one names it; else the
 /// first slot naming it in the claimed parent; else the first in scan order.
-pub fn keeper(parents: &[u8], fid: Fid, claim: Fid) -> Option<Place> {
+pub fn keeper(parents: &[u8], fid: Fid, claim: Fid) -> Search {
     if claim == NO_FID {
         return first_naming(parents, fid);
     }
     let Some(at) = parent_row(parents, claim.file()) else {
         return first_naming(parents, fid);
     };
-    let claimed = slot_at(parents, at, claim.version as usize);
+    let index = claim.version as usize;
+    let claimed = slot_at(parents, at, index);
+    let compared = usize::from(claimed.is_some());
     if claimed.is_some_and(|slot| names(slot, fid)) {
-        return Some((at, claim.version as usize));
+        return Search {
+            found: Some((at, index)),
+            compared,
+        };
     }
-    match first_in(parents, fid, at) {
-        Some(index) => Some((at, index)),
-        None => first_naming(parents, fid),
+    let in_parent = first_in(parents, fid, at).after(compared);
+    if in_parent.found.is_some() {
+        return in_parent;
     }
+    first_naming(parents, fid).after(in_parent.compared)
 }
 
 /// The first FID of the reserve that is neither in the object table nor named by a slot.
@@ -82,6 +120,6 @@ pub fn usable(parents: &[u8], objects: &[u8], reserve: &[u8]) -> Option<Fid> {
     let fids = (0..reserve.len() / reserve::BYTES)
         .map(|at| Fid::read(row(reserve, reserve::BYTES, at), 0));
     let in_use =
-        |fid: Fid| object_row(objects, fid).is_some() || first_naming(parents, fid).is_some();
+        |fid: Fid| object_row(objects, fid).is_some() || first_naming(parents, fid).found.is_some();
     fids.into_iter().find(|&fid| !in_use(fid))
 }

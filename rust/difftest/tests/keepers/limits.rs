@@ -1,0 +1,178 @@
+//! The bound, and the most slots that a search can compare, at the limits of the tables.
+
+use std::time::Instant;
+
+use numbers::call::KEEPER;
+use reference::check::{MOST_OBJECTS, MOST_PARENTS};
+use reference::fid::Fid;
+use reference::layout::{Layout, MOST_SLOTS, Stripe, Version};
+use reference::tables::{Claim, OBJECT_BYTES, Object, Owner, PARENT_BYTES, Parent};
+
+use crate::{Lent, compare};
+
+/// The object that is asked for.
+const A: Fid = Fid::new(0x2_8000_0400, 7);
+const OWNER: Owner = Owner { uid: 0, gid: 0 };
+const SLOTS: u64 = MOST_SLOTS as u64;
+const ALL_SLOTS: u64 = MOST_PARENTS as u64 * SLOTS;
+
+fn file_fid(row: usize) -> Fid {
+    Fid::new(0x2_0000_0401, row as u32 + 1)
+}
+
+/// The file of a row, with so many slots that name objects of their own.
+fn file(row: usize, slots: usize) -> Parent {
+    let fid = file_fid(row);
+    let stripe = |slot| {
+        Some(Stripe {
+            object: Fid::new(0x2_4000_0400, (MOST_SLOTS * row + slot + 1) as u32),
+            generation: 0,
+            ost: 0,
+        })
+    };
+    Parent {
+        fid,
+        owner: OWNER,
+        layout: Layout {
+            version: Version::Three([0; 16]),
+            holes_allowed: false,
+            own_id: fid.id.into(),
+            own_sequence: fid.sequence,
+            stripe_size: 1_048_576,
+            generation: 0,
+            slots: (0..slots).map(stripe).collect(),
+        },
+    }
+}
+
+/// Names A in a slot.
+fn name(file: &mut Parent, slot: usize) {
+    file.layout.slots[slot].as_mut().expect("a stripe").object = A;
+}
+
+fn parents_of(files: impl Iterator<Item = Parent>) -> Vec<u8> {
+    let mut bytes = Vec::new();
+    for file in files {
+        let mut row = vec![0; PARENT_BYTES];
+        file.write(&mut row);
+        bytes.extend(row);
+    }
+    bytes
+}
+
+/// A row of an object that claims a slot of the file in a row, or nothing.
+fn object(fid: Fid, claim: Option<(usize, u32)>) -> Vec<u8> {
+    let mut bytes = vec![0; OBJECT_BYTES];
+    let claim = claim.map(|(row, index)| Claim {
+        parent: file_fid(row),
+        index,
+    });
+    let object = Object {
+        fid,
+        ost: 0,
+        owner: OWNER,
+        claim,
+        fresh: false,
+    };
+    object.write(&mut bytes);
+    bytes
+}
+
+/// The numbers of A's keeper by both sides.
+fn keeper_of_a(parents: &[u8], objects: &[u8]) -> [u64; KEEPER] {
+    let lent = Lent { parents, objects };
+    let (answer, out) = compare(lent, [A.sequence, A.id.into()], &[99; KEEPER]);
+    assert_eq!(answer, 0);
+    out.try_into().expect("so many numbers")
+}
+
+/// One file of 160 slots and no slot for A: 1, 160 and 160 are twice all slots plus 1.
+#[test]
+fn the_bound_is_reached_in_one_file() {
+    let parents = parents_of(std::iter::once(file(0, MOST_SLOTS)));
+    let told = |claim| keeper_of_a(&parents, &object(A, claim));
+    for index in 0..MOST_SLOTS as u32 {
+        assert_eq!(told(Some((0, index))), [0, 0, 0, 321]);
+    }
+    for index in [160, 161, u32::MAX] {
+        assert_eq!(told(Some((0, index))), [0, 0, 0, 320]);
+    }
+    assert_eq!(told(Some((1, 0))), [0, 0, 0, 160]);
+    assert_eq!(told(None), [0, 0, 0, 160]);
+    assert_eq!(keeper_of_a(&parents, &[]), [0, 0, 0, 160]);
+}
+
+/// A in every slot of one file, and every slot claimed: 1 where it is the one; else 1, then the
+/// slots through the one that names it.
+#[test]
+fn every_slot_claimed_and_every_slot_named() {
+    for slot in 0..MOST_SLOTS {
+        let mut file = file(0, MOST_SLOTS);
+        name(&mut file, slot);
+        let parents = parents_of(std::iter::once(file));
+        for index in 0..=MOST_SLOTS {
+            let compared = match index {
+                _ if index == slot => 1,
+                MOST_SLOTS => slot + 1,
+                _ => 1 + slot + 1,
+            };
+            let told = keeper_of_a(&parents, &object(A, Some((0, index as u32))));
+            assert_eq!(told, [1, 0, slot as u64, compared as u64]);
+        }
+    }
+}
+
+/// With 1,024 files of 160 slots the most is 1, the 160 of the claimed file and all slots. The bound
+/// is reached there only if the other files have no slots.
+#[test]
+fn the_most_is_compared_in_the_greatest_tables() {
+    let started = Instant::now();
+    let last = MOST_PARENTS - 1;
+    let parents = parents_of((0..MOST_PARENTS).map(|row| file(row, MOST_SLOTS)));
+    let told = |claim| keeper_of_a(&parents, &object(A, claim));
+    let most = 1 + SLOTS + ALL_SLOTS;
+    assert_eq!(most, 164_001);
+    for row in [0, last] {
+        assert_eq!(told(Some((row, 159))), [0, 0, 0, most]);
+        assert_eq!(told(Some((row, 160))), [0, 0, 0, most - 1]);
+    }
+    assert_eq!(told(Some((last + 1, 0))), [0, 0, 0, ALL_SLOTS]);
+    assert_eq!(keeper_of_a(&parents, &[]), [0, 0, 0, ALL_SLOTS]);
+
+    let slots = |row| if row == last { MOST_SLOTS } else { 0 };
+    let parents = parents_of((0..MOST_PARENTS).map(|row| file(row, slots(row))));
+    let told = keeper_of_a(&parents, &object(A, Some((last, 0))));
+    assert_eq!(told, [0, 0, 0, 321]);
+    println!(
+        "greatest tables in {:.1} s",
+        started.elapsed().as_secs_f64()
+    );
+}
+
+/// A in the last slot of all: found by each case, and in the last row of as many objects as there
+/// may be.
+#[test]
+fn the_last_slot_of_the_greatest_tables_is_found() {
+    let started = Instant::now();
+    let last = MOST_PARENTS - 1;
+    let mut files: Vec<Parent> = (0..MOST_PARENTS).map(|row| file(row, MOST_SLOTS)).collect();
+    name(&mut files[last], MOST_SLOTS - 1);
+    let parents = parents_of(files.into_iter());
+    for (claim, compared) in [
+        (Some((last, 159)), 1),
+        (Some((last, 0)), 1 + SLOTS),
+        (Some((last, 160)), SLOTS),
+        (Some((0, 0)), 1 + SLOTS + ALL_SLOTS),
+        (None, ALL_SLOTS),
+    ] {
+        let told = keeper_of_a(&parents, &object(A, claim));
+        assert_eq!(told, [1, last as u64, 159, compared]);
+    }
+    let others = (1..MOST_OBJECTS as u32).map(|id| Fid::new(0x2_4000_0400, id));
+    let mut objects: Vec<u8> = others.flat_map(|fid| object(fid, None)).collect();
+    objects.extend(object(A, Some((last, 0))));
+    assert_eq!(objects.len(), MOST_OBJECTS * OBJECT_BYTES);
+    let told = keeper_of_a(&parents, &objects);
+    assert_eq!(told, [1, last as u64, 159, 1 + SLOTS]);
+    println!("the last slot in {:.1} s", started.elapsed().as_secs_f64());
+}
