@@ -236,8 +236,8 @@ uint32_t lfsck_classes(const uint8_t *parents, size_t parents_bytes,
 /*
  * The keeper of an object, the one slot that counts as naming it, and how many slots were compared
  * to find it. Three cases are taken in turn, each up to its first hit, and none after a hit: the
- * claimed slot, if the claimed file has that many; the slots of the claimed file from slot 0 on;
- * all slots, file by file in the order of their rows. Without object, claim or claimed file there
+ * claimed slot, if the claimed file has it; the slots of the claimed file from slot 0 on; all
+ * slots, file by file in the order of their rows. Without object, claim or claimed file there
  * is the last alone. A hole is compared like any other slot, and a slot that was compared before
  * counts again: 1 where the claimed slot names the object, and at most twice all slots plus 1.
  *

@@ -15,7 +15,7 @@ unsafe extern "C" {
 
 /// Hands out the keeper of an object, 4 numbers: 1 where a slot names the object, its parent row
 /// and its slot, or 0, 0 and 0 where none does; then the slots compared. Answers 0, 11, 13 to 15
-/// or 17; 14 also where the FID that is asked for is not good.
+/// or 17; 14 also where the FID that is asked for is not good or its id above 32 bits.
 pub fn keeper(parents: &[u8], objects: &[u8], sequence: u64, id: u64, out: &mut [u64]) -> u32 {
     // SAFETY: the slices are live for the call, each with its own count; only `out`, lent by
     // `&mut`, is written. The FID is numbers that the library checks.
