@@ -29,6 +29,12 @@ module _ (s i : ℕ) where
 
 -- ## The number
 
+-- a bad FID that is asked for is 14, whether a FID stands twice in the tables or not
+pub bad-before-twice : (p o : List ℕ) (s i : ℕ) → goodAsked s i ≡ false → tablesWhole p o [] ≡ true → goodLayouts p ≡ true → goodFids p o [] ≡ true →
+    keeperNumber p o s i ≡ 14
+unfolding keeperNumber keeperTests firstFailing
+bad-before-twice p o s i g w l f = rw (g, w, l, f)
+
 -- of the four tests in their order
 order : Bool → Bool → Bool → Bool → ℕ
 order w l f d = firstFailing (test 11 w ∷ test 13 l ∷ test 14 f ∷ test 15 d ∷ [])

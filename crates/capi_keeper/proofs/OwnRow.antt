@@ -1,11 +1,9 @@
 -- One row of a table that passes: it passes too, and says of its object what the table says; so the answer for that object is the same. Assumes nothing.
 use mathlib.Core.Path.{_≡_, refl, sym, ap, _∙_}
 use mathlib.Core.List.{List, [], _∷_}
-use mathlib.Core.Bool.{Bool, true, false, cond, not, _&&_}
-use Prim.Native.Nat.{ℕ, _*_, _/_, _≤_, _<_}
+use mathlib.Core.Bool.{Bool, true, false, cond, _&&_}
+use Prim.Native.Nat.{ℕ, _*_, _/_, _<_}
 use native.Mathlib.Omega.{arith}
-use borrow.Author.Tests.{eq-eqb, le-leb}
-use lib.Dec.{eqb, leb}
 use lib.ListN.{length, take, drop}
 use lib.Seq.{take-all}
 use Rattle.wire.specs.Rows.{rows}
@@ -13,11 +11,11 @@ use Rattle.wire.proofs.Both.{and-first, and-second}
 use Rattle.fid.specs.declared.OstFid.{OstFid}
 use Rattle.tables.specs.Records.{ObjectRow}
 use Rattle.tables.specs.Bytes.{objectSize, isUsed, objectRows, parentRows, reserveEntries, parseObject, parseObjects}
-use Rattle.tables.specs.Check.{all, whenUsed, wholeRows, maxObjects, usedMark, freshMark, parentsWhole, objectsWhole, tablesWhole, reserveWhole, goodParent, goodObject, goodEntry, goodFids, noneTwice, hasSelf, allDifferent, Sound}
+use Rattle.tables.specs.Check.{all, whenUsed, wholeRows, usedMark, freshMark, parentsWhole, objectsWhole, tablesWhole, reserveWhole, goodParent, goodObject, goodEntry, goodFids, noneTwice, hasSelf, allDifferent, Sound}
 use Rattle.tables.proofs.AllLaws.{row-fits, part-length, all-at}
 use Rattle.tables.proofs.CheckLaws.{sound-pass, pass-sound}
 use Rattle.tables.proofs.SoundLaws.{sound-facts}
-use Rattle.rules.specs.Rows.{objectRow, objectOf, objectInRow, objectAt, isObject, firstRow}
+use Rattle.rules.specs.Rows.{objectRow, objectOf, objectInRow, isObject, firstRow}
 use Rattle.rules.specs.Search.{rowFrom}
 use Rattle.rules.specs.declared.Row.the-variants.{RowIs, NoRow}
 use Rattle.rules.specs.Keeper.{keeper}
@@ -58,14 +56,14 @@ module _ (p o : List ℕ) (sound : Sound p o) where
   swap q w g d =
       let k = sound-pass p o sound in
       let pw = and-first (parentsWhole p) (objectsWhole o) (and-first (parentsWhole p && objectsWhole o) (reserveWhole []) (k .whole)) in
-      let rw0 = and-second (parentsWhole p && objectsWhole o) (reserveWhole []) (k .whole) in
-      let gp = all (whenUsed goodParent) (parentRows p) in
-      let go = all (whenUsed goodObject) (objectRows o) in
-      let ge = all goodEntry (reserveEntries []) in
-      let pg = and-first gp go (and-first (gp && go) ge (k .fids)) in
-      let eg = and-second (gp && go) ge (k .fids) in
+      let none = and-second (parentsWhole p && objectsWhole o) (reserveWhole []) (k .whole) in
+      let pp = all (whenUsed goodParent) (parentRows p) in
+      let oo = all (whenUsed goodObject) (objectRows o) in
+      let ee = all goodEntry (reserveEntries []) in
+      let pg = and-first pp oo (and-first (pp && oo) ee (k .fids)) in
+      let eg = and-second (pp && oo) ee (k .fids) in
       let pd = and-first (noneTwice (parentRows p)) (noneTwice (objectRows o)) (k .different) in
-      pass-sound p q (record { whole = rw (pw, w, rw0); layouts = k .layouts; fids = rw (pg, g, eg); different = rw (pd, d) })
+      pass-sound p q (record { whole = rw (pw, w, none); layouts = k .layouts; fids = rw (pg, g, eg); different = rw (pd, d) })
 
   -- no row of it
   none-sound : Sound p []

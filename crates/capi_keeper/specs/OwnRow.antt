@@ -1,4 +1,4 @@
--- Of the objects, the answer for a FID depends on its own row: who lends that row alone is answered as with all of them.
+-- Where the tables pass, the answer for a FID depends, of the objects, on its own row: who lends that row alone is answered as with all of them.
 use Prim.Native.Nat.{ℕ, _*_}
 use mathlib.Core.Path.{_≡_}
 use mathlib.Core.List.{List, []}

@@ -13,7 +13,7 @@ use Rattle.layout.specs.Slot.{slotNames}
 use Rattle.layout.specs.declared.Slot.{Slot}
 use Rattle.layout.specs.declared.Slot.the-variants.{Hole}
 use Rattle.tables.specs.Records.{ParentRow, Tables, unused}
-use Rattle.tables.specs.Positions.{slotsOf, rowAt, width}
+use Rattle.tables.specs.Positions.{slotsOf, rowAt, width, rowSteps}
 use Rattle.tables.specs.declared.Claim.{Claim}
 use Rattle.tables.specs.declared.Claim.the-variants.{Unclaimed, Claims}
 use Rattle.tables.specs.declared.Place.{Place}
@@ -24,7 +24,7 @@ use Rattle.rules.specs.declared.Found.the-variants.{At, Nowhere}
 use Rattle.rules.specs.Search.{slotFrom, placeFrom, isSomewhere}
 use Rattle.rules.specs.Rows.{parentRow, slotAt, namesAt, scan, named, objectOf}
 use Rattle.rules.specs.Keeper.{claimIn}
-use Rattle.rules.specs.Compared.{upTo, hit, inTurn, allSlots, casesIn, cases, comparedBy, compared, ClaimsIn, LessLooking}
+use Rattle.rules.specs.Compared.{upTo, hit, inTurn, allSlots, casesIn, cases, comparedBy, compared, LessLooking}
 use Rattle.rules.proofs.Tests.{clash, never}
 use Rattle.rules.proofs.Searches.{named-inside}
 
@@ -46,7 +46,7 @@ module _ (f : OstFid) where
       go false h = omega arith
 
   -- without a hit every one is compared
-  pub up-to-all : (l : List Slot) → hit f l ≡ false → upTo f l ≡ length l
+  up-to-all : (l : List Slot) → hit f l ≡ false → upTo f l ≡ length l
   unfolding upTo hit
   up-to-all [] e = refl
   up-to-all (s ∷ l) e = go (slotNames f s) e (up-to-all l)
@@ -56,7 +56,7 @@ module _ (f : OstFid) where
       go false q ih = ap suc (ih q)
 
   -- one list after another
-  pub hit-both : (l m : List Slot) → hit f (l ++ m) ≡ (hit f l || hit f m)
+  hit-both : (l m : List Slot) → hit f (l ++ m) ≡ (hit f l || hit f m)
   unfolding hit
   hit-both [] m = refl
   hit-both (s ∷ l) m = go (slotNames f s) (hit-both l m)
@@ -209,7 +209,7 @@ module _ (ps : List ParentRow) (f : OstFid) where
       go (At k j) ih = refl
       go Nowhere ih = ih
 
-  pub named-hit : named ps f ≡ hit f (allSlots ps)
+  named-hit : named ps f ≡ hit f (allSlots ps)
   unfolding named scan
   named-hit = place-hit (length ps) 0 (zero-add (length ps))
 
@@ -234,6 +234,11 @@ module _ (ps : List ParentRow) (f : OstFid) where
     compared-in r e = ap (λ (a : Row). inTurn f (casesIn ps p a)) (sym e)
 
 -- ## What is promised
+
+all-steps : (ps : List ParentRow) → rowSteps ps ≡ length ps + length (allSlots ps)
+unfolding rowSteps allSlots
+all-steps [] = refl
+all-steps (row ∷ ps) = let h = all-steps ps in rw (length-append (slotsOf row) (allSlots ps)) (omega (arith, h))
 
 pub take-one : (l : List Slot) → length (take 1 l) ≤ 1
 take-one [] = omega arith
@@ -281,6 +286,7 @@ module _ (ps : List ParentRow) (f : OstFid) where
 pub less-looking : (T : Tables) (f : OstFid) → LessLooking T f
 unfolding compared
 less-looking T f = record {
+  all = all-steps (T .parents);
   holes = hole-counts f;
   once = λ p r h t. rw (h .0) (once-in (T .parents) f p r (h .1) t);
   most = most-by (T .parents) f (claimIn (objectOf (T .objects) f));

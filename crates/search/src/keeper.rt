@@ -21,7 +21,7 @@ ghost use Rattle.tables.specs.Check.{goodLayouts, noneTwice};
 ghost use Rattle.rules.specs.Search.{slotFrom, orElse};
 ghost use Rattle.rules.specs.Rows.{namesAt, scan};
 ghost use Rattle.rules.specs.Keeper.{claimIn, keeperBy};
-ghost use Rattle.rules.specs.Compared.{upTo, inTurn, allSlots, comparedBy};
+ghost use Rattle.rules.specs.Compared.{inTurn, allSlots, comparedBy};
 ghost use Rattle.rules.specs.declared.Found.the-variants.{At, Nowhere};
 
 // What an object claims: nothing where it is absent.

@@ -44,7 +44,7 @@ pub fn slot_of(parents: &[u8], r: usize, j: usize) -> Slot
     layout::slot_at(area, j)
 }
 
-// The claimed slot, slot j of parent row r: one slot is compared where the row has that many, a hole too.
+// The claimed slot, slot j of parent row r: one slot is compared where the row has it, a hole too.
 pub fn claimed_at(parents: &[u8], f: OstFid, r: usize, j: usize) -> Search
     requires { ⌜ (goodLayouts (now parents) ≡ true) × (r < length (now parents) / parentSize) ⌝ }
     ensures place { λ a. ⌜ a .place ≡ cond (namesAt (parseParents (now (parents .entry))) f r j) (At r j) Nowhere ⌝ }

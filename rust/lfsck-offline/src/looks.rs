@@ -2,8 +2,8 @@
 //! out.
 //!
 //! Each call checks the tables that it is lent, and the time for objects grows with the square of
-//! their rows. But the answer depends on the files and on that object's row alone; so the files
-//! and this one row are lent, or no row where the object is absent.
+//! their rows. But in tables that pass the check the answer depends on the files and on that
+//! object's row alone; so these are lent, or no row where the object is absent.
 
 use std::collections::HashMap;
 use std::collections::hash_map::Entry;

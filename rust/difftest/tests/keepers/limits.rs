@@ -103,7 +103,7 @@ fn the_bound_is_reached_in_one_file() {
 }
 
 /// A in every slot of one file, and every slot claimed: 1 where it is the one; else 1, then the
-/// slots through the one that names it.
+/// slots through the one that names it. A claim at the count is without the 1.
 #[test]
 fn every_slot_claimed_and_every_slot_named() {
     for slot in 0..MOST_SLOTS {

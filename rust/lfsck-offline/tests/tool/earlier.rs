@@ -121,7 +121,8 @@ fn its_run_can_be_taken_back() {
     assert!(!case.files().contains_key(POSITION));
 }
 
-/// A run of a version with the class WRONG-OST is gone on with and taken back like one of this.
+/// A run of a version with the class WRONG-OST is gone on with and taken back like one of this. Its
+/// files have the same forms, so they are made here, with its number in the log.
 #[test]
 fn versions_with_the_class_are_gone_on_from() {
     for version in ["0.2.0", "0.3.0"] {
