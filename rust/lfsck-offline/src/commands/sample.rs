@@ -140,7 +140,7 @@ fn add_objects(objects: &mut Vec<u8>) {
     add(0x13, 3, ALICE, Some((3, 1)), false);
     // 0x14, the object of file 4, is absent.
     add(0x15, 1, ALICE, None, false);
-    add(0x16, 2, ALICE, Some((1, 1)), false);
+    add(0x16, 2, ALICE, Some((5, 0)), false);
     add(0x17, 3, ROOT, Some((5, 2)), false);
     add(0x18, 0, ALICE, Some((6, 0)), false);
     add(0x19, 1, ALICE, Some((7, 0)), false);

@@ -374,8 +374,9 @@ fn a_file_is_shown_with_its_slots_and_rules() {
     let told = case.run(&["show", "0x200000401:5"]).expect(0);
     for line in [
         "the object is on OST 1, has owner 1001:100 and claims nothing\n",
-        "the object is on OST 2, has owner 1001:100 and claims slot 1 of [0x200000401:0x1:0x0]\n",
         "this slot is the keeper: it is the first slot in scan order that names the object\n",
+        "the object is on OST 2, has owner 1001:100 and claims slot 0 of [0x200000401:0x5:0x0]\n",
+        "this slot is the keeper: it is the first slot that names the object in the claimed file\n",
         "the object is on OST 3, has owner 0:0 and claims slot 2 of [0x200000401:0x5:0x0]\n",
         "repair, always: write the owner 1001:100\n",
     ] {
