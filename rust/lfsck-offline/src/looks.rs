@@ -64,7 +64,7 @@ mod tests {
     use super::*;
     use crate::fid::Fid;
     use crate::why::{self, Rule};
-    use difftest::tables::{OBJECTS, Shape, random_tables, to_bytes};
+    use difftest::tables::{OBJECTS, Shape};
     use difftest::{Coverage, Random};
 
     /// Few files and objects, so that slots and claims meet; some FIDs are nobody's.
@@ -143,12 +143,7 @@ mod tests {
         let mut random = Random::for_test("slots compared");
         let mut met = Coverage::of("searches", WAYS.map(str::to_string));
         for _ in 0..10_000 {
-            let (parents, objects) = to_bytes(&random_tables(SHAPE, &mut random), &mut random);
-            let tables = Tables {
-                parents,
-                objects,
-                reserve: Vec::new(),
-            };
+            let tables = Tables::random(SHAPE, &mut random);
             let site = Site::new(&tables);
             let asked = asked(&site);
             let looks = looks(&tables, &site, asked.iter().copied()).expect("sound tables");

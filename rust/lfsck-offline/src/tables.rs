@@ -96,3 +96,17 @@ impl Tables {
         lfsck_sys::check(&[], &[], &self.reserve, 0, END) == 0
     }
 }
+
+#[cfg(test)]
+impl Tables {
+    /// Random tables that pass the check, with no reserve.
+    pub fn random(shape: difftest::tables::Shape, random: &mut difftest::Random) -> Tables {
+        let tables = difftest::tables::random_tables(shape, random);
+        let (parents, objects) = difftest::tables::to_bytes(&tables, random);
+        Tables {
+            parents,
+            objects,
+            reserve: Vec::new(),
+        }
+    }
+}

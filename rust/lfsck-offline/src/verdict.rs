@@ -130,7 +130,7 @@ impl<'case> Verdicts<'case> {
 mod tests {
     use super::*;
     use difftest::Random;
-    use difftest::tables::{Shape, random_tables, to_bytes};
+    use difftest::tables::Shape;
 
     /// Few files and objects, so that slots and claims meet.
     const SHAPE: Shape = Shape {
@@ -155,12 +155,7 @@ mod tests {
         let mut random = Random::for_test("verdicts");
         let mut met = [0_u64; numbers::call::CLASSES];
         for _ in 0..2_000 {
-            let (parents, objects) = to_bytes(&random_tables(SHAPE, &mut random), &mut random);
-            let tables = Tables {
-                parents,
-                objects,
-                reserve: Vec::new(),
-            };
+            let tables = Tables::random(SHAPE, &mut random);
             let site = Site::new(&tables);
             let mut positions: Vec<Position> = Position::all(&site).collect();
             let told = Verdicts::new(&tables, &site);
@@ -189,16 +184,12 @@ mod tests {
     fn the_steps_left_are_the_library_s_count_at_the_start() {
         let mut random = Random::for_test("steps left");
         for _ in 0..2_000 {
-            let (parents, objects) = to_bytes(&random_tables(SHAPE, &mut random), &mut random);
+            let tables = Tables::random(SHAPE, &mut random);
+            let (parents, objects) = (&tables.parents, &tables.objects);
             let mut count = [0];
-            assert_eq!(lfsck_sys::steps(&parents, &objects, &mut count), 0);
+            assert_eq!(lfsck_sys::steps(parents, objects, &mut count), 0);
             let mut start = [0; 3];
-            assert_eq!(lfsck_sys::start(&parents, &objects, &mut start), 0);
-            let tables = Tables {
-                parents,
-                objects,
-                reserve: Vec::new(),
-            };
+            assert_eq!(lfsck_sys::start(parents, objects, &mut start), 0);
             let site = Site::new(&tables);
             let start = Position::of_numbers(start).expect("a position");
             assert_eq!(start.steps_left(&site), count[0]);

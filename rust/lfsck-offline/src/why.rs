@@ -208,7 +208,7 @@ mod tests {
     use crate::tables::Tables;
     use crate::verdict::Verdicts;
     use difftest::Random;
-    use difftest::tables::{Shape, random_tables, to_bytes};
+    use difftest::tables::Shape;
 
     const SHAPE: Shape = Shape {
         parents: 4,
@@ -222,12 +222,7 @@ mod tests {
     fn on_random_tables(name: &str, mut test: impl FnMut(&Site, &Verdicts)) {
         let mut random = Random::for_test(name);
         for _ in 0..10_000 {
-            let (parents, objects) = to_bytes(&random_tables(SHAPE, &mut random), &mut random);
-            let tables = Tables {
-                parents,
-                objects,
-                reserve: Vec::new(),
-            };
+            let tables = Tables::random(SHAPE, &mut random);
             let site = Site::new(&tables);
             test(&site, &Verdicts::new(&tables, &site));
         }

@@ -11,7 +11,8 @@ use crate::json::Value;
 use crate::oracle;
 use crate::tool::{Case, TOOL, Told};
 
-const CLASSES: [&str; 15] = [
+/// Every class, by its number.
+pub const CLASSES: [&str; 15] = [
     "CLEAN",
     "SELF",
     "HOLE",

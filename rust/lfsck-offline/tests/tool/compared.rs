@@ -5,6 +5,7 @@ use difftest::Random;
 use difftest::tables::{OBJECTS, Shape, random_tables, to_bytes};
 
 use crate::bytes::{object_row, parent_row};
+use crate::commands::CLASSES;
 use crate::json::Value;
 use crate::tool::Case;
 
@@ -229,22 +230,8 @@ fn library_s(shown: &Value) -> u64 {
     }
 }
 
-/// The words, and every class that a slot with an object or an object can have.
+/// The words, and every class.
 fn with_every_class<'word>(words: &[&'word str]) -> Vec<&'word str> {
-    let classes = [
-        "CLEAN",
-        "MULTIPLE",
-        "DANGLING",
-        "BLANK",
-        "UNMATCHED",
-        "WRONG-OST",
-        "OWNER",
-        "SPARE",
-        "EMPTY",
-        "ORPHAN",
-        "CONFLICT",
-        "KEPT",
-    ];
-    let only = classes.iter().flat_map(|class| ["--only", class]);
+    let only = CLASSES.iter().flat_map(|class| ["--only", class]);
     words.iter().copied().chain(only).collect()
 }
