@@ -342,13 +342,15 @@ uint32_t lfsck_layout_write(const uint64_t *fields, size_t fields_count,
                             uint64_t *out, size_t out_count);
 
 /*
- * Puts another slot in the place of one of a layout's. Only that slot's 24 bytes change.
+ * Puts another slot in the place of one of a layout's, and raises the layout's generation by one,
+ * 65,535 going to 0: that slot's 24 bytes and the generation's 2 change and no others. Where the
+ * slot has these numbers already, no byte changes.
  *
  *   layout  the layout, exactly its bytes
  *   index   which slot, from 0
  *   slot    exactly 5 numbers
  *
- * LFSCK_OK           the slot is written
+ * LFSCK_OK           the slot has these numbers
  * LFSCK_BAD_LAYOUT   the bytes are no layout, or the slot is none that its pattern allows
  * LFSCK_NO_POSITION  the index is not below the stripe count
  */

@@ -6,22 +6,23 @@ use Prim.Native.Nat.{ℕ, zero, suc, _+_, _-_, _*_, _≤_, _<_}
 use borrow.Author.Tests.{eq-eqb, ne-eqb, le-leb, lt-leb, lt-ltb, le-ltb, ltb-true, eqb-true, leb-true}
 use native.Mathlib.Omega.{arith}
 use lib.Dec.{eqb, leb, ltb}
-use lib.ListN.{length, take, drop, set, length-append, length-drop, length-set, take-append-drop}
+use lib.ListN.{length, getD, take, drop, set, length-append, length-drop, length-set, take-append-drop}
 use lib.Seq.{sets, length-sets, take-all, take-add, drop-at, take-at, length-take-le}
-use Rattle.wire.specs.Numbers.{le}
+use Rattle.wire.specs.Numbers.{le, bytes}
 use Rattle.wire.proofs.Both.{and-first, and-second, and-both}
-use Rattle.wire.proofs.Splice.{sets-mid, drop-take-all}
-use Rattle.wire.proofs.NumberLaws.{Bytes, bytes-drop}
+use Rattle.wire.proofs.Splice.{sets-mid, sets-whole, drop-take-all}
+use Rattle.wire.proofs.NumberLaws.{Bytes, bytes-drop, length-bytes}
 use Rattle.layout.specs.declared.Header.{Header}
 use Rattle.layout.specs.declared.Slot.{Slot}
 use Rattle.layout.specs.declared.Slot.the-variants.{Hole}
 use Rattle.layout.specs.declared.Reading.the-variants.{Refused, Accepted}
 use Rattle.layout.specs.declared.SlotRead.the-variants.{BadLayout, NoSlot, SlotIs}
-use Rattle.layout.specs.Slot.{slotSize, slotOf, encodeSlot, decodeSlots, encodeSlots, allowedSlot, allowedSlots}
-use Rattle.layout.specs.Layout.{Layout, plainHeader, poolHeader, headerSize, decodeHeader, encodeHeader, stripeCount, slotStart, decodeLayout, encodeLayout, changed, knownVersion, knownPattern, withHoles, maxSlots, fewSlots, layoutSize, exactLength, layoutRules, acceptedLayout}
+use Rattle.layout.specs.Slot.{slotSize, slotOf, encodeSlot, decodeSlots, encodeSlots, allowedSlot, allowedSlots, sameSlot, sameSlots}
+use Rattle.layout.specs.Layout.{Layout, plainHeader, poolHeader, headerSize, decodeHeader, encodeHeader, stripeCount, slotStart, decodeLayout, encodeLayout, generationAt, nextGeneration, atGeneration, generationWith, restriped, changed, knownVersion, knownPattern, withHoles, maxSlots, fewSlots, layoutSize, exactLength, layoutRules, acceptedLayout}
 use Rattle.layout.specs.Answers.{readLayout, readSlot, rewriteAnswer, rewriteBytes}
 use Rattle.layout.proofs.SlotLaws.{FitSlot, FitSlots, slots-fit, fit-set, length-slot, length-slots, length-encode-slots, encode-set, slots-at, slots-written-back, slots-read-back}
-use Rattle.layout.proofs.HeaderLaws.{FitHeader, header-fits, size-least, size-most, length-header, header-written-back, header-read-back, count-read-back}
+use Rattle.layout.proofs.StripeLaws.{slots-changed, restriped-same, generation-small}
+use Rattle.layout.proofs.HeaderLaws.{FitHeader, fit-generation, header-fits, size-least, size-most, length-header, header-written-back, header-read-back, count-read-back}
 
 -- ## What is accepted
 
@@ -165,6 +166,13 @@ module _ (l : List ℕ) where
   unfolding readSlot
   slot-is j n start s h q b k e =
       rw (h, ← q, lt-ltb j n k, slots-are, ← q, ← b, slots-at n j (drop start l) Hole k, e, drop-take-all start l)
+
+  pub has-slot-is : (j start : ℕ) (t s : Slot) (b : Bool) → start ≡ slotStart l → t ≡ slotOf (take (length l - start) (drop start l)) j → b ≡ sameSlot t s →
+      b ≡ sameSlot (slotOf (drop (slotStart l) l) j) s
+  has-slot-is j start t s b e d q = rw (q, d, drop-take-all start l, e)
+
+  pub place-long : (j : ℕ) (s : Slot) (y : List ℕ) → exactLength l ≡ true → y ≡ sets l (slotStart l + slotSize * j) (encodeSlot s) → plainHeader ≤ length y
+  place-long j s y x e = rw (e, length-sets l (slotStart l + slotSize * j) (encodeSlot s)) (exact-long l x)
 
   pub rewrite-bad : (j : ℕ) (s : Slot) → (acceptedLayout l && allowedSlot (withHoles (decodeHeader l)) s) ≡ false →
       (13 ≡ rewriteAnswer l j s) × (l ≡ rewriteBytes l j s)
@@ -330,11 +338,15 @@ allowed-set holes (x ∷ ss) (suc j) s a t =
     rw (and-first (allowedSlot holes x) (allowedSlots holes ss) a)
     (allowed-set holes ss j s (and-second (allowedSlot holes x) (allowedSlots holes ss) a) t)
 
--- the bytes of a changed layout: those of the slot in place of the old ones
-pub changed-bytes : (L : Layout) (j : ℕ) (s : Slot) → j < length (L .slots) →
-    encodeLayout (changed L j s) ≡ sets (encodeLayout L) (plainHeader + length (L .pool) + slotSize * j) (encodeSlot s)
-unfolding encodeLayout changed
-changed-bytes L j s h =
+-- the layout with slot j set, its header as it was
+setSlot : Layout → ℕ → Slot → Layout
+setSlot L j s = record { header = L .header; pool = L .pool; slots = set (L .slots) j s }
+
+pub slot-bytes : (L : Layout) (j : ℕ) (s : Slot) → j < length (L .slots) →
+    encodeLayout (record { header = L .header; pool = L .pool; slots = set (L .slots) j s }) ≡
+    sets (encodeLayout L) (plainHeader + length (L .pool) + slotSize * j) (encodeSlot s)
+unfolding encodeLayout
+slot-bytes L j s h =
     let n : ℕ = length (L .slots) in
     let pre : List ℕ = encodeHeader (L .header) n ++ L .pool in
     let ss : List ℕ = encodeSlots (L .slots) in
@@ -344,25 +356,82 @@ changed-bytes L j s h =
     sets-mid pre [] (encodeSlot s) ss (slotSize * j) m in
     rw (length-set (L .slots) j s, encode-set (L .slots) j s h, k) (sym (rw (append-nil ss, append-nil (sets ss (slotSize * j) (encodeSlot s))) at e))
 
-pub length-changed : (L : Layout) (j : ℕ) (s : Slot) → j < length (L .slots) → length (encodeLayout (changed L j s)) ≡ length (encodeLayout L)
-length-changed L j s h = rw (changed-bytes L j s h) (length-sets (encodeLayout L) (plainHeader + length (L .pool) + slotSize * j) (encodeSlot s))
+-- a layout's bytes in front of its generation, the generation's two, and those behind
+ahead : Layout → List ℕ
+ahead L =
+    let h = L .header in
+    bytes 4 (h .magic) ++ bytes 4 (h .pattern) ++ bytes 8 (h .oid) ++ bytes 8 (h .seq) ++ bytes 4 (h .stripe) ++ bytes 2 (length (L .slots))
 
--- in the bytes that were read: the slot's 24 bytes alone
-pub spliced : (l : List ℕ) (j : ℕ) (s : Slot) → Bytes l → exactLength l ≡ true → j < stripeCount l →
-    sets l (slotStart l + slotSize * j) (encodeSlot s) ≡ encodeLayout (changed (decodeLayout l) j s)
-spliced l j s b x h =
-    let L : Layout = decodeLayout l in
-    let p = pool-length l x in
-    let m = start-least l refl in
-    let q : plainHeader + length (L .pool) ≡ slotStart l = omega arith in
-    rw (changed-bytes L j s (rw (slots-many l) h), q, exact-back l b x)
+length-ahead : (L : Layout) → length (ahead L) ≡ generationAt
+unfolding ahead
+length-ahead L = simp (length-append, length-bytes)
+
+apart : (L : Layout) → encodeLayout L ≡ ahead L ++ (bytes 2 (L .header .generation) ++ (L .pool ++ encodeSlots (L .slots)))
+unfolding encodeLayout encodeHeader ahead
+apart L = simp append-assoc
+
+-- the bytes of a layout of another generation: two others, at 30 and 31
+pub generation-bytes : (L : Layout) (g : ℕ) →
+    encodeLayout (record { header = atGeneration (L .header) g; pool = L .pool; slots = L .slots }) ≡ sets (encodeLayout L) generationAt (bytes 2 g)
+unfolding atGeneration ahead
+generation-bytes L g =
+    let M : Layout = record { header = atGeneration (L .header) g; pool = L .pool; slots = L .slots } in
+    let pre : List ℕ = ahead L in
+    let q : List ℕ = L .pool ++ encodeSlots (L .slots) in
+    let old : List ℕ = bytes 2 (L .header .generation) in
+    let k : length pre + 0 ≡ generationAt = omega (arith, length-ahead L) in
+    let m : length old ≡ length (bytes 2 g) = length-bytes 2 (L .header .generation) ∙ sym (length-bytes 2 g) in
+    let e : sets (pre ++ (old ++ q)) (length pre + 0) (bytes 2 g) ≡ pre ++ (sets old 0 (bytes 2 g) ++ q) = sets-mid pre q (bytes 2 g) old 0 (omega arith) in
+    let w : sets (pre ++ (old ++ q)) generationAt (bytes 2 g) ≡ pre ++ (bytes 2 g ++ q) = rw (k, sets-whole (bytes 2 g) old m) at e in
+    apart M ∙ sym w ∙ ap (λ (l : List ℕ). sets l generationAt (bytes 2 g)) (sym (apart L))
+
+-- the bytes of a changed layout: those of the slot and of the generation in place of the old ones
+pub changed-bytes : (L : Layout) (j : ℕ) (s : Slot) → j < length (L .slots) →
+    encodeLayout (changed L j s) ≡
+    sets (sets (encodeLayout L) (plainHeader + length (L .pool) + slotSize * j) (encodeSlot s)) generationAt (bytes 2 (generationWith L (set (L .slots) j s)))
+unfolding changed restriped setSlot
+changed-bytes L j s h =
+    generation-bytes (setSlot L j s) (generationWith L (set (L .slots) j s))
+    ∙ ap (λ (l : List ℕ). sets l generationAt (bytes 2 (generationWith L (set (L .slots) j s)))) (slot-bytes L j s h)
+
+pub length-changed : (L : Layout) (j : ℕ) (s : Slot) → j < length (L .slots) → length (encodeLayout (changed L j s)) ≡ length (encodeLayout L)
+length-changed L j s h =
+    let at : ℕ = plainHeader + length (L .pool) + slotSize * j in
+    rw (changed-bytes L j s h)
+    (length-sets (sets (encodeLayout L) at (encodeSlot s)) generationAt (bytes 2 (generationWith L (set (L .slots) j s)))
+    ∙ length-sets (encodeLayout L) at (encodeSlot s))
+
+module _ (l : List ℕ) (j : ℕ) (s : Slot) (b : Bytes l) (x : exactLength l ≡ true) (h : j < stripeCount l) where
+  -- whether the slots stay is whether slot j does
+  slot-stays : sameSlots (decodeLayout l .slots) (set (decodeLayout l .slots) j s) ≡ sameSlot (slotOf (drop (slotStart l) l) j) s
+  slot-stays =
+      slots-changed (decodeLayout l .slots) j s (rw (slots-many l) h)
+      ∙ ap (λ (t : Slot). sameSlot t s) (ap (λ (ss : List Slot). getD ss j Hole) (slots-are l) ∙ slots-at (stripeCount l) j (drop (slotStart l) l) Hole h)
+
+  -- an equal slot: no byte changes
+  pub stays-spliced : true ≡ sameSlot (slotOf (drop (slotStart l) l) j) s → l ≡ encodeLayout (changed (decodeLayout l) j s)
+  unfolding changed
+  stays-spliced e = sym (ap encodeLayout (restriped-same (decodeLayout l) (set (decodeLayout l .slots) j s) (slot-stays ∙ sym e)) ∙ exact-back l b x)
+
+  -- another slot: its 24 bytes, and the two of the generation
+  pub spliced : (g n : ℕ) (y z : List ℕ) → false ≡ sameSlot (slotOf (drop (slotStart l) l) j) s → g ≡ le 2 (drop generationAt l) →
+      y ≡ sets l (slotStart l + slotSize * j) (encodeSlot s) → n ≡ nextGeneration g → z ≡ sets y generationAt (bytes 2 n) →
+      z ≡ encodeLayout (changed (decodeLayout l) j s)
+  unfolding generationWith decodeHeader
+  spliced g n y z e eg ey en ez =
+      let L : Layout = decodeLayout l in
+      let p = pool-length l x in
+      let m = start-least l refl in
+      let q : plainHeader + length (L .pool) ≡ slotStart l = omega arith in
+      let t : L .header .generation ≡ g = ap (λ (h : Header). h .generation) (header-is l) ∙ sym eg in
+      rw (changed-bytes L j s (rw (slots-many l) h), q, exact-back l b x, slot-stays, ← e, t, ez, ey, en)
 
 changed-writable : (L : Layout) (j : ℕ) (s : Slot) → Writable L → FitSlot s → allowedSlot (withHoles (L .header)) s ≡ true → Writable (changed L j s)
-unfolding changed layoutRules
+unfolding changed restriped atGeneration layoutRules knownVersion knownPattern withHoles
 changed-writable L j s w f t =
     let few : Bool = knownVersion (L .header) && knownPattern (L .header) && fewSlots (length (L .slots)) in
     record {
-      header = w .header;
+      header = fit-generation (L .header) (generationWith L (set (L .slots) j s)) (w .header) (generation-small L (set (L .slots) j s) (w .header .generation));
       fits = fit-set (L .slots) j s (w .fits) f;
       pool = w .pool;
       rules =
@@ -383,13 +452,21 @@ rewrite-taken l j s = go (acceptedLayout l) (allowedSlot (withHoles (decodeHeade
     go true false u q e = absurd (omega (arith, e))
     go false t u q e = absurd (omega (arith, e))
 
--- "Rewriting a slot touches only that slot's 24 bytes inside the lent layout"
-pub rewrite-splices : (l : List ℕ) (j : ℕ) (s : Slot) → Bytes l → rewriteAnswer l j s ≡ 0 →
-    rewriteBytes l j s ≡ sets l (slotStart l + slotSize * j) (encodeSlot s)
+-- "The slot rewrite now touches two more bytes": the slot's 24 and those at 30 and 31, and no others
+pub rewrite-splices : (l : List ℕ) (j : ℕ) (s : Slot) → Bytes l → rewriteAnswer l j s ≡ 0 → sameSlot (slotOf (drop (slotStart l) l) j) s ≡ false →
+    rewriteBytes l j s ≡ sets (sets l (slotStart l + slotSize * j) (encodeSlot s)) generationAt (bytes 2 (nextGeneration (le 2 (drop generationAt l))))
 unfolding rewriteBytes
-rewrite-splices l j s b e =
+rewrite-splices l j s b e d =
     let t = rewrite-taken l j s e in
-    rw (eq-eqb (rewriteAnswer l j s) 0 e) (sym (spliced l j s b (accepted-exact l (t .0)) (t .2)))
+    rw (eq-eqb (rewriteAnswer l j s) 0 e) (sym (spliced l j s b (accepted-exact l (t .0)) (t .2) _ _ _ _ (sym d) refl refl refl refl))
+
+-- "unless the slot stays as it was": then no byte changes
+pub rewrite-stays : (l : List ℕ) (j : ℕ) (s : Slot) → Bytes l → rewriteAnswer l j s ≡ 0 → sameSlot (slotOf (drop (slotStart l) l) j) s ≡ true →
+    rewriteBytes l j s ≡ l
+unfolding rewriteBytes
+rewrite-stays l j s b e d =
+    let t = rewrite-taken l j s e in
+    rw (eq-eqb (rewriteAnswer l j s) 0 e) (sym (stays-spliced l j s b (accepted-exact l (t .0)) (t .2) (sym d)))
 
 -- and what was rewritten is accepted and reads back as the layout with that slot changed
 pub rewritten : (l : List ℕ) (j : ℕ) (s : Slot) → Bytes l → FitSlot s → rewriteAnswer l j s ≡ 0 →

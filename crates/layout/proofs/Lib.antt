@@ -1,3 +1,4 @@
 pub mod SlotLaws
+pub mod StripeLaws
 pub mod HeaderLaws
 pub mod LayoutLaws

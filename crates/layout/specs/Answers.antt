@@ -42,6 +42,7 @@ unfoldable pub rewriteAnswer : List ℕ → ℕ → Slot → ℕ
 rewriteAnswer l j s =
     cond (acceptedLayout l && allowedSlot (withHoles (decodeHeader l)) s) (cond (ltb j (stripeCount l)) 0 16) 13
 
--- the bytes of the layout with slot j changed; a refusal changes nothing
+-- the bytes of the layout with slot j changed: "The slot rewrite now touches two more bytes, unless the slot stays as it was".
+-- A refusal changes nothing
 unfoldable pub rewriteBytes : List ℕ → ℕ → Slot → List ℕ
 rewriteBytes l j s = cond (eqb (rewriteAnswer l j s) 0) (encodeLayout (changed (decodeLayout l) j s)) l

@@ -5,7 +5,7 @@ use mathlib.Core.Bool.{Bool, cond, _&&_, _||_}
 use lib.ListN.{length, take, drop, set}
 use lib.Dec.{leb, eqb}
 use Rattle.wire.specs.Numbers.{le, bytes}
-use Rattle.layout.specs.Slot.{slotSize, decodeSlots, encodeSlots, allowedSlots}
+use Rattle.layout.specs.Slot.{slotSize, decodeSlots, encodeSlots, allowedSlots, sameSlots}
 use Rattle.layout.specs.declared.Header.{Header}
 use Rattle.layout.specs.declared.Slot.{Slot}
 
@@ -91,9 +91,30 @@ decodeLayout l =
 unfoldable pub encodeLayout : Layout → List ℕ
 encodeLayout L = encodeHeader (L .header) (length (L .slots)) ++ L .pool ++ encodeSlots (L .slots)
 
--- a changed slot: the layout with slot j changed, and nothing else
+-- ## Other slots
+
+-- "raises that layout's generation by one, 65,535 going to 0"
+unfoldable pub nextGeneration : ℕ → ℕ
+nextGeneration g = cond (eqb g 65535) 0 (g + 1)
+
+unfoldable pub atGeneration : Header → ℕ → Header
+atGeneration h g = record { magic = h .magic; pattern = h .pattern; oid = h .oid; seq = h .seq; stripe = h .stripe; generation = g }
+
+-- the header of a layout whose slots have changed
+unfoldable pub raised : Header → Header
+raised h = atGeneration h (nextGeneration (h .generation))
+
+-- the generation of a layout that comes to have these slots: raised exactly where the slots, or their number, differ
+unfoldable pub generationWith : Layout → List Slot → ℕ
+generationWith L ss = cond (sameSlots (L .slots) ss) (L .header .generation) (nextGeneration (L .header .generation))
+
+-- the layout with these slots in place of its own: the one place where a generation changes
+unfoldable pub restriped : Layout → List Slot → Layout
+restriped L ss = record { header = atGeneration (L .header) (generationWith L ss); pool = L .pool; slots = ss }
+
+-- a changed slot: the layout with slot j changed
 unfoldable pub changed : Layout → ℕ → Slot → Layout
-changed L j s = record { header = L .header; pool = L .pool; slots = set (L .slots) j s }
+changed L j s = restriped L (set (L .slots) j s)
 
 -- ## The rules
 

@@ -63,6 +63,20 @@ unfoldable pub allowedSlots : Bool → List Slot → Bool
 allowedSlots holes [] = true
 allowedSlots holes (s ∷ ss) = allowedSlot holes s && allowedSlots holes ss
 
+-- whether two slots are the same
+unfoldable pub sameSlot : Slot → Slot → Bool
+sameSlot Hole Hole = true
+sameSlot Hole (Names f g i) = false
+sameSlot (Names f g i) Hole = false
+sameSlot (Names f g i) (Names h n k) = sameFid (f .0) (h .0) && eqb g n && eqb i k
+
+-- whether two lists of slots are the same, in number too
+unfoldable pub sameSlots : List Slot → List Slot → Bool
+sameSlots [] [] = true
+sameSlots [] (t ∷ ts) = false
+sameSlots (s ∷ ss) [] = false
+sameSlots (s ∷ ss) (t ∷ ts) = sameSlot s t && sameSlots ss ts
+
 -- whether a slot names an object
 unfoldable pub slotNames : OstFid → Slot → Bool
 slotNames f Hole = false

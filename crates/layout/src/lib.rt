@@ -5,10 +5,11 @@ use fid::OstFid;
 ghost use mathlib.Core.Path.{_≡_};
 ghost use mathlib.Core.Bool.{true, _&&_};
 ghost use Prim.Native.Nat.{_+_, _*_, _≤_, _<_};
-ghost use lib.ListN.{length};
+ghost use lib.ListN.{length, drop};
 ghost use lib.Seq.{sets};
-ghost use Rattle.layout.specs.Slot.{slotSize, zeroSlot, slotOf, encodeSlot, decodeSlots, allowedSlot, allowedSlots, slotNames};
-ghost use Rattle.layout.specs.Layout.{plainHeader, stripeCountAt, headerSize, decodeHeader, encodeHeader, decodeLayout, encodeLayout, changed, stripeCount, slotStart, knownVersion, knownPattern, withHoles, exactLength, acceptedLayout};
+ghost use Rattle.layout.specs.Slot.{slotSize, zeroSlot, slotOf, encodeSlot, decodeSlots, allowedSlot, allowedSlots, slotNames, sameSlot};
+ghost use Rattle.layout.specs.declared.Slot.the-variants.{Hole, Names};
+ghost use Rattle.layout.specs.Layout.{plainHeader, stripeCountAt, headerSize, decodeHeader, encodeHeader, decodeLayout, encodeLayout, nextGeneration, raised, changed, stripeCount, slotStart, knownVersion, knownPattern, withHoles, exactLength, acceptedLayout};
 ghost use Rattle.layout.specs.Answers.{readLayout, readSlot, rewriteAnswer, rewriteBytes};
 
 // The greatest number of slots.
@@ -127,6 +128,44 @@ pub fn names(s: Slot, f: OstFid) -> bool
     match s {
         Slot::Hole => false,
         Slot::Names(g, _, _) => fid::same_ost(g, f),
+    }
+}
+
+// Whether a slot is the one that names this object with this generation and OST index.
+fn is_named(s: Slot, f: OstFid, g: u32, i: u32) -> bool
+    ensures { λ r. ⌜ r ≡ sameSlot s (Names f g i) ⌝ }
+{
+    match s {
+        Slot::Hole => false,
+        Slot::Names(h, n, k) => {
+            if !fid::same_ost(h, f) {
+                return false;
+            }
+            if n != g {
+                return false;
+            }
+            k == i
+        }
+    }
+}
+
+// Whether a slot is a hole.
+fn is_hole(s: Slot) -> bool
+    ensures { λ r. ⌜ r ≡ sameSlot s Hole ⌝ }
+{
+    match s {
+        Slot::Hole => true,
+        Slot::Names(_, _, _) => false,
+    }
+}
+
+// Whether two slots are the same.
+fn same_slot(s: Slot, t: Slot) -> bool
+    ensures { λ r. ⌜ r ≡ sameSlot s t ⌝ }
+{
+    match t {
+        Slot::Hole => is_hole(s),
+        Slot::Names(f, g, i) => is_named(s, f, g, i),
     }
 }
 
@@ -270,15 +309,61 @@ fn exact_length(layout: &[u8]) -> bool
     layout.len() == h + SLOT_SIZE * n
 }
 
-// Changes slot j of a layout of exact length in place: the slot's 24 bytes are lent to the slot writer.
-pub fn change_slot(layout: &mut [u8], j: usize, s: Slot)
+// The generation after this one.
+fn next_generation(g: u16) -> u16
+    ensures { λ r. ⌜ r ≡ nextGeneration g ⌝ }
+{
+    if g == 65535 {
+        return 0;
+    }
+    g + 1
+}
+
+// The header of a layout whose slots have changed.
+pub fn raised(h: Header) -> Header
+    ensures { λ r. ⌜ r ≡ raised h ⌝ }
+{
+    Header {
+        magic: h.magic,
+        pattern: h.pattern,
+        oid: h.oid,
+        seq: h.seq,
+        stripe: h.stripe,
+        generation: next_generation(h.generation),
+    }
+}
+
+// Whether slot j of a layout of exact length is this one.
+fn has_slot(layout: &[u8], j: usize, s: Slot) -> bool
     requires { ⌜ (exactLength (now layout) ≡ true) × (j < stripeCount (now layout)) ⌝ }
-    ensures { λ _. ⌜ now (layout .exit) ≡ encodeLayout (changed (decodeLayout (now (layout .entry))) j s) ⌝ }
+    ensures { λ r. ⌜ r ≡ sameSlot (slotOf (drop (slotStart (now (layout .entry))) (now (layout .entry))) j) s ⌝ }
+{
+    let start = slot_start(layout);
+    same_slot(slot_at(&layout[start..], j), s)
+}
+
+// Writes slot j of a layout of exact length: the slot's 24 bytes are lent to the slot writer.
+fn place_slot(layout: &mut [u8], j: usize, s: Slot)
+    requires { ⌜ (exactLength (now layout) ≡ true) × (j < stripeCount (now layout)) ⌝ }
+    ensures { λ _. ⌜ now (layout .exit) ≡ sets (now (layout .entry)) (slotStart (now (layout .entry)) + slotSize * j) (encodeSlot s) ⌝ }
 {
     let start = slot_start(layout);
     let a = start + SLOT_SIZE * j;
     let e = a + SLOT_SIZE;
     put_slot(&mut layout[a..e], s);
+}
+
+// Changes slot j of a layout of exact length in place, and raises the generation, unless the slot is this one already.
+pub fn change_slot(layout: &mut [u8], j: usize, s: Slot)
+    requires { ⌜ (exactLength (now layout) ≡ true) × (j < stripeCount (now layout)) ⌝ }
+    ensures { λ _. ⌜ now (layout .exit) ≡ encodeLayout (changed (decodeLayout (now (layout .entry))) j s) ⌝ }
+{
+    if has_slot(layout, j, s) {
+        return;
+    }
+    let g = wire::le16(layout, GENERATION_AT);
+    place_slot(layout, j, s);
+    wire::put_le16(layout, GENERATION_AT, next_generation(g));
 }
 
 // Whether a layout meets every rule.

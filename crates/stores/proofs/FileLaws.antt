@@ -56,15 +56,15 @@ module _ (p : List ℕ) (r : ℕ) where
   slot-part j s z b u h e = back (λ l. renderParent (withSlot (parseParent l) j s)) z (u .inside) (slot-length (rowBytes p r) (row-bytes p r b) (u .row) j s h) e
 
   pub grow-part : (i : ℕ) (s : Slot) (z : List ℕ) → Bytes p → UsedAt p r → stripeCount (layoutBytes (rowBytes p r)) ≤ i → i < maxSlots →
-      z ≡ renderParent (withSlot (grown (parseParent (take (parentSize * r + parentSize - parentSize * r) (drop (parentSize * r) p))) i) i s) →
-      putMid (parentSize * r) (parentSize * r + parentSize - parentSize * r) p z ≡ sets p (parentSize * r) (renderParent (withSlot (grown (parseParent (rowBytes p r)) i) i s))
-  grow-part i s z b u h m e = back (λ l. renderParent (withSlot (grown (parseParent l) i) i s)) z (u .inside) (grow-length (rowBytes p r) (row-bytes p r b) (u .row) i s h m) e
+      z ≡ renderParent (grown (parseParent (take (parentSize * r + parentSize - parentSize * r) (drop (parentSize * r) p))) i s) →
+      putMid (parentSize * r) (parentSize * r + parentSize - parentSize * r) p z ≡ sets p (parentSize * r) (renderParent (grown (parseParent (rowBytes p r)) i s))
+  grow-part i s z b u h m e = back (λ l. renderParent (grown (parseParent l) i s)) z (u .inside) (grow-length (rowBytes p r) (row-bytes p r b) (u .row) i s h m) e
 
   row-size : parentSize * r + parentSize ≤ length p → length (rowBytes p r) ≡ parentSize
   unfolding rowBytes
   row-size h = let d : length (drop (parentSize * r) p) ≡ length p - parentSize * r = length-drop (parentSize * r) p in length-take-le parentSize (drop (parentSize * r) p) (omega arith)
 
   pub make-part : (f : MdtFid) (i : ℕ) (w : Owner) (s : Slot) (z : List ℕ) → parentSize * r + parentSize ≤ length p → i < maxSlots →
-      z ≡ renderParent (withSlot (made f i w (drop 1 (take (parentSize * r + parentSize - parentSize * r) (drop (parentSize * r) p)))) i s) →
-      putMid (parentSize * r) (parentSize * r + parentSize - parentSize * r) p z ≡ sets p (parentSize * r) (renderParent (withSlot (made f i w (drop 1 (rowBytes p r))) i s))
-  make-part f i w s z h m e = back (λ l. renderParent (withSlot (made f i w (drop 1 l)) i s)) z h (made-length (rowBytes p r) f i w s (row-size h) m) e
+      z ≡ renderParent (made f i w s (drop 1 (take (parentSize * r + parentSize - parentSize * r) (drop (parentSize * r) p)))) →
+      putMid (parentSize * r) (parentSize * r + parentSize - parentSize * r) p z ≡ sets p (parentSize * r) (renderParent (made f i w s (drop 1 (rowBytes p r))))
+  make-part f i w s z h m e = back (λ l. renderParent (made f i w s (drop 1 l))) z h (made-length (rowBytes p r) f i w s (row-size h) m) e

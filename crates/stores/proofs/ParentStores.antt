@@ -3,7 +3,7 @@ use mathlib.Core.Path.{_≡_, refl, sym, ap, _∙_}
 use mathlib.Core.List.{List, [], _∷_, _++_, append-assoc}
 use Prim.Native.Nat.{ℕ, suc, _+_, _-_, _*_, _≤_, _<_}
 use native.Mathlib.Omega.{arith}
-use lib.ListN.{length, take, drop, set, replicate, length-append, length-replicate, take-append-drop}
+use lib.ListN.{length, take, drop, set, replicate, length-append, length-replicate, length-set, take-append-drop}
 use lib.Seq.{sets, sets-eq, drop-drop, length-take-le}
 use Rattle.wire.specs.Numbers.{bytes}
 use Rattle.wire.proofs.NumberLaws.{length-bytes}
@@ -15,10 +15,11 @@ use Rattle.layout.specs.declared.Header.{Header}
 use Rattle.layout.specs.declared.Slot.{Slot}
 use Rattle.layout.specs.declared.Slot.the-variants.{Hole}
 use Rattle.layout.specs.Slot.{encodeSlot, encodeSlots}
-use Rattle.layout.specs.Layout.{Layout, headerSize, magicOne, encodeHeader, encodeLayout, layoutSize, changed}
+use Rattle.layout.specs.Layout.{Layout, headerSize, magicOne, encodeHeader, encodeLayout, layoutSize, raised, generationWith, restriped, changed}
 use Rattle.layout.proofs.SlotLaws.{length-slot, length-encode-slots, encode-append}
 use Rattle.layout.proofs.HeaderLaws.{length-header}
-use Rattle.layout.proofs.LayoutLaws.{changed-bytes, length-changed}
+use Rattle.layout.proofs.LayoutLaws.{slot-bytes, length-changed}
+use Rattle.layout.proofs.StripeLaws.{slots-longer}
 use Rattle.tables.specs.Records.{Parent, ParentRow, used}
 use Rattle.tables.specs.Bytes.{encodeOwner, encodeParent, renderParent, renderRow}
 use Rattle.tables.specs.Positions.{slotsOf}
@@ -93,16 +94,6 @@ changed-render p j s h =
     ap renderParent (slotted-is p j s) ∙ whole (slotted p j s)
     ∙ ap (λ (n : ℕ). front p n ++ (encodeLayout (changed (p .layout) j s) ++ p .tail)) (length-changed (p .layout) j s h)
 
-pub slot-render : (p : Parent) (j at : ℕ) (s : Slot) → j < length (p .layout .slots) → at ≡ 59 + length (p .layout .pool) + 24 * j →
-    sets (renderParent (used p)) at (encodeSlot s) ≡ renderParent (withSlot (used p) j s)
-slot-render p j at s h a =
-    let n : ℕ = length (encodeLayout (p .layout)) in
-    let i : ℕ = 32 + length (p .layout .pool) + 24 * j in
-    let k : at ≡ length (front p n) + i = omega (arith, length-front p n) in
-    let m : i + length (encodeSlot s) ≤ n = omega (arith, length-slot s, layout-length (p .layout)) in
-    rw (whole p, k, sets-mid (front p n) (p .tail) (encodeSlot s) (encodeLayout (p .layout)) i m, ← changed-bytes (p .layout) j s h)
-    (sym (changed-render p j s h))
-
 -- the whole layout, with the slot changed
 pub slot-put : (p : Parent) (j : ℕ) (s : Slot) → j < length (p .layout .slots) →
     sets (renderParent (used p)) 27 (encodeLayout (changed (p .layout) j s)) ≡ renderParent (withSlot (used p) j s)
@@ -111,21 +102,46 @@ slot-put p j s h =
     rw (whole p, over (front p n) (encodeLayout (p .layout)) (p .tail) (encodeLayout (changed (p .layout) j s)) 27 (length-front p n) (length-changed (p .layout) j s h))
     (sym (changed-render p j s h))
 
+-- ## A slot set, the header as it stands
+
+filled : Parent → ℕ → Slot → Parent
+filled p j s =
+    record { self = p .self; owner = p .owner; layout = record { header = p .layout .header; pool = p .layout .pool; slots = set (p .layout .slots) j s }; tail = p .tail }
+
+filled-render : (p : Parent) (j at : ℕ) (s : Slot) → j < length (p .layout .slots) → at ≡ 59 + length (p .layout .pool) + 24 * j →
+    sets (renderParent (used p)) at (encodeSlot s) ≡ renderParent (used (filled p j s))
+unfolding filled
+filled-render p j at s h a =
+    let n : ℕ = length (encodeLayout (p .layout)) in
+    let i : ℕ = 32 + length (p .layout .pool) + 24 * j in
+    let k : at ≡ length (front p n) + i = omega (arith, length-front p n) in
+    let m : i + length (encodeSlot s) ≤ n = omega (arith, length-slot s, layout-length (p .layout)) in
+    let q : length (encodeLayout (filled p j s .layout)) ≡ n =
+    layout-length (filled p j s .layout) ∙ rw (length-set (p .layout .slots) j s) (sym (layout-length (p .layout))) in
+    rw (whole p, k, sets-mid (front p n) (p .tail) (encodeSlot s) (encodeLayout (p .layout)) i m, ← slot-bytes (p .layout) j s h)
+    (sym (whole (filled p j s) ∙ ap (λ (z : ℕ). front p z ++ (encodeLayout (filled p j s .layout) ++ p .tail)) q))
+
 -- ## Growth
 
-longer : Parent → ℕ → Parent
-longer p more = record { self = p .self; owner = p .owner; layout = record { header = p .layout .header; pool = p .layout .pool; slots = p .layout .slots ++ replicate more Hole }; tail = drop (24 * more) (p .tail) }
+-- by holes, with another header
+pub longer : Parent → Header → ℕ → Parent
+longer p hd more = record { self = p .self; owner = p .owner; layout = record { header = hd; pool = p .layout .pool; slots = p .layout .slots ++ replicate more Hole }; tail = drop (24 * more) (p .tail) }
 
-grown-is : (p : Parent) (i : ℕ) → grown (used p) i ≡ used (longer p (suc i - length (p .layout .slots)))
-unfolding grown withSlots slotsOf tailOf longer
-grown-is p i = refl
+grown-is : (p : Parent) (i : ℕ) (s : Slot) → length (p .layout .slots) ≤ i →
+    grown (used p) i s ≡ used (filled (longer p (raised (p .layout .header)) (suc i - length (p .layout .slots))) i s)
+unfolding grown withSlots slotsOf tailOf longer filled restriped generationWith raised
+grown-is p i s h =
+    let more : ℕ = suc i - length (p .layout .slots) in
+    let ss : List Slot = p .layout .slots ++ replicate more Hole in
+    let lm : length ss ≡ suc i = rw (length-append, length-replicate more Hole) (omega arith) in
+    rw (slots-longer (p .layout .slots) (set ss i s) (rw (length-set ss i s, lm) (omega arith)))
 
-pub grown-render : (p : Parent) (i size at : ℕ) (b c d : List ℕ) → length (p .layout .slots) ≤ i → size ≡ 32 + length (p .layout .pool) + 24 * (i + 1) →
+pub grown-render : (p : Parent) (hd : Header) (i size at : ℕ) (b c d : List ℕ) → length (p .layout .slots) ≤ i → size ≡ 32 + length (p .layout .pool) + 24 * (i + 1) →
     at ≡ 59 + length (p .layout .pool) + 24 * length (p .layout .slots) → 24 * (i + 1 - length (p .layout .slots)) ≤ length (p .tail) →
-    b ≡ sets (renderParent (used p)) 25 (bytes 2 size) → c ≡ sets b 27 (encodeHeader (p .layout .header) (i + 1)) →
-    d ≡ sets c at (encodeSlots (replicate (i + 1 - length (p .layout .slots)) Hole)) → d ≡ renderParent (grown (used p) i)
+    b ≡ sets (renderParent (used p)) 25 (bytes 2 size) → c ≡ sets b 27 (encodeHeader hd (i + 1)) →
+    d ≡ sets c at (encodeSlots (replicate (i + 1 - length (p .layout .slots)) Hole)) → d ≡ renderParent (used (longer p hd (suc i - length (p .layout .slots))))
 unfolding longer
-grown-render p i size at b c d h sz a tl s1 s2 s3 =
+grown-render p hd i size at b c d h sz a tl s1 s2 s3 =
     let n : ℕ = length (p .layout .slots) in
     let more : ℕ = suc i - n in
     let me : i + 1 - n ≡ more = omega arith in
@@ -134,7 +150,7 @@ grown-render p i size at b c d h sz a tl s1 s2 s3 =
     let N : List ℕ = bytes 2 (length (encodeLayout (p .layout))) in
     let N′ : List ℕ = bytes 2 size in
     let h0 : List ℕ = encodeHeader (p .layout .header) n in
-    let h1 : List ℕ = encodeHeader (p .layout .header) (suc i) in
+    let h1 : List ℕ = encodeHeader hd (suc i) in
     let pool : List ℕ = p .layout .pool in
     let SS : List ℕ = encodeSlots (p .layout .slots) in
     let Z : List ℕ = encodeSlots (replicate more Hole) in
@@ -145,28 +161,26 @@ grown-render p i size at b c d h sz a tl s1 s2 s3 =
     rw (s1, r0) (over (1 ∷ F) N (h0 ++ (pool ++ (SS ++ p .tail))) N′ 25 l0 (length-bytes 2 size ∙ sym (length-bytes 2 (length (encodeLayout (p .layout)))))) in
     let r1′ : b ≡ front p size ++ (h0 ++ (pool ++ (SS ++ p .tail))) = r1 ∙ sym (front-spread p size (h0 ++ (pool ++ (SS ++ p .tail)))) in
     let r2 : c ≡ front p size ++ (h1 ++ (pool ++ (SS ++ p .tail))) =
-    rw (s2, r1′, ie) (over (front p size) h0 (pool ++ (SS ++ p .tail)) h1 27 (length-front p size) (length-header (p .layout .header) (suc i) ∙ sym (length-header (p .layout .header) n))) in
+    rw (s2, r1′, ie) (over (front p size) h0 (pool ++ (SS ++ p .tail)) h1 27 (length-front p size) (length-header hd (suc i) ∙ sym (length-header (p .layout .header) n))) in
     let pre : List ℕ = front p size ++ (h1 ++ (pool ++ SS)) in
     let r2′ : c ≡ pre ++ (take (24 * more) (p .tail) ++ T) = r2 ∙ rw (take-append-drop (24 * more) (p .tail)) (simp append-assoc) in
-    let lp : length pre ≡ at = rw (length-append, length-append, length-append, length-front p size, length-header (p .layout .header) (suc i), length-encode-slots (p .layout .slots)) (omega arith) in
+    let lp : length pre ≡ at = rw (length-append, length-append, length-append, length-front p size, length-header hd (suc i), length-encode-slots (p .layout .slots)) (omega arith) in
     let lt : length Z ≡ length (take (24 * more) (p .tail)) = rw (length-holes more, length-take-le (24 * more) (p .tail) (omega arith)) in
     let r3 : d ≡ pre ++ (Z ++ T) = rw (s3, me, r2′) (over pre (take (24 * more) (p .tail)) T Z at lp lt) in
     let lm : length (p .layout .slots ++ replicate more Hole) ≡ suc i = rw (length-append, length-replicate more Hole) (omega arith) in
-    let q : length (encodeLayout (longer p more .layout)) ≡ size = rw (layout-length (longer p more .layout), lm) (omega arith) in
-    let w : renderParent (used (longer p more)) ≡ pre ++ (Z ++ T) =
-    spread (longer p more) ∙ rw (q, lm, encode-append (p .layout .slots) (replicate more Hole)) (simp append-assoc) in
-    r3 ∙ sym w ∙ ap renderParent (sym (grown-is p i))
+    let q : length (encodeLayout (longer p hd more .layout)) ≡ size = rw (layout-length (longer p hd more .layout), lm) (omega arith) in
+    let w : renderParent (used (longer p hd more)) ≡ pre ++ (Z ++ T) =
+    spread (longer p hd more) ∙ rw (q, lm, encode-append (p .layout .slots) (replicate more Hole)) (simp append-assoc) in
+    r3 ∙ sym w
 
 -- the last of the slots that it grew to
 pub grown-slot : (p : Parent) (i at : ℕ) (s : Slot) → length (p .layout .slots) ≤ i → at ≡ 59 + length (p .layout .pool) + 24 * i →
-    sets (renderParent (grown (used p) i)) at (encodeSlot s) ≡ renderParent (withSlot (grown (used p) i) i s)
+    sets (renderParent (used (longer p (raised (p .layout .header)) (suc i - length (p .layout .slots))))) at (encodeSlot s) ≡ renderParent (grown (used p) i s)
 unfolding longer
 grown-slot p i at s h a =
     let more : ℕ = suc i - length (p .layout .slots) in
     let lm : length (p .layout .slots ++ replicate more Hole) ≡ suc i = rw (length-append, length-replicate more Hole) (omega arith) in
-    let q : sets (renderParent (used (longer p more))) at (encodeSlot s) ≡ renderParent (withSlot (used (longer p more)) i s) =
-    slot-render (longer p more) i at s (omega arith) a in
-    rw (grown-is p i) q
+    filled-render (longer p (raised (p .layout .header)) more) i at s (omega arith) a ∙ ap renderParent (sym (grown-is p i s h))
 
 -- ## A parent made
 
@@ -184,9 +198,9 @@ front-stores a b c d e p n s1 s2 s3 s4 =
 pub maker : MdtFid → ℕ → Owner → List ℕ → Parent
 maker f i w l = record { self = f; owner = w; layout = record { header = madeHeader f; pool = []; slots = replicate (suc i) Hole }; tail = drop (26 + layoutSize magicOne (suc i)) l }
 
-made-is : (f : MdtFid) (i : ℕ) (w : Owner) (l : List ℕ) → made f i w l ≡ used (maker f i w l)
-unfolding made maker madeHeader
-made-is f i w l = refl
+made-is : (f : MdtFid) (i : ℕ) (w : Owner) (s : Slot) (l : List ℕ) → made f i w s l ≡ used (filled (maker f i w l) i s)
+unfolding made maker madeHeader filled
+made-is f i w s l = refl
 
 size-one : (n : ℕ) → layoutSize magicOne n ≡ 32 + 24 * n
 unfolding layoutSize headerSize
@@ -231,8 +245,8 @@ made-render f i size w a b c d e g h room sz s1 s2 s3 s4 s5 s6 =
     k3 ∙ k5 ∙ simp append-assoc (sym (maker-render f i w a))
 
 pub made-slot : (f : MdtFid) (i : ℕ) (w : Owner) (s : Slot) (a : List ℕ) →
-    sets (renderParent (used (maker f i w (drop 1 a)))) (59 + 24 * i) (encodeSlot s) ≡ renderParent (withSlot (made f i w (drop 1 a)) i s)
+    sets (renderParent (used (maker f i w (drop 1 a)))) (59 + 24 * i) (encodeSlot s) ≡ renderParent (made f i w s (drop 1 a))
 unfolding maker
 made-slot f i w s a =
     let n : length (replicate (suc i) Hole) ≡ suc i = length-replicate (suc i) Hole in
-    slot-render (maker f i w (drop 1 a)) i (59 + 24 * i) s (omega arith) refl ∙ ap (λ (q : ParentRow). renderParent (withSlot q i s)) (sym (made-is f i w (drop 1 a)))
+    filled-render (maker f i w (drop 1 a)) i (59 + 24 * i) s (omega arith) refl ∙ ap renderParent (sym (made-is f i w s (drop 1 a)))

@@ -1,7 +1,7 @@
 -- The stores of a used parent row that passed the check, over its bytes. Assumes nothing.
 use mathlib.Core.Path.{_≡_, refl, sym, ap, _∙_}
 use mathlib.Core.List.{List}
-use Prim.Native.Nat.{ℕ, _+_, _-_, _*_, _≤_, _<_}
+use Prim.Native.Nat.{ℕ, suc, _+_, _-_, _*_, _≤_, _<_}
 use mathlib.Core.Bool.{true}
 use native.Mathlib.Omega.{arith}
 use borrow.Author.Tests.{eqb-true}
@@ -16,7 +16,7 @@ use Rattle.layout.specs.declared.Header.{Header}
 use Rattle.layout.specs.declared.Slot.{Slot}
 use Rattle.layout.specs.declared.Slot.the-variants.{Hole}
 use Rattle.layout.specs.Slot.{encodeSlot, encodeSlots}
-use Rattle.layout.specs.Layout.{Layout, maxSlots, decodeHeader, encodeHeader, stripeCount, slotStart, decodeLayout, encodeLayout, changed, exactLength}
+use Rattle.layout.specs.Layout.{Layout, maxSlots, decodeHeader, encodeHeader, raised, stripeCount, slotStart, decodeLayout, encodeLayout, changed, exactLength}
 use Rattle.layout.proofs.SlotLaws.{length-slots}
 use Rattle.layout.proofs.LayoutLaws.{start-most, accepted-exact, length-changed, written-back}
 use Rattle.tables.specs.Records.{Parent, ParentRow, used}
@@ -30,7 +30,7 @@ use Rattle.search.proofs.ParsedRows.{parent-used}
 use Rattle.stores.specs.Made.{madeHeader}
 use Rattle.stores.specs.UsedRow.{UsedRow}
 use Rattle.stores.proofs.StoreLaws.{part-whole}
-use Rattle.stores.proofs.ParentStores.{own-render, slot-put, grown-render, grown-slot, made-render, made-slot}
+use Rattle.stores.proofs.ParentStores.{own-render, slot-put, longer, grown-render, grown-slot, made-render, made-slot}
 
 -- ## What is known of a used row
 
@@ -156,10 +156,10 @@ module _ (row : List ℕ) (b : Bytes row) (u : UsedRow row) where
     longerRow : List ℕ
     longerRow =
         let l : List ℕ = layoutBytes row in
-        sets (sets (sets row 25 (bytes 2 (slotStart l + 24 * (i + 1)))) 27 (encodeHeader (decodeHeader l) (i + 1))) (27 + slotStart l + 24 * stripeCount l)
+        sets (sets (sets row 25 (bytes 2 (slotStart l + 24 * (i + 1)))) 27 (encodeHeader (raised (decodeHeader l)) (i + 1))) (27 + slotStart l + 24 * stripeCount l)
         (encodeSlots (replicate (i + 1 - stripeCount l) Hole))
 
-    longer-is : longerRow ≡ renderParent (grown (used (decodeParent row)) i)
+    longer-is : let p = decodeParent row in longerRow ≡ renderParent (used (longer p (raised (p .layout .header)) (suc i - length (p .layout .slots))))
     unfolding longerRow
     longer-is =
         let l : List ℕ = layoutBytes row in
@@ -170,52 +170,52 @@ module _ (row : List ℕ) (b : Bytes row) (u : UsedRow row) where
         let t : length (p .tail) ≡ parentSize - (27 + layoutLength row) = tail-of row f in
         let z : slotStart l ≤ 48 = start-most l refl in
         let q : (layoutLength row) ≡ slotStart l + 24 * stripeCount l = sym (f .bytes) ∙ f .layout .size in
-        grown-render p i (slotStart l + 24 * (i + 1)) (27 + slotStart l + 24 * stripeCount l)
-        (sets row 25 (bytes 2 (slotStart l + 24 * (i + 1)))) (sets (sets row 25 (bytes 2 (slotStart l + 24 * (i + 1)))) 27 (encodeHeader (decodeHeader l) (i + 1)))
-        (sets (sets (sets row 25 (bytes 2 (slotStart l + 24 * (i + 1)))) 27 (encodeHeader (decodeHeader l) (i + 1))) (27 + slotStart l + 24 * stripeCount l) (encodeSlots (replicate (i + 1 - stripeCount l) Hole)))
+        grown-render p (raised (p .layout .header)) i (slotStart l + 24 * (i + 1)) (27 + slotStart l + 24 * stripeCount l)
+        (sets row 25 (bytes 2 (slotStart l + 24 * (i + 1)))) (sets (sets row 25 (bytes 2 (slotStart l + 24 * (i + 1)))) 27 (encodeHeader (raised (decodeHeader l)) (i + 1)))
+        (sets (sets (sets row 25 (bytes 2 (slotStart l + 24 * (i + 1)))) 27 (encodeHeader (raised (decodeHeader l)) (i + 1))) (27 + slotStart l + 24 * stripeCount l) (encodeSlots (replicate (i + 1 - stripeCount l) Hole)))
         (omega arith) (omega arith) (omega arith) (omega arith)
         (ap (λ (y : List ℕ). sets y 25 (bytes 2 (slotStart l + 24 * (i + 1)))) (sym (used-back row b u)))
         (rw (header-of row))
         (rw (count-of row))
 
-    pub grow-nested : sets (sets (sets (sets row 25 (bytes 2 (slotStart (layoutBytes row) + 24 * (i + 1)))) 27 (encodeHeader (decodeHeader (layoutBytes row)) (i + 1)))
+    pub grow-nested : sets (sets (sets (sets row 25 (bytes 2 (slotStart (layoutBytes row) + 24 * (i + 1)))) 27 (encodeHeader (raised (decodeHeader (layoutBytes row))) (i + 1)))
         (27 + slotStart (layoutBytes row) + 24 * stripeCount (layoutBytes row)) (encodeSlots (replicate (i + 1 - stripeCount (layoutBytes row)) Hole)))
-        (27 + slotStart (layoutBytes row) + 24 * i) (encodeSlot s) ≡ renderParent (withSlot (grown (parseParent row) i) i s)
+        (27 + slotStart (layoutBytes row) + 24 * i) (encodeSlot s) ≡ renderParent (grown (parseParent row) i s)
     unfolding longerRow
     grow-nested =
         let l : List ℕ = layoutBytes row in
         let p : Parent = decodeParent row in
         let n : length (p .layout .slots) ≡ stripeCount l = count-of row in
         let k : 32 + length (p .layout .pool) ≡ slotStart l = pool-of row (used-facts row u) in
-        let e : sets longerRow (27 + slotStart l + 24 * i) (encodeSlot s) ≡ sets (renderParent (grown (used p) i)) (27 + slotStart l + 24 * i) (encodeSlot s) =
+        let e : sets longerRow (27 + slotStart l + 24 * i) (encodeSlot s) ≡ sets (renderParent (used (longer p (raised (p .layout .header)) (suc i - length (p .layout .slots))))) (27 + slotStart l + 24 * i) (encodeSlot s) =
         ap (λ (y : List ℕ). sets y (27 + slotStart l + 24 * i) (encodeSlot s)) longer-is in
         e ∙ grown-slot p i (27 + slotStart l + 24 * i) s (omega arith) (omega arith)
-        ∙ ap (λ (w : ParentRow). renderParent (withSlot (grown w i) i s)) (sym (parent-used row (u .used)))
+        ∙ ap (λ (w : ParentRow). renderParent (grown w i s)) (sym (parent-used row (u .used)))
 
-    pub grow-stores : (l : List ℕ) → l ≡ layoutBytes row → (hd : Header) → hd ≡ decodeHeader l → (st : ℕ) → st ≡ slotStart l → (n : ℕ) → n ≡ stripeCount l → (x1 x2 x3 x4 : List ℕ) →
-        x1 ≡ sets row 25 (bytes 2 (st + 24 * (i + 1))) → x2 ≡ sets x1 27 (encodeHeader hd (i + 1)) → x3 ≡ sets x2 (27 + st + 24 * n) (encodeSlots (replicate (i + 1 - n) Hole)) →
-        x4 ≡ sets x3 (27 + st + 24 * i) (encodeSlot s) → x4 ≡ renderParent (withSlot (grown (parseParent row) i) i s)
-    grow-stores l el hd eh st es n en x1 x2 x3 x4 q1 q2 q3 q4 = rw (q4, q3, q2, q1, en, es, eh, el) grow-nested
+    pub grow-stores : (l : List ℕ) → l ≡ layoutBytes row → (hd : Header) → hd ≡ decodeHeader l → (up : Header) → up ≡ raised hd → (st : ℕ) → st ≡ slotStart l → (n : ℕ) → n ≡ stripeCount l → (x1 x2 x3 x4 : List ℕ) →
+        x1 ≡ sets row 25 (bytes 2 (st + 24 * (i + 1))) → x2 ≡ sets x1 27 (encodeHeader up (i + 1)) → x3 ≡ sets x2 (27 + st + 24 * n) (encodeSlots (replicate (i + 1 - n) Hole)) →
+        x4 ≡ sets x3 (27 + st + 24 * i) (encodeSlot s) → x4 ≡ renderParent (grown (parseParent row) i s)
+    grow-stores l el hd eh up eu st es n en x1 x2 x3 x4 q1 q2 q3 q4 = rw (q4, q3, q2, q1, en, es, eu, eh, el) grow-nested
 
-    pub grow-length : length (renderParent (withSlot (grown (parseParent row) i) i s)) ≡ parentSize
+    pub grow-length : length (renderParent (grown (parseParent row) i s)) ≡ parentSize
     grow-length =
         let l : List ℕ = layoutBytes row in
         ap length (sym grow-nested)
-        ∙ length-sets (sets (sets (sets row 25 (bytes 2 (slotStart l + 24 * (i + 1)))) 27 (encodeHeader (decodeHeader l) (i + 1))) (27 + slotStart l + 24 * stripeCount l) (encodeSlots (replicate (i + 1 - stripeCount l) Hole))) (27 + slotStart l + 24 * i) (encodeSlot s)
-        ∙ length-sets (sets (sets row 25 (bytes 2 (slotStart l + 24 * (i + 1)))) 27 (encodeHeader (decodeHeader l) (i + 1))) (27 + slotStart l + 24 * stripeCount l) (encodeSlots (replicate (i + 1 - stripeCount l) Hole))
-        ∙ length-sets (sets row 25 (bytes 2 (slotStart l + 24 * (i + 1)))) 27 (encodeHeader (decodeHeader l) (i + 1))
+        ∙ length-sets (sets (sets (sets row 25 (bytes 2 (slotStart l + 24 * (i + 1)))) 27 (encodeHeader (raised (decodeHeader l)) (i + 1))) (27 + slotStart l + 24 * stripeCount l) (encodeSlots (replicate (i + 1 - stripeCount l) Hole))) (27 + slotStart l + 24 * i) (encodeSlot s)
+        ∙ length-sets (sets (sets row 25 (bytes 2 (slotStart l + 24 * (i + 1)))) 27 (encodeHeader (raised (decodeHeader l)) (i + 1))) (27 + slotStart l + 24 * stripeCount l) (encodeSlots (replicate (i + 1 - stripeCount l) Hole))
+        ∙ length-sets (sets row 25 (bytes 2 (slotStart l + 24 * (i + 1)))) 27 (encodeHeader (raised (decodeHeader l)) (i + 1))
         ∙ length-sets row 25 (bytes 2 (slotStart l + 24 * (i + 1))) ∙ u .size
 
 -- ## A parent made
 
 module _ (row : List ℕ) (f : MdtFid) (i : ℕ) (w : Owner) (s : Slot) (z : length row ≡ parentSize) (m : i < maxSlots) where
   pub made-nested : sets (sets (sets (sets (sets (sets (set row 0 1) 1 (encodeFid (f .0))) 17 (encodeOwner w)) 25 (bytes 2 (32 + 24 * (i + 1)))) 27 (encodeHeader (madeHeader f) (i + 1)))
-      59 (encodeSlots (replicate (i + 1) Hole))) (59 + 24 * i) (encodeSlot s) ≡ renderParent (withSlot (made f i w (drop 1 row)) i s)
+      59 (encodeSlots (replicate (i + 1) Hole))) (59 + 24 * i) (encodeSlot s) ≡ renderParent (made f i w s (drop 1 row))
   made-nested =
       ap (λ (y : List ℕ). sets y (59 + 24 * i) (encodeSlot s)) (made-render f i (32 + 24 * (i + 1)) w row _ _ _ _ _ _ (omega arith) refl refl refl refl refl refl refl)
       ∙ made-slot f i w s row
 
-  pub made-length : length (renderParent (withSlot (made f i w (drop 1 row)) i s)) ≡ parentSize
+  pub made-length : length (renderParent (made f i w s (drop 1 row))) ≡ parentSize
   made-length =
       let a : List ℕ = sets (sets (set row 0 1) 1 (encodeFid (f .0))) 17 (encodeOwner w) in
       let b : List ℕ = sets a 25 (bytes 2 (32 + 24 * (i + 1))) in

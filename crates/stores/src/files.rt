@@ -36,7 +36,7 @@ pub fn put_slot(parents: &mut [u8], r: usize, j: usize, s: Slot)
 // Grows the layout of row r to i + 1 slots, the last of which is s.
 pub fn grow(parents: &mut [u8], r: usize, i: usize, s: Slot)
     requires { ⌜ UsedAt (now parents) r × (stripeCount (layoutBytes (rowBytes (now parents) r)) ≤ i) × (i < maxSlots) ⌝ }
-    ensures { λ _. ⌜ now (parents .exit) ≡ sets (now (parents .entry)) (parentSize * r) (renderParent (withSlot (grown (parseParent (rowBytes (now (parents .entry)) r)) i) i s)) ⌝ }
+    ensures { λ _. ⌜ now (parents .exit) ≡ sets (now (parents .entry)) (parentSize * r) (renderParent (grown (parseParent (rowBytes (now (parents .entry)) r)) i s)) ⌝ }
 {
     let a = PARENT_SIZE * r;
     let e = a + PARENT_SIZE;
@@ -46,7 +46,7 @@ pub fn grow(parents: &mut [u8], r: usize, i: usize, s: Slot)
 // Makes a parent of i + 1 slots in row r, the last of which is s.
 pub fn make(parents: &mut [u8], r: usize, f: MdtFid, i: usize, w: Owner, s: Slot)
     requires { ⌜ (parentSize * r + parentSize ≤ length (now parents)) × (i < maxSlots) ⌝ }
-    ensures { λ _. ⌜ now (parents .exit) ≡ sets (now (parents .entry)) (parentSize * r) (renderParent (withSlot (made f i w (drop 1 (rowBytes (now (parents .entry)) r))) i s)) ⌝ }
+    ensures { λ _. ⌜ now (parents .exit) ≡ sets (now (parents .entry)) (parentSize * r) (renderParent (made f i w s (drop 1 (rowBytes (now (parents .entry)) r)))) ⌝ }
 {
     let a = PARENT_SIZE * r;
     let e = a + PARENT_SIZE;

@@ -59,10 +59,10 @@ pub fn put_slot(row: &mut [u8], j: usize, s: Slot)
     layout::change_slot(&mut row[ROOM_AT..end], j, s);
 }
 
-// Grows the layout to i + 1 slots, the last of which is s and the others new are holes.
+// Grows the layout to i + 1 slots, the last of which is s and the others new are holes; its generation goes up by one.
 pub fn grow(row: &mut [u8], i: usize, s: Slot)
     requires { ⌜ UsedRow (now row) × (stripeCount (layoutBytes (now row)) ≤ i) × (i < maxSlots) ⌝ }
-    ensures { λ _. ⌜ now (row .exit) ≡ renderParent (withSlot (grown (parseParent (now (row .entry))) i) i s) ⌝ }
+    ensures { λ _. ⌜ now (row .exit) ≡ renderParent (grown (parseParent (now (row .entry))) i s) ⌝ }
 {
     let l = rows::layout_of(row);
     let h = layout::read_header(l);
@@ -70,7 +70,7 @@ pub fn grow(row: &mut [u8], i: usize, s: Slot)
     let n = layout::stripe_count(l) as usize;
     let size = start + SLOT_SIZE * (i + 1);
     wire::put_le16(row, LENGTH_AT, size as u16);
-    pieces::put_header(row, ROOM_AT, h, (i + 1) as u16);
+    pieces::put_header(row, ROOM_AT, layout::raised(h), (i + 1) as u16);
     pieces::put_holes(row, ROOM_AT + start + SLOT_SIZE * n, i + 1 - n);
     pieces::put_slot(row, ROOM_AT + start + SLOT_SIZE * i, s);
 }
@@ -111,7 +111,7 @@ fn put_front(row: &mut [u8], f: MdtFid, w: Owner, size: u16)
 // Makes a parent of i + 1 slots, the last of which is s and the others are holes.
 pub fn make(row: &mut [u8], f: MdtFid, i: usize, w: Owner, s: Slot)
     requires { ⌜ (length (now row) ≡ parentSize) × (i < maxSlots) ⌝ }
-    ensures { λ _. ⌜ now (row .exit) ≡ renderParent (withSlot (made f i w (drop 1 (now (row .entry)))) i s) ⌝ }
+    ensures { λ _. ⌜ now (row .exit) ≡ renderParent (made f i w s (drop 1 (now (row .entry)))) ⌝ }
 {
     let size = PLAIN_HEADER + SLOT_SIZE * (i + 1);
     put_front(row, f, w, size as u16);

@@ -1,51 +1,40 @@
 use denote.Ref.{now}
-use mathlib.Core.Path.{ap, _∙_}
-use mathlib.Core.List.{List}
-use Prim.Native.Nat.{ℕ, _+_, _*_, _-_}
+use mathlib.Core.Path.{sym, _∙_}
 use native.Mathlib.Omega.{arith}
-use lib.Seq.{sets}
-use borrow.Rule.Slice.PartMut.{putMid}
 use Rattle.wire.proofs.NumberLaws.{Bytes}
-use Rattle.wire.proofs.Splice.{put-sets}
-use Rattle.layout.specs.Slot.{slotSize, encodeSlot}
-use Rattle.layout.proofs.SlotLaws.{length-slot}
-use Rattle.layout.proofs.LayoutLaws.{exact-size, exact-long, spliced}
+use Rattle.layout.proofs.LayoutLaws.{exact-long, place-long, stays-spliced, spliced}
 use borrow.Author.Needs.{needs}
 use Rattle.layout.proofs.change_slot.Statement.{statement}
 use Rattle.layout.proofs.change_slot.Tie as tie
 
-slot-start-requires : tie.Need-slot-start-requires
-slot-start-requires c κs = omega (arith, exact-long _ (c .before .before .pre .0))
-
-mul-a : tie.Need-mul-a
-mul-a c = let p = c .before .before .before .pre in omega (arith, exact-size _ (p .0), c .slot-start .ensures)
-
-add-a : tie.Need-add-a
-add-a c = let p = c .before .before .before .pre in omega (arith, exact-size _ (p .0), c .slot-start .ensures)
-
-add-e : tie.Need-add-e
-add-e c = let p = c .before .before .before .pre in omega (arith, exact-size _ (p .0), c .slot-start .ensures)
-
-part-put-slot-end : tie.Need-part-put-slot-end
-part-put-slot-end c = let p = c .before .before .before .pre in omega (arith, exact-size _ (p .0), c .slot-start .ensures)
-
 returns : tie.Need-returns
 unfolding Bytes
 returns c =
-    let w = c .before .before in
-    let t = w .before .before in
-    let k = t .before .before in
+    let k = c .before .before .before in
     let d = k .before in
-    let l : List ℕ = now (d .args .layout) in
-    let at : ℕ = t .slot-start .result + slotSize * d .args .j in
-    let z = exact-size l (d .pre .0) in
-    let e = t .slot-start .ensures in
-    ap (λ (y : List ℕ). putMid at (at + slotSize - at) l y) (w .put-slot .ensures)
-    ∙ put-sets at (at + slotSize) l (encodeSlot (d .args .s)) (omega (arith, length-slot (d .args .s))) (omega (arith, d .pre .1))
-    ∙ ap (λ (n : ℕ). sets l (n + slotSize * d .args .j) (encodeSlot (d .args .s))) e
-    ∙ spliced l (d .args .j) (d .args .s) (λ i. k .slice-known .given i .fits) (d .pre .0) (d .pre .1)
+    stays-spliced (now (d .args .layout)) (d .args .j) (d .args .s) (λ i. k .slice-known .given i .fits) (d .pre .0) (d .pre .1)
+    (sym (c .if1 .taken) ∙ c .before .has-slot .ensures)
+
+le16-requires : tie.Need-le16-requires
+le16-requires c κs = omega (arith, exact-long _ (c .before .before .before .before .before .pre .0))
+
+put-le16-requires : tie.Need-put-le16-requires
+put-le16-requires c κs =
+    let p = c .before .before .before .before in
+    let d = p .before .before .before .before .before .before .before .before in
+    place-long (now (d .args .layout)) (d .args .j) (d .args .s) _ (d .pre .0) (p .place-slot .ensures)
+
+returns-2 : tie.Need-returns-2
+unfolding Bytes
+returns-2 c =
+    let u = c .before .before in
+    let p = u .before .before .before .before .before in
+    let g = p .before .before in
+    let h = g .before .before .before in
+    let k = h .before .before in
+    let d = k .before in
+    spliced (now (d .args .layout)) (d .args .j) (d .args .s) (λ i. k .slice-known .given i .fits) (d .pre .0) (d .pre .1) _ _ _ _
+    (sym (g .before .before .if1 .left) ∙ h .has-slot .ensures) (g .le16 .ensures) (p .place-slot .ensures) (u .before .next-generation .ensures) (u .put-le16 .ensures)
 
 pub change-slot-spec : {M : Type 1} → statement M
-change-slot-spec =
-    tie.close (tie.spec slot-start-requires mul-a add-a add-e (λ c. search needs) (λ c. search needs) part-put-slot-end (λ c κs. search needs)
-    (λ c. search needs) returns)
+change-slot-spec = tie.close (tie.spec (λ c κs. search needs) (λ c. search needs) returns le16-requires (λ c κs. search needs) (λ c κs. search needs) put-le16-requires (λ c. search needs) returns-2)

@@ -1,0 +1,55 @@
+-- The generations of the layouts, over a step and over a run. Document 02, 2026-05.
+use Prim.Native.Nat.{ℕ, zero, suc, _+_, _%_, _<_}
+use mathlib.Core.Path.{_≡_}
+use mathlib.Core.Bool.{cond}
+use mathlib.Core.List.{List}
+use Rattle.layout.specs.Slot.{sameSlots}
+use Rattle.layout.specs.Layout.{generationWith}
+use Rattle.tables.specs.Records.{Parent, ParentRow, used, Tables}
+use Rattle.tables.specs.Positions.{slotsOf, rowAt, isEnd, next}
+use Rattle.tables.specs.declared.Position.{Position}
+use Rattle.rules.specs.Repairs.{applyWrites}
+use Rattle.rules.specs.declared.Step.{Step}
+use Rattle.rules.specs.declared.Step.the-variants.{Rests as rests, Repairs as repairs, Stops as stops}
+use Rattle.rules.specs.Steps.{stepAt}
+use Rattle.rules.specs.Runs.{run, stepTables}
+use Rattle.rules.specs.Settings.{Settings}
+
+-- ## A step
+
+-- a layout that exists goes on: its row stays used, and its generation is the one before, raised by one exactly where the slots or their
+-- number differ
+unfoldable pub GoesOn : ParentRow → ParentRow → Type 0
+GoesOn v w =
+    (p : Parent) → v ≡ used p →
+    (q : Parent) × (w ≡ used q) × (q .layout .header .generation ≡ generationWith (p .layout) (q .layout .slots))
+
+-- "Every step that changes a slot or the slot count of an existing layout now raises that layout's generation by one", and no other does
+unfoldable pub RaisedStep : Settings → Tables → Position → Type 0
+RaisedStep settings T p =
+    (r : ℕ) → GoesOn (rowAt (T .parents) r) (rowAt (stepTables (stepAt settings T p) T .parents) r)
+
+-- ## A run
+
+-- whether row r has other slots, or another number of them: 1 or 0
+unfoldable pub restripes : ℕ → Tables → Tables → ℕ
+restripes r T S = cond (sameSlots (slotsOf (rowAt (T .parents) r)) (slotsOf (rowAt (S .parents) r))) 0 1
+
+-- one step's, and those of the steps that follow it
+unfoldable pub restripesFrom : ℕ → Tables → (Tables → ℕ) → Step → ℕ
+restripesFrom r T go rests = go T
+restripesFrom r T go (repairs c a b e) = restripes r T (applyWrites a b e T) + go (applyWrites a b e T)
+restripesFrom r T go (stops a) = 0
+
+-- how many steps of a run change row r's slots or their number
+unfoldable pub restripings : Settings → ℕ → ℕ → Tables → Position → ℕ
+restripings settings r zero T p = 0
+restripings settings r (suc n) T p =
+    cond (isEnd p) 0 (restripesFrom r T (λ S. restripings settings r n S (next S p)) (stepAt settings T p))
+
+-- after a run, a row that was used before it has the generation that it had and as many more, modulo 65,536
+unfoldable pub RaisedRun : Settings → ℕ → Tables → Position → Type 0
+RaisedRun settings n T p =
+    (r : ℕ) (w : Parent) → rowAt (T .parents) r ≡ used w → w .layout .header .generation < 65536 →
+    (q : Parent) × (rowAt (run settings n T p .tables .parents) r ≡ used q)
+    × (q .layout .header .generation ≡ (w .layout .header .generation + restripings settings r n T p) % 65536)
