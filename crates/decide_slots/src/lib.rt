@@ -115,12 +115,8 @@ fn make_object(parents: &[u8], objects: &[u8], r: usize, j: u32, ost: u32, f: Os
         Row::NoRow => Step::Stops(22),
         Row::RowIs(o) => {
             let x = new_object(parents, r, j, f, ost);
-            Step::Repairs(
-                Repair::OfDangling,
-                Write::Object(o, x),
-                Write::Nothing,
-                Write::Nothing,
-            )
+            let object = Write::Object(o, x);
+            Step::Repairs(Repair::OfDangling, object, Write::Nothing, Write::Nothing)
         }
     }
 }

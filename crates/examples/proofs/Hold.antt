@@ -1,7 +1,7 @@
 -- The examples hold, by computation.
 use mathlib.Core.Path.{_≡_, refl}
 use mathlib.Core.Bool.{true}
-use Rattle.examples.specs.Cases.{fid, P, Q, A, B, C, N, us, root, on, layoutOf, saysOf, fileAt, file, noFile, object, holds, fresh, free, case, tables, passes, go, same, came, ends, rests, stays, slotNumbersOf, class, objectIs, none, one-self, one-multiple, one-dangling, one-blank, one-unmatched, one-owner, one-empty, one-orphan, two-orphans, made-and-taken, two-wrong-ost, claim, E4-parents, E5-objects, spare, E4, E5, E6, E7-parents, E7, E7-created, E8-objects, E8, E9, E10, E11-parents, E11, E12, E13, own-wrong, blank, other-owner, emptied, exchanged, blank-elsewhere, unmatched-elsewhere, mended-elsewhere, last-generation, made-then-grown, generationIn, leaves, unfound, looks, E2, every, examples}
+use Rattle.examples.specs.Cases.{fid, P, Q, A, B, C, N, us, root, on, layoutOf, saysOf, fileAt, file, noFile, object, holds, fresh, free, case, tables, passes, go, same, came, ends, rests, stays, slotNumbersOf, class, objectIs, none, one-self, one-multiple, one-dangling, one-blank, one-unmatched, one-owner, one-empty, one-orphan, two-orphans, made-and-taken, two-wrong-ost, claim, E4-parents, E5-objects, spare, E4, E5, E6, E7-parents, E7, E7-created, E8-objects, E8, E9, E10, E11-parents, E11, E12, E13, own-wrong, blank, other-owner, emptied, exchanged, blank-elsewhere, unmatched-elsewhere, mended-elsewhere, last-generation, made-then-grown, leaves, unfound, looks, E2, every, examples}
 use Rattle.wire.specs.Numbers.{le, bytes}
 use Rattle.wire.specs.Rows.{rows}
 use Rattle.fid.specs.Fid.{goodObject as goodObjectFid, goodFid, goodNumber, goodSequence, decodeFid, encodeFid, sameFid, zeroFid, goodFile, goodReserve}
@@ -12,7 +12,7 @@ use Rattle.tables.specs.Bytes.{isUsed, decodeOwner, encodeOwner, layoutLength, 
 use Rattle.tables.specs.Positions.{slotsOf, rowAt, width, inStageOne, inStageTwo, isPosition, isEnd, place, fromObject, fromParent, start, afterPart, next, rowSteps, countSteps}
 use Rattle.tables.specs.Check.{all, goodObject, hasSelf, noneTwice, allDifferent, firstFailing, inputTests, isRowOf, checkNumber, tablesWhole, parentsWhole, objectsWhole, reserveWhole, wholeRows, usedMark, freshMark, isMark, whenUsed, goodPolicy, goodLayouts, goodLayout, goodFids, goodParent, goodIndex, goodClaim, freshClaims, goodEntry, goodObject}
 use Rattle.rules.specs.Search.{rowFrom, slotFrom, placeFrom, orElse, isSomewhere, isRow}
-use Rattle.rules.specs.Rows.{selfOf, ownerOf, tailOf, holesIn, isParent, parentRow, freeParent, slotAt, namesAt, scan, named, namesElse, namedElse, objectAt, isObject, objectRow, freeObject, objectIn, objectInRow, objectOf, sameOwner, isUnused, hasFid, firstRow}
+use Rattle.rules.specs.Rows.{selfOf, ownerOf, tailOf, generationIn, holesIn, isParent, parentRow, freeParent, slotAt, namesAt, scan, named, namesElse, namedElse, objectAt, isObject, objectRow, freeObject, objectIn, objectInRow, objectOf, sameOwner, isUnused, hasFid, firstRow}
 use Rattle.rules.specs.Keeper.{claimIn, claimsParent, inClaimed, atClaimed, keeperBy, keeper, isPlace, claimsSlot}
 use Rattle.rules.specs.Compared.{upTo, hit, inTurn, allSlots, casesIn, cases, comparedBy, compared}
 use Rattle.rules.specs.Places.{takeable, slotWay, rowWay, way, isWay, samePlace, claims}

@@ -12,7 +12,7 @@ use Rattle.wire.specs.Numbers.{le, bytes}
 use Rattle.wire.proofs.Splice.{sets-at}
 use Rattle.wire.proofs.NumberLaws.{Bytes, field, bytes-drop, bytes-le, length-bytes, le-small, le-small-at}
 use Rattle.layout.specs.declared.Header.{Header}
-use Rattle.layout.specs.Layout.{patternAt, ownIdAt, ownSequenceAt, stripeSizeAt, stripeCountAt, generationAt, plainHeader, poolHeader, headerSize, magicOne, magicThree, decodeHeader, encodeHeader, atGeneration, stripeCount, knownVersion, knownPattern, plainPattern, holePattern}
+use Rattle.layout.specs.Layout.{patternAt, ownIdAt, ownSequenceAt, stripeSizeAt, stripeCountAt, generationAt, plainHeader, poolHeader, headerSize, magicOne, magicThree, decodeHeader, encodeHeader, generations, atGeneration, stripeCount, knownVersion, knownPattern, plainPattern, holePattern}
 
 pub size-three : (m : ℕ) → m ≡ magicThree → poolHeader ≡ headerSize m
 unfolding headerSize
@@ -119,7 +119,7 @@ pub record FitHeader (h : Header) : Type 0 where
   pub stripe : h .stripe < 2 ^ 32
   pub generation : h .generation < 2 ^ 16
 
-pub fit-generation : (h : Header) (g : ℕ) → FitHeader h → g < 65536 → FitHeader (atGeneration h g)
+pub fit-generation : (h : Header) (g : ℕ) → FitHeader h → g < generations → FitHeader (atGeneration h g)
 unfolding atGeneration
 fit-generation h g f e =
     record { magic = f .magic; pattern = f .pattern; oid = f .oid; seq = f .seq; stripe = f .stripe; generation = e }

@@ -338,10 +338,7 @@ allowed-set holes (x ∷ ss) (suc j) s a t =
     rw (and-first (allowedSlot holes x) (allowedSlots holes ss) a)
     (allowed-set holes ss j s (and-second (allowedSlot holes x) (allowedSlots holes ss) a) t)
 
--- the layout with slot j set, its header as it was
-setSlot : Layout → ℕ → Slot → Layout
-setSlot L j s = record { header = L .header; pool = L .pool; slots = set (L .slots) j s }
-
+-- the bytes of the layout with slot j set, its header as it was
 pub slot-bytes : (L : Layout) (j : ℕ) (s : Slot) → j < length (L .slots) →
     encodeLayout (record { header = L .header; pool = L .pool; slots = set (L .slots) j s }) ≡
     sets (encodeLayout L) (plainHeader + length (L .pool) + slotSize * j) (encodeSlot s)
@@ -389,9 +386,9 @@ generation-bytes L g =
 pub changed-bytes : (L : Layout) (j : ℕ) (s : Slot) → j < length (L .slots) →
     encodeLayout (changed L j s) ≡
     sets (sets (encodeLayout L) (plainHeader + length (L .pool) + slotSize * j) (encodeSlot s)) generationAt (bytes 2 (generationWith L (set (L .slots) j s)))
-unfolding changed restriped setSlot
+unfolding changed restriped
 changed-bytes L j s h =
-    generation-bytes (setSlot L j s) (generationWith L (set (L .slots) j s))
+    generation-bytes (record { header = L .header; pool = L .pool; slots = set (L .slots) j s }) (generationWith L (set (L .slots) j s))
     ∙ ap (λ (l : List ℕ). sets l generationAt (bytes 2 (generationWith L (set (L .slots) j s)))) (slot-bytes L j s h)
 
 pub length-changed : (L : Layout) (j : ℕ) (s : Slot) → j < length (L .slots) → length (encodeLayout (changed L j s)) ≡ length (encodeLayout L)
@@ -452,7 +449,7 @@ rewrite-taken l j s = go (acceptedLayout l) (allowedSlot (withHoles (decodeHeade
     go true false u q e = absurd (omega (arith, e))
     go false t u q e = absurd (omega (arith, e))
 
--- "The slot rewrite now touches two more bytes": the slot's 24 and those at 30 and 31, and no others
+-- the bytes of a rewrite: the slot's 24 and those at 30 and 31
 pub rewrite-splices : (l : List ℕ) (j : ℕ) (s : Slot) → Bytes l → rewriteAnswer l j s ≡ 0 → sameSlot (slotOf (drop (slotStart l) l) j) s ≡ false →
     rewriteBytes l j s ≡ sets (sets l (slotStart l + slotSize * j) (encodeSlot s)) generationAt (bytes 2 (nextGeneration (le 2 (drop generationAt l))))
 unfolding rewriteBytes

@@ -15,7 +15,7 @@ use Rattle.layout.specs.declared.Header.{Header}
 use Rattle.layout.specs.declared.Slot.{Slot}
 use Rattle.layout.specs.declared.Slot.the-variants.{Hole, Names}
 use Rattle.layout.specs.Slot.{sameSlot, sameSlots}
-use Rattle.layout.specs.Layout.{Layout, nextGeneration, atGeneration, generationWith, restriped, raised}
+use Rattle.layout.specs.Layout.{Layout, lastGeneration, generations, nextGeneration, atGeneration, generationWith, restriped, raised}
 
 -- ## Slots that are the same
 
@@ -103,24 +103,24 @@ slots-changed (x ∷ ss) (suc j) s h = rw (slot-self x) (slots-changed ss j s (o
 
 -- ## Generations
 
-pub next-small : (g : ℕ) → g < 65536 → nextGeneration g < 65536
+pub next-small : (g : ℕ) → g < generations → nextGeneration g < generations
 unfolding nextGeneration
-next-small g h = go (eqb g 65535) refl
+next-small g h = go (eqb g lastGeneration) refl
   where
-    off : eqb g 65535 ≡ false → g ≡ 65535 → ⊥
-    off e q = let t = eq-eqb g 65535 q in let z : _≡_ {A = ℕ} 0 1 = cc in omega arith
+    off : eqb g lastGeneration ≡ false → g ≡ lastGeneration → ⊥
+    off e q = let t = eq-eqb g lastGeneration q in let z : _≡_ {A = ℕ} 0 1 = cc in omega arith
 
-    go : (b : Bool) → eqb g 65535 ≡ b → cond b 0 (g + 1) < 65536
+    go : (b : Bool) → eqb g lastGeneration ≡ b → cond b 0 (g + 1) < generations
     go true e = omega arith
     go false e = let n = off e in omega arith
 
-pub next-last : (g : ℕ) → g ≡ 65535 → 0 ≡ nextGeneration g
+pub next-last : (g : ℕ) → g ≡ lastGeneration → 0 ≡ nextGeneration g
 unfolding nextGeneration
-next-last g e = rw (eq-eqb g 65535 e)
+next-last g e = rw (eq-eqb g lastGeneration e)
 
-pub next-more : (g : ℕ) → (g ≡ 65535 → ⊥) → g + 1 ≡ nextGeneration g
+pub next-more : (g : ℕ) → (g ≡ lastGeneration → ⊥) → g + 1 ≡ nextGeneration g
 unfolding nextGeneration
-next-more g e = rw (ne-eqb g 65535 e)
+next-more g e = rw (ne-eqb g lastGeneration e)
 
 pub raised-is : (h : Header) (g : ℕ) → g ≡ nextGeneration (h .generation) →
     _≡_ {A = Header} (record { magic = h .magic; pattern = h .pattern; oid = h .oid; seq = h .seq; stripe = h .stripe; generation = g }) (raised h)
@@ -140,10 +140,10 @@ module _ (L : Layout) (ss : List Slot) where
   unfolding restriped generationWith raised
   restriped-raised e = rw e
 
-  pub generation-small : L .header .generation < 65536 → generationWith L ss < 65536
+  pub generation-small : L .header .generation < generations → generationWith L ss < generations
   unfolding generationWith
   generation-small h = go (sameSlots (L .slots) ss)
     where
-      go : (b : Bool) → cond b (L .header .generation) (nextGeneration (L .header .generation)) < 65536
+      go : (b : Bool) → cond b (L .header .generation) (nextGeneration (L .header .generation)) < generations
       go true = h
       go false = next-small (L .header .generation) h

@@ -1,11 +1,12 @@
 -- What the readers and the slot rewrite answer and leave in the lent bytes, refusals first.
-use Prim.Native.Nat.{ℕ}
+use Prim.Native.Nat.{ℕ, _+_, _*_}
+use mathlib.Core.Path.{_≡_}
 use mathlib.Core.List.{List}
-use mathlib.Core.Bool.{cond, _&&_}
+use mathlib.Core.Bool.{Bool, false, cond, _&&_, _||_}
 use lib.ListN.{getD}
-use lib.Dec.{ltb, eqb}
-use Rattle.layout.specs.Slot.{allowedSlot}
-use Rattle.layout.specs.Layout.{decodeHeader, decodeLayout, encodeLayout, changed, acceptedLayout, stripeCount, withHoles}
+use lib.Dec.{leb, ltb, eqb}
+use Rattle.layout.specs.Slot.{slotSize, allowedSlot}
+use Rattle.layout.specs.Layout.{generationAt, slotStart, decodeHeader, decodeLayout, encodeLayout, changed, acceptedLayout, stripeCount, withHoles}
 use Rattle.layout.specs.declared.Slot.{Slot}
 use Rattle.layout.specs.declared.Slot.the-variants.{Hole}
 use Rattle.layout.specs.declared.Reading.{Reading}
@@ -46,3 +47,15 @@ rewriteAnswer l j s =
 -- A refusal changes nothing
 unfoldable pub rewriteBytes : List ℕ → ℕ → Slot → List ℕ
 rewriteBytes l j s = cond (eqb (rewriteAnswer l j s) 0) (encodeLayout (changed (decodeLayout l) j s)) l
+
+-- whether byte i is one of n from a place on
+unfoldable pub within : ℕ → ℕ → ℕ → Bool
+within at n i = leb at i && ltb i (at + n)
+
+-- the 26 bytes that a rewrite of slot j may change: the slot's 24 and the generation's 2
+unfoldable pub inRewrite : List ℕ → ℕ → ℕ → Bool
+inRewrite l j i = within (slotStart l + slotSize * j) slotSize i || within generationAt 2 i
+
+-- no others change, whatever is answered
+unfoldable pub OthersStay : List ℕ → ℕ → Slot → Type 0
+OthersStay l j s = (i : ℕ) → inRewrite l j i ≡ false → getD (rewriteBytes l j s) i 0 ≡ getD l i 0

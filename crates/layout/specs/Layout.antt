@@ -93,9 +93,16 @@ encodeLayout L = encodeHeader (L .header) (length (L .slots)) ++ L .pool ++ enco
 
 -- ## Other slots
 
+-- the greatest generation, and how many there are
+abbrev pub lastGeneration : ℕ
+lastGeneration = 65535
+
+abbrev pub generations : ℕ
+generations = lastGeneration + 1
+
 -- "raises that layout's generation by one, 65,535 going to 0"
 unfoldable pub nextGeneration : ℕ → ℕ
-nextGeneration g = cond (eqb g 65535) 0 (g + 1)
+nextGeneration g = cond (eqb g lastGeneration) 0 (g + 1)
 
 unfoldable pub atGeneration : Header → ℕ → Header
 atGeneration h g = record { magic = h .magic; pattern = h .pattern; oid = h .oid; seq = h .seq; stripe = h .stripe; generation = g }

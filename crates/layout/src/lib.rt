@@ -18,6 +18,9 @@ pub const MAX_SLOTS: usize = 160;
 // The greatest OST index.
 pub const MAX_INDEX: u32 = 65535;
 
+// The greatest generation of a layout.
+const LAST_GENERATION: u16 = 65535;
+
 pub const MAGIC_ONE: u32 = 0x0bd1_0bd0;
 
 pub const MAGIC_THREE: u32 = 0x0bd3_0bd0;
@@ -313,7 +316,7 @@ fn exact_length(layout: &[u8]) -> bool
 fn next_generation(g: u16) -> u16
     ensures { λ r. ⌜ r ≡ nextGeneration g ⌝ }
 {
-    if g == 65535 {
+    if g == LAST_GENERATION {
         return 0;
     }
     g + 1

@@ -9,7 +9,7 @@ use lib.Dec.{eqb}
 use lib.ListN.{getD, set}
 use Rattle.fid.specs.declared.OstFid.{OstFid}
 use Rattle.layout.specs.Slot.{sameSlots}
-use Rattle.layout.specs.Layout.{Layout, nextGeneration, atGeneration, generationWith, restriped, changed}
+use Rattle.layout.specs.Layout.{Layout, lastGeneration, generations, nextGeneration, atGeneration, generationWith, restriped, changed}
 use Rattle.layout.specs.declared.Slot.{Slot}
 use Rattle.layout.specs.declared.Slot.the-variants.{Hole, Names}
 use Rattle.layout.proofs.StripeLaws.{slots-self, generation-small}
@@ -278,13 +278,13 @@ raised-step settings T p = go (eqb (p .stage) 1) (eqb (p .stage) 2)
 -- ## Every run
 
 -- one more, or none, and then as many as follow
-onward : (g k : ℕ) (b : Bool) → g < 65536 → (cond b g (nextGeneration g) + k) % 65536 ≡ (g + (cond {A = ℕ} b 0 1 + k)) % 65536
+onward : (g k : ℕ) (b : Bool) → g < generations → (cond b g (nextGeneration g) + k) % generations ≡ (g + (cond {A = ℕ} b 0 1 + k)) % generations
 unfolding nextGeneration
 onward g k true h = omega arith
-onward g k false h = go (eqb g 65535) refl
+onward g k false h = go (eqb g lastGeneration) refl
   where
-    go : (b : Bool) → eqb g 65535 ≡ b → (cond b 0 (g + 1) + k) % 65536 ≡ (g + (1 + k)) % 65536
-    go true e = let q = eqb-true g 65535 e in omega arith
+    go : (b : Bool) → eqb g lastGeneration ≡ b → (cond b 0 (g + 1) + k) % generations ≡ (g + (1 + k)) % generations
+    go true e = let q = eqb-true g lastGeneration e in omega arith
     go false e = omega arith
 
 pub raised-run : (settings : Settings) (n : ℕ) (T : Tables) (p : Position) → RaisedRun settings n T p
@@ -293,13 +293,13 @@ raised-run settings zero T p r w e h = (w, e, omega arith)
 raised-run settings (suc n) T p r w e h = go (isEnd p) (stepAt settings T p) (raised-step settings T p r w e) (λ S. raised-run settings n S (next S p) r)
   where
     Result : Run → ℕ → Type 0
-    Result x k = (q : Parent) × (rowAt (x .tables .parents) r ≡ used q) × (q .layout .header .generation ≡ (w .layout .header .generation + k) % 65536)
+    Result x k = (q : Parent) × (rowAt (x .tables .parents) r ≡ used q) × (q .layout .header .generation ≡ (w .layout .header .generation + k) % generations)
 
     go : (b : Bool) (d : Step) →
         (q : Parent) × (rowAt (stepTables d T .parents) r ≡ used q) × (q .layout .header .generation ≡ generationWith (w .layout) (q .layout .slots)) →
-        ((S : Tables) (v : Parent) → rowAt (S .parents) r ≡ used v → v .layout .header .generation < 65536 →
+        ((S : Tables) (v : Parent) → rowAt (S .parents) r ≡ used v → v .layout .header .generation < generations →
         (q : Parent) × (rowAt (run settings n S (next S p) .tables .parents) r ≡ used q)
-        × (q .layout .header .generation ≡ (v .layout .header .generation + restripings settings r n S (next S p)) % 65536)) →
+        × (q .layout .header .generation ≡ (v .layout .header .generation + restripings settings r n S (next S p)) % generations)) →
         Result (cond b (halt T p 0) (onStep T p (λ S. run settings n S (next S p)) d))
         (cond b 0 (restripesFrom r T (λ S. restripings settings r n S (next S p)) d))
     go true d s ih = (w, e, omega arith)
@@ -310,6 +310,6 @@ raised-run settings (suc n) T p r w e h = go (isEnd p) (stepAt settings T p) (ra
         let q = s .0 in
         let g : ℕ = w .layout .header .generation in
         let k : ℕ = restripings settings r n S (next S p) in
-        let small : q .layout .header .generation < 65536 = rw (s .2) (generation-small (w .layout) (q .layout .slots) h) in
+        let small : q .layout .header .generation < generations = rw (s .2) (generation-small (w .layout) (q .layout .slots) h) in
         let rest = ih S q (s .1) small in
         (rest .0, rest .1, rest .2 ∙ rw (s .2, e, s .1) (onward g k (sameSlots (w .layout .slots) (q .layout .slots)) h))

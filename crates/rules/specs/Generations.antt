@@ -1,14 +1,18 @@
 -- The generations of the layouts, over a step and over a run. Document 02, 2026-05.
 use Prim.Native.Nat.{ℕ, zero, suc, _+_, _%_, _<_}
 use mathlib.Core.Path.{_≡_}
-use mathlib.Core.Bool.{cond}
+use mathlib.Core.Bool.{Bool, true, false, cond}
 use mathlib.Core.List.{List}
 use Rattle.layout.specs.Slot.{sameSlots}
-use Rattle.layout.specs.Layout.{generationWith}
+use Rattle.layout.specs.Layout.{generations, generationWith}
 use Rattle.tables.specs.Records.{Parent, ParentRow, used, Tables}
 use Rattle.tables.specs.Positions.{slotsOf, rowAt, isEnd, next}
 use Rattle.tables.specs.declared.Position.{Position}
+use Rattle.rules.specs.Rows.{generationIn}
 use Rattle.rules.specs.Repairs.{applyWrites}
+use Rattle.rules.specs.declared.Repair.{Repair}
+use Rattle.rules.specs.declared.Repair.the-variants.{OfSelf, OfMultiple, OfDangling, OfBlank, OfUnmatched, OfOwner, OfEmpty, OfOrphan, OfWrongOst}
+use Rattle.rules.specs.declared.Write.{Write}
 use Rattle.rules.specs.declared.Step.{Step}
 use Rattle.rules.specs.declared.Step.the-variants.{Rests as rests, Repairs as repairs, Stops as stops}
 use Rattle.rules.specs.Steps.{stepAt}
@@ -28,6 +32,24 @@ GoesOn v w =
 unfoldable pub RaisedStep : Settings → Tables → Position → Type 0
 RaisedStep settings T p =
     (r : ℕ) → GoesOn (rowAt (T .parents) r) (rowAt (stepTables (stepAt settings T p) T .parents) r)
+
+-- "Mending the own id doesn't count": the repairs that leave all slots
+unfoldable pub leavesSlots : Repair → Bool
+leavesSlots OfSelf = true
+leavesSlots OfMultiple = false
+leavesSlots OfDangling = true
+leavesSlots OfBlank = false
+leavesSlots OfUnmatched = false
+leavesSlots OfOwner = true
+leavesSlots OfEmpty = true
+leavesSlots OfOrphan = false
+leavesSlots OfWrongOst = false
+
+-- a step that makes one of these leaves every generation
+unfoldable pub LeftStep : Settings → Tables → Position → Type 0
+LeftStep settings T p =
+    (c : Repair) (a b e : Write) → stepAt settings T p ≡ repairs c a b e → leavesSlots c ≡ true →
+    (r : ℕ) → generationIn (rowAt (applyWrites a b e T .parents) r) ≡ generationIn (rowAt (T .parents) r)
 
 -- ## A run
 
@@ -50,6 +72,6 @@ restripings settings r (suc n) T p =
 -- after a run, a row that was used before it has the generation that it had and as many more, modulo 65,536
 unfoldable pub RaisedRun : Settings → ℕ → Tables → Position → Type 0
 RaisedRun settings n T p =
-    (r : ℕ) (w : Parent) → rowAt (T .parents) r ≡ used w → w .layout .header .generation < 65536 →
+    (r : ℕ) (w : Parent) → rowAt (T .parents) r ≡ used w → w .layout .header .generation < generations →
     (q : Parent) × (rowAt (run settings n T p .tables .parents) r ≡ used q)
-    × (q .layout .header .generation ≡ (w .layout .header .generation + restripings settings r n T p) % 65536)
+    × (q .layout .header .generation ≡ (w .layout .header .generation + restripings settings r n T p) % generations)
