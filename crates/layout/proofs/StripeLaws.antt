@@ -9,7 +9,7 @@ use lib.Dec.{eqb}
 use lib.ListN.{length, getD, set}
 use Rattle.wire.proofs.Both.{and-first, and-second, and-both}
 use Rattle.fid.specs.Fid.{sameFid}
-use Rattle.fid.specs.declared.Fid.{Fid}
+use Rattle.fid.proofs.SameLaws.{same-self, same-is}
 use Rattle.fid.specs.declared.OstFid.{OstFid}
 use Rattle.layout.specs.declared.Header.{Header}
 use Rattle.layout.specs.declared.Slot.{Slot}
@@ -19,26 +19,10 @@ use Rattle.layout.specs.Layout.{Layout, lastGeneration, generations, nex
 
 -- ## Slots that are the same
 
-fid-same : (f g : Fid) → sameFid f g ≡ true → f ≡ g
-unfolding sameFid
-fid-same f g e =
-    let a : Bool = eqb (f .seq) (g .seq) in
-    let b : Bool = eqb (f .oid) (g .oid) in
-    let c : Bool = eqb (f .ver) (g .ver) in
-    let p : (a && b) ≡ true = and-first (a && b) c e in
-    let s = eqb-true (f .seq) (g .seq) (and-first a b p) in
-    let o = eqb-true (f .oid) (g .oid) (and-second a b p) in
-    let v = eqb-true (f .ver) (g .ver) (and-second (a && b) c e) in
-    λ i. record { seq = s i; oid = o i; ver = v i }
-
-fid-self : (f : Fid) → sameFid f f ≡ true
-unfolding sameFid
-fid-self f = rw (eq-eqb (f .seq) (f .seq) refl, eq-eqb (f .oid) (f .oid) refl, eq-eqb (f .ver) (f .ver) refl)
-
 pub slot-self : (s : Slot) → sameSlot s s ≡ true
 unfolding sameSlot
 slot-self Hole = refl
-slot-self (Names f g i) = rw (fid-self (f .0), eq-eqb g g refl, eq-eqb i i refl)
+slot-self (Names f g i) = rw (same-self (f .0), eq-eqb g g refl, eq-eqb i i refl)
 
 pub slot-same : (s t : Slot) → sameSlot s t ≡ true → s ≡ t
 unfolding sameSlot
@@ -48,7 +32,7 @@ slot-same (Names f g i) Hole e = cc
 slot-same (Names f g i) (Names h n k) e =
     let a : Bool = sameFid (f .0) (h .0) in
     let p : (a && eqb g n) ≡ true = and-first (a && eqb g n) (eqb i k) e in
-    let ef = fid-same (f .0) (h .0) (and-first a (eqb g n) p) in
+    let ef = same-is (f .0) (h .0) (and-first a (eqb g n) p) in
     let eg = eqb-true g n (and-second a (eqb g n) p) in
     let ei = eqb-true i k (and-second (a && eqb g n) (eqb i k) e) in
     λ j. Names (record { 0 = ef j }) (eg j) (ei j)

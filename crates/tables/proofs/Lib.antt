@@ -9,7 +9,6 @@ pub mod CheckLaws
 pub mod PositionLaws
 -- What is known of tables that pass
 pub mod SoundLaws
-pub mod SameLaws
 pub mod Apart
 -- Bytes to records and back
 pub mod RenderLaws

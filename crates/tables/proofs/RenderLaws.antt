@@ -20,7 +20,7 @@ use Rattle.layout.proofs.LayoutLaws.{written-back}
 use Rattle.tables.specs.Bytes.{parentSize, objectSize, isUsed, decodeOwner, encodeOwner, layoutLength, layoutBytes, decodeParent, encodeParent, parseParent, renderParent, claimFrom, claimFid, decodeObject, mark, encodeObject, parseObject, renderObject, parentRows, objectRows, parse, join, renderParents, renderObjects, selfFid, claimedFid, parseParents, parseObjects}
 use Rattle.tables.specs.Check.{Sound}
 use Rattle.tables.specs.declared.Claim.the-variants.{Unclaimed, Claims}
-use Rattle.tables.proofs.SameLaws.{same-is}
+use Rattle.fid.proofs.SameLaws.{same-is}
 use Rattle.tables.proofs.SoundLaws.{sound-facts, ParentFacts, ObjectFacts, parent-size, parent-mark, parent-facts, object-size, object-mark, object-facts}
 use Rattle.tables.proofs.EitherRow.{row-back}
 

@@ -23,7 +23,7 @@ use Rattle.tables.specs.Check.{all, whenUsed, maxParents, maxObjects, wh
 use Rattle.tables.specs.declared.Claim.{Claim}
 use Rattle.tables.specs.declared.Claim.the-variants.{Unclaimed, Claims}
 use Rattle.tables.specs.declared.Object.{Object}
-use Rattle.tables.proofs.SameLaws.{same-self, same-is}
+use Rattle.fid.proofs.SameLaws.{same-self, same-is}
 use Rattle.tables.proofs.Apart.{Apart, fileFid, thingFid, OnceEach}
 use Rattle.tables.proofs.CheckLaws.{tables-sound}
 use Rattle.tables.proofs.WritableRows.{FitParent, FitClaim, hasClaim, FitObject, file-self, file-room, file-layout, thing-self, thing-index, thing-claim, thing-fresh, FitFile, FitThing, file-long, thing-long}
