@@ -97,7 +97,8 @@ pub fn layout_write(
     }
 }
 
-/// Puts the slot of 5 numbers in the place of slot `index` of the layout. Answers 0, 13 or 16.
+/// Puts the slot of 5 numbers in the place of slot `index` of the layout and raises the layout's
+/// generation, unless the slot is that one already. Answers 0, 13 or 16.
 pub fn slot_rewrite(layout: &mut [u8], index: u64, slot: &[u64]) -> u32 {
     // SAFETY: both slices are live for the call, each with its own count; only `layout`, lent
     // by `&mut`, is written. The index is a number that the library compares with the count.
