@@ -74,7 +74,7 @@ left-header : (T : Tables) (r : ℕ) (c : HeaderClass) → Left T (repairHeader 
 unfolding Left repairHeader applyWrites applyWrite putParent rowAt
 left-header T r UNUSED-PARENT = tt
 left-header T r CLEAN-HEADER = tt
-left-header T r SELF l k =
+left-header T r SELF = λ l k.
     let row : ParentRow = getD (T .parents) r (unused []) in
     set-pointwise (T .parents) r (withOwn row) (unused []) (λ v. generationIn v ≡ generationIn (getD (T .parents) k (unused []))) k
     (λ e. rw e) (λ e. rw e (own-stays row)) (λ n. refl)
@@ -96,12 +96,12 @@ left-make T x (RowIs o) = λ l k. refl
 -- BLANK, UNMATCHED and WRONG-OST are none of them
 left-mend : (T : Tables) (c : Repair) → leavesSlots c ≡ false → (r j : ℕ) (f : OstFid) (n ost : ℕ) (a : Row) → Left T (mendAt T c r j f n ost a)
 unfolding Left mendAt mendObject
-left-mend T c no r j f n ost NoRow = tt
-left-mend T c no r j f n ost (RowIs o) = go (objectAt (T .objects) o)
+left-mend T c other r j f n ost NoRow = tt
+left-mend T c other r j f n ost (RowIs o) = go (objectAt (T .objects) o)
   where
     go : (y : ObjectRow) → Left T (mendObject (T .parents) c r j f n ost o y)
     go (unused b) = tt
-    go (used x) = λ l. absurd (true≢false (sym l ∙ no))
+    go (used x) = λ l. absurd (true≢false (sym l ∙ other))
 
 -- OWNER comes after WRONG-OST: the index is right
 owner-there : (p : Place) (there owned : Bool) (k : Claim) → claimClass p there owned k ≡ OWNER → there ≡ true
@@ -117,8 +117,8 @@ owner-there p there owned (Claims q) e = go (claims (Claims q) p) there e
 mend-stays : (T : Tables) (right index : Bool) (o : ℕ) (x : Object) (w : Write) → index ≡ true →
     Stay (T .parents) (applyWrites (cond right Nothing (PutObject o x)) (cond index Nothing w) Nothing T .parents)
 unfolding applyWrites applyWrite putObject
-mend-stays T true true o x w e k = refl
-mend-stays T false true o x w e k = refl
+mend-stays T true true o x w e = λ k. refl
+mend-stays T false true o x w e = λ k. refl
 mend-stays T right false o x w e = absurd (true≢false (sym e))
 
 left-owner : (T : Tables) (r j : ℕ) (f : OstFid) (n ost : ℕ) → slotClassOf T r j (Names f n ost) ≡ OWNER →
@@ -134,7 +134,7 @@ left-owner T r j f n ost = go (isPlace (keeper T f) r j) (objectRow (T .objects)
 
     object : (o : ℕ) (y : ObjectRow) → keeperClass home ost owner (objectIn y) ≡ OWNER → Left T (mendObject (T .parents) OfOwner r j f n ost o y)
     object o (unused b) d = tt
-    object o (used x) d l =
+    object o (used x) d = λ l.
         mend-stays T (claims (x .claim) home && sameOwner (x .owner) owner) (eqb (x .ost) ost) o (mended (T .parents) r j x) (PutSlot r j (Names f n (x .ost)))
         (owner-there home (eqb (x .ost) ost) (sameOwner (x .owner) owner) (x .claim) d)
 

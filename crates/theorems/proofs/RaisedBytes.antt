@@ -25,14 +25,13 @@ module _ (p : List ℕ) (r : ℕ) (h : r < length p / parentSize) where
 
   -- and back, with the generation of the record
   pub used-row : (q : Parent) → rowAt (parseParents p) r ≡ used q → (isUsed (rowBytes p r) ≡ true) × (generationOf p r ≡ q .layout .header .generation)
-  unfolding rowBytes parseParent parseRow
+  unfolding rowBytes parseParent parseRow generationOf generationIn decodeParent decodeLayout decodeHeader
   used-row q e = go (isUsed (rowBytes p r)) refl
     where
       read : parseParent (rowBytes p r) ≡ used q
       read = sym (parsed-row p r h) ∙ e
 
       bytes : (v : ParentRow) → v ≡ used (decodeParent (rowBytes p r)) → v ≡ used q → generationOf p r ≡ q .layout .header .generation
-      unfolding generationOf generationIn decodeParent decodeLayout decodeHeader
       bytes v d k = ap generationIn (sym d ∙ k)
 
       go : (b : Bool) → isUsed (rowBytes p r) ≡ b → (isUsed (rowBytes p r) ≡ true) × (generationOf p r ≡ q .layout .header .generation)
