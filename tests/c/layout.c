@@ -21,6 +21,9 @@ static const uint8_t other_slot_bytes[LFSCK_SLOT_BYTES] = {
 
 static const uint64_t hole[LFSCK_SLOT_NUMBERS] = {0, 0, 0, 0, 0};
 
+/* Where a layout of version 1 has its pattern, its generation and its slots. */
+enum { PATTERN = 4, GENERATION = 30, SLOTS = 32 };
+
 /* A value that no call hands out here. */
 #define MARK UINT64_C(0xabababababababab)
 
@@ -117,6 +120,21 @@ static void test_write(void)
     check("bytes past it stay", memcmp(to + 56, untouched, 4) == 0);
 }
 
+static int has_generation(const uint8_t *layout, uint16_t generation)
+{
+    return layout[GENERATION] == generation % 256 && layout[GENERATION + 1] == generation / 256;
+}
+
+/* E2 with a hole in the place of its slot, and of this generation. */
+static void make_hole(uint8_t *layout, uint16_t generation)
+{
+    memcpy(layout, e2, SLOTS);
+    layout[PATTERN + 3] = 0x40;
+    layout[GENERATION] = generation % 256;
+    layout[GENERATION + 1] = generation / 256;
+    memset(layout + SLOTS, 0, 24);
+}
+
 static void test_rewrite(void)
 {
     uint8_t layout[56];
@@ -130,10 +148,66 @@ static void test_rewrite(void)
     check("a refused rewrite changes nothing", memcmp(layout, e2, 56) == 0);
 
     check("a slot is rewritten", lfsck_slot_rewrite(layout, 56, 0, other_slot, 5) == LFSCK_OK);
-    check("its 24 bytes", memcmp(layout + 32, other_slot_bytes, 24) == 0);
-    check("the header stays", memcmp(layout, e2, 32) == 0);
+    check("its 24 bytes", memcmp(layout + SLOTS, other_slot_bytes, 24) == 0);
+    check("the generation is raised", has_generation(layout, 1));
+    check("the header before it stays", memcmp(layout, e2, GENERATION) == 0);
     check("it is rewritten back", lfsck_slot_rewrite(layout, 56, 0, e2_slot, 5) == LFSCK_OK);
-    check("and is E2 again", memcmp(layout, e2, 56) == 0);
+    check("and is E2's again", memcmp(layout + SLOTS, e2 + SLOTS, 24) == 0);
+    check("the generation is raised again", has_generation(layout, 2));
+}
+
+/* A slot that is there already: no byte changes, whatever the generation. */
+static void test_equal_slot(void)
+{
+    uint8_t layout[56];
+    uint8_t before[56];
+
+    memcpy(layout, e2, 56);
+    check("an equal slot", lfsck_slot_rewrite(layout, 56, 0, e2_slot, 5) == LFSCK_OK);
+    check("no byte changes", memcmp(layout, e2, 56) == 0);
+
+    make_hole(layout, 65535);
+    memcpy(before, layout, 56);
+    check("an equal hole", lfsck_slot_rewrite(layout, 56, 0, hole, 5) == LFSCK_OK);
+    check("no byte changes at the last generation", memcmp(layout, before, 56) == 0);
+}
+
+/*
+ * A slot for the hole: the generation goes from this one to that, and all else stays. A hole in its
+ * place again: it goes one further.
+ */
+static void expect_raised(const char *name, uint16_t from, uint16_t to)
+{
+    uint8_t layout[56];
+    uint8_t expected[56];
+    int holds;
+
+    make_hole(layout, from);
+    make_hole(expected, to);
+    memcpy(expected + SLOTS, other_slot_bytes, 24);
+    holds = lfsck_slot_rewrite(layout, 56, 0, other_slot, 5) == LFSCK_OK &&
+            memcmp(layout, expected, 56) == 0;
+    make_hole(expected, (uint16_t)(to + 1));
+    check(name, holds && lfsck_slot_rewrite(layout, 56, 0, hole, 5) == LFSCK_OK &&
+                    memcmp(layout, expected, 56) == 0);
+}
+
+static void test_generation(void)
+{
+    uint8_t layout[56];
+    uint8_t before[56];
+
+    expect_raised("255 to 256", 255, 256);
+    expect_raised("65,534 to 65,535", 65534, 65535);
+    expect_raised("65,535 to 0", 65535, 0);
+
+    make_hole(layout, 65535);
+    memcpy(before, layout, 56);
+    check("16 at the last generation",
+          lfsck_slot_rewrite(layout, 56, 1, other_slot, 5) == LFSCK_NO_POSITION);
+    check("13 at the last generation",
+          lfsck_slot_rewrite(layout, 56, 0, other_slot, 4) == LFSCK_BAD_LAYOUT);
+    check("refused, it stays", memcmp(layout, before, 56) == 0);
 }
 
 int main(void)
@@ -143,5 +217,7 @@ int main(void)
     test_slot();
     test_write();
     test_rewrite();
+    test_equal_slot();
+    test_generation();
     return report_all();
 }

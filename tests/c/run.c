@@ -99,7 +99,9 @@ static void test_redirect(void)
     memcpy(slot, n, 16);
     slot[20] = 3;
     check("a slot is redirected", run(&in, 99, 3, report, 10) == LFSCK_OK);
-    check("it names N", memcmp(q + PARENT_LAYOUT + 32, slot, 24) == 0);
+    check("it names N", memcmp(q + PARENT_SLOT, slot, 24) == 0);
+    check("its file's generation is raised", q[PARENT_GENERATION] == 1 &&
+                                                 in.parents[PARENT_GENERATION] == 0);
     check("N is made in the unused row", in.objects[0] == 1 &&
                                              memcmp(in.objects + OBJECT_SELF, n, 16) == 0);
     check("it is counted as MULTIPLE", report[LFSCK_REPORT_STEPS] == 6 &&
@@ -169,8 +171,8 @@ static struct input placed(uint8_t ost, uint8_t user)
 
 /*
  * A run over P's header and slot, under every policy: it makes this one repair, and leaves P's slot
- * on the OST of A and A with P's claim and owner, every other byte as it was. The next run makes
- * none.
+ * on the OST of A, with the generation raised where that OST was another, and A with P's claim and
+ * owner, every other byte as it was. The next run makes none.
  */
 static void expect_mended(const char *name, const struct input *lent, int counted)
 {
@@ -179,6 +181,7 @@ static void expect_mended(const char *name, const struct input *lent, int counte
     int holds = 1;
 
     after.parents[PARENT_SLOT + 20] = ost;
+    after.parents[PARENT_GENERATION] = ost != lent->parents[PARENT_SLOT + 20];
     for (uint64_t policy = 0; policy < 4; policy++) {
         uint64_t expected[10] = {2};
         uint64_t report[10];
@@ -225,6 +228,87 @@ static void test_claim_and_index(void)
         expect_mended(ost == 3 ? "BLANK, right index" : "BLANK mends the index", &in,
                       LFSCK_REPORT_BLANK);
     }
+}
+
+/*
+ * A run to the end leaves these tables, with this report; so does a second one, in as many steps and
+ * with no repair.
+ */
+static void expect_ran(const char *name, struct input *in, const struct input *after,
+                       const uint64_t *first)
+{
+    uint64_t second[10] = {first[LFSCK_REPORT_STEPS]};
+    uint64_t report[10];
+    int holds = 1;
+
+    for (int again = 0; again < 2; again++) {
+        in->position[0] = LFSCK_STAGE_PARENTS;
+        in->position[1] = in->position[2] = 0;
+        holds = holds && run(in, UINT64_MAX, 3, report, 10) == LFSCK_OK &&
+                memcmp(report, again ? second : first, sizeof report) == 0 &&
+                memcmp(in->parents, after->parents, sizeof in->parents) == 0 &&
+                memcmp(in->objects, after->objects, sizeof in->objects) == 0;
+    }
+    check(name, holds);
+}
+
+/* E4: P[A,B], Q[A]; A claims (Q,0), B claims (P,1); a third object row. */
+static struct input e4(void)
+{
+    struct input in = shared();
+    uint8_t *slot = in.parents + PARENT_SLOT;
+    uint8_t *object = in.objects + LFSCK_OBJECT_BYTES;
+
+    in.parents[PARENT_LENGTH] = 80;
+    in.parents[PARENT_COUNT] = 2;
+    memcpy(slot + 24, slot, 24);
+    slot[24 + 8] = 0x11;
+    memcpy(in.objects, object, LFSCK_OBJECT_BYTES);
+    in.objects[OBJECT_CLAIM + 8] = 2;
+    object[OBJECT_SELF + 8] = 0x11;
+    object[OBJECT_CLAIM + 12] = 1;
+    in.objects_bytes = sizeof in.objects;
+    return in;
+}
+
+static void test_e4(void)
+{
+    struct input in = e4();
+    struct input after = e4();
+    uint8_t *made = after.objects + 2 * LFSCK_OBJECT_BYTES;
+    uint64_t report[10] = {8};
+
+    report[LFSCK_REPORT_MULTIPLE] = 1;
+    memcpy(after.parents + PARENT_SLOT, n, 16);
+    after.parents[PARENT_GENERATION] = 1;
+    memcpy(made, after.objects + LFSCK_OBJECT_BYTES, LFSCK_OBJECT_BYTES);
+    memcpy(made + OBJECT_SELF, n, 16);
+    memcpy(made + OBJECT_CLAIM, p, 16);
+    made[OBJECT_FRESH] = 1;
+    expect_ran("E4: P's slot 0 names N, and its generation is 1", &in, &after, report);
+
+    in = e4();
+    in.parents[PARENT_GENERATION] = in.parents[PARENT_GENERATION + 1] = 0xff;
+    after.parents[PARENT_GENERATION] = 0;
+    expect_ran("E4 at the last generation: it is 0", &in, &after, report);
+}
+
+/* E8: P[A], A absent; C, not fresh, claims (P,0). */
+static void test_e8(void)
+{
+    struct input in = sound();
+    struct input after;
+    uint64_t report[10] = {4};
+
+    report[LFSCK_REPORT_DANGLING] = report[LFSCK_REPORT_ORPHAN] = 1;
+    in.objects[LFSCK_OBJECT_BYTES + OBJECT_SELF + 8] = 0x12;
+    in.parents_bytes = LFSCK_PARENT_BYTES;
+    in.policy = LFSCK_CREATE | LFSCK_ADOPT;
+    after = in;
+    after.parents[PARENT_SLOT + 8] = 0x12;
+    after.parents[PARENT_GENERATION] = 1;
+    memset(after.objects, 0, LFSCK_OBJECT_BYTES);
+    expect_ran("E8: slot 0 ends as C, and the generation is 1", &in, &after, report);
 }
 
 /* A report of nine places, where there is an index to mend. */
@@ -276,6 +360,8 @@ int main(void)
     test_made_parent();
     test_wrong_ost();
     test_claim_and_index();
+    test_e4();
+    test_e8();
     test_short_report();
     test_refusals();
     return report_all();

@@ -12,6 +12,8 @@ enum {
     PARENT_SELF = 1,
     PARENT_LENGTH = 25,
     PARENT_LAYOUT = 27,
+    PARENT_COUNT = 55,
+    PARENT_GENERATION = 57,
     PARENT_SLOT = 59,
     OBJECT_SELF = 1,
     OBJECT_OST = 17,
@@ -26,11 +28,11 @@ static const uint8_t p[16] = {0x01, 0x04, 0, 0, 0x02, 0, 0, 0, 1};
 static const uint8_t a[16] = {0x00, 0x04, 0x00, 0x40, 0x02, 0, 0, 0, 0x10};
 static const uint8_t n[16] = {0x00, 0x04, 0x00, 0x40, 0x02, 0, 0, 0, 0x20};
 
-/* Everything that a call is handed. */
+/* Everything that a call is handed, with room for a third object row. */
 struct input {
     uint8_t parents[2 * LFSCK_PARENT_BYTES];
     size_t parents_bytes;
-    uint8_t objects[2 * LFSCK_OBJECT_BYTES];
+    uint8_t objects[3 * LFSCK_OBJECT_BYTES];
     size_t objects_bytes;
     uint8_t reserve[LFSCK_RESERVE_BYTES];
     size_t reserve_bytes;
@@ -58,7 +60,7 @@ static struct input sound(void)
     memcpy(object + OBJECT_SELF, a, 16);
     object[OBJECT_OST] = 3;
     memcpy(object + OBJECT_CLAIM, p, 16);
-    in.objects_bytes = sizeof in.objects;
+    in.objects_bytes = 2 * LFSCK_OBJECT_BYTES;
 
     memcpy(in.reserve, n, 16);
     in.reserve_bytes = sizeof in.reserve;

@@ -42,11 +42,6 @@ impl Indexed {
         UnmatchedWrongIndex,
     ];
 
-    /// Those that are repaired under every policy.
-    pub fn mended() -> impl Iterator<Item = Indexed> {
-        Indexed::ALL.into_iter().filter(|&it| it != Clean)
-    }
-
     /// What stands at a position; none where it is no slot that keeps a present object.
     pub fn at(site: &Site, position: Position) -> Option<Indexed> {
         let Position::Slot { row, slot } = position else {

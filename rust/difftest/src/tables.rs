@@ -94,11 +94,22 @@ fn random_parent(fid: Fid, shape: Shape, random: &mut Random) -> Parent {
             own_id: own.id.into(),
             own_sequence: own.sequence,
             stripe_size: random.any() as u32,
-            generation: random.any() as u16,
+            generation: random_generation(random),
             slots: (0..slots)
                 .map(|_| random_slot(holes_allowed, shape, random))
                 .collect(),
         },
+    }
+}
+
+/// Any generation, one that is the last of its first byte, or, as often as these, one of the last
+/// three.
+pub fn random_generation(random: &mut Random) -> u16 {
+    let any = random.any();
+    match any >> 62 {
+        0 => any as u16,
+        1 => any as u16 | u16::from(u8::MAX),
+        _ => u16::MAX - (any % 3) as u16,
     }
 }
 

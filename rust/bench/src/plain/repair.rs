@@ -3,8 +3,8 @@
 use numbers::answer::{NO_OBJECT_ROW, NO_PARENT_ROW, NO_RESERVE};
 use numbers::call::{ADOPT, CREATE, POSITION, STAGE_PARENTS};
 use numbers::layout::{
-    COUNT_AT, HEADER_ONE, HOLES, MAGIC_AT, MAGIC_ONE, OWN_ID_AT, OWN_SEQUENCE_AT, PATTERN_AT,
-    SLOT_BYTES, SLOT_GENERATION_AT, SLOT_OST_AT, STRIPE_SIZE_AT,
+    COUNT_AT, GENERATION_AT, HEADER_ONE, HOLES, MAGIC_AT, MAGIC_ONE, OWN_ID_AT, OWN_SEQUENCE_AT,
+    PATTERN_AT, SLOT_BYTES, SLOT_GENERATION_AT, SLOT_OST_AT, STRIPE_SIZE_AT,
 };
 use numbers::object::SELF_AT;
 use numbers::{object, parent};
@@ -60,6 +60,7 @@ fn slot_step(lent: &mut Lent, policy: u64, at: usize, index: usize) -> Stepped {
             let fid = usable(lent.parents, lent.objects, lent.reserve).ok_or(NO_RESERVE)?;
             make_object(lent, at, index, fid, ost)?;
             write_slot(slot_mut(lent, at, index), fid, ost);
+            raise_generation(lent, at);
             Ok(Some(1))
         }
         Class::Dangling if create => {
@@ -85,6 +86,7 @@ fn mend(lent: &mut Lent, at: usize, index: usize, fid: Fid, count: usize) -> Opt
     let slot = slot_mut(lent, at, index);
     if slot[SLOT_OST_AT..] != ost {
         slot[SLOT_OST_AT..].copy_from_slice(&ost);
+        raise_generation(lent, at);
     }
     Some(count)
 }
@@ -137,6 +139,13 @@ fn write_slot(slot: &mut [u8], fid: Fid, ost: u32) {
     slot[SLOT_OST_AT..].copy_from_slice(&ost.to_le_bytes());
 }
 
+/// The slots of a file are others: its layout's generation goes up by one, the last to 0.
+fn raise_generation(lent: &mut Lent, at: usize) {
+    let layout = &mut row_mut(lent.parents, parent::BYTES, at)[parent::LAYOUT_AT..];
+    let raised = number16(layout, GENERATION_AT).wrapping_add(1);
+    layout[GENERATION_AT..HEADER_ONE].copy_from_slice(&raised.to_le_bytes());
+}
+
 /// A fresh object for a slot, in the first unused row.
 fn make_object(lent: &mut Lent, at: usize, index: usize, fid: Fid, ost: u32) -> Result<(), u32> {
     let free = unused(lent.objects, object::BYTES).ok_or(NO_OBJECT_ROW)?;
@@ -171,7 +180,8 @@ fn adopt(lent: &mut Lent, orphan: usize) -> Stepped {
         number32(own, object::OST_AT),
     );
     let index = claim.version as usize;
-    let at = match way(lent.parents, lent.objects, claim) {
+    let way = way(lent.parents, lent.objects, claim);
+    let at = match way {
         None => return Ok(None),
         Some(Way::MakeParent) => make_parent(lent, orphan, claim)?,
         Some(Way::FillHole(at)) => at,
@@ -188,6 +198,9 @@ fn adopt(lent: &mut Lent, orphan: usize) -> Stepped {
         }
     };
     write_slot(slot_mut(lent, at, index), fid, ost);
+    if way != Some(Way::MakeParent) {
+        raise_generation(lent, at);
+    }
     match_object(lent, at, index, orphan);
     Ok(Some(7))
 }

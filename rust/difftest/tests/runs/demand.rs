@@ -1,5 +1,6 @@
 //! Demand 3, sentence by sentence, on the calls of one side.
 
+use crate::generations::{check_generations, raise_any};
 use crate::side::{Call, Outcome, Side, State};
 use numbers::call::{COUNTED, REPORT};
 use numbers::object::{FRESH_AT, OST_AT};
@@ -59,6 +60,8 @@ impl Uncut {
             let more = outcome.answer == 1;
             if outcome.steps() == 1 {
                 uncut.states.push(outcome.state.clone());
+                let step = &uncut.states[uncut.states.len() - 2..];
+                check_generations(step, &outcome.state);
             }
             uncut.outcomes.push(outcome);
             if !more {
@@ -87,6 +90,7 @@ impl Uncut {
     fn check_whole(&self, scenario: &Scenario, side: &mut Side) {
         let call = scenario.call(scenario.state.start(), u64::MAX);
         let whole = side.call(&scenario.state, &call);
+        check_generations(&self.states, &whole.state);
         assert!(&whole.state == self.end(), "cut into steps, other tables");
         assert_eq!(whole.answer, self.last().answer);
         assert_eq!(whole.position, self.last().position);
@@ -163,6 +167,8 @@ pub struct List<'a> {
     pub state: State,
     /// The tables are the uncut run's after so many steps.
     reached: usize,
+    /// The tables of the uncut run's steps that the last call made, those before it first.
+    pub steps: &'a [State],
     /// A call has reached the end.
     pub ended: bool,
     /// Positions that calls have passed.
@@ -176,9 +182,15 @@ impl<'a> List<'a> {
             uncut,
             state: scenario.state.clone(),
             reached: 0,
+            steps: &uncut.states[..1],
             ended: false,
             passed: Vec::new(),
         }
+    }
+
+    /// Whether the uncut run raises a generation.
+    pub fn can_raise(&self) -> bool {
+        raise_any(&self.uncut.states)
     }
 
     /// A call that the check of its input answers: it changes nothing.
@@ -196,6 +208,7 @@ impl<'a> List<'a> {
         assert!(!outcome.is_refused(), "a passed position is refused");
         check_answer(&self.state, &call, &outcome);
         self.check_tables(&outcome);
+        check_generations(self.steps, &outcome.state);
         self.check_enough(&call, &outcome);
         if outcome.is_at_end() {
             check_end(self.scenario, &outcome);
@@ -213,7 +226,10 @@ impl<'a> List<'a> {
         let further = &self.uncut.states[self.reached..];
         let found = further.iter().position(|state| state == &outcome.state);
         match found {
-            Some(steps) => self.reached += steps,
+            Some(steps) => {
+                self.reached += steps;
+                self.steps = &further[..=steps];
+            }
             None => panic!("no tables that the uncut run has from here on"),
         }
         if outcome.is_at_end() || self.ended {

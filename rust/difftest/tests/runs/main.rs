@@ -1,16 +1,20 @@
 //! Random lists of run calls, made by the library and by the reference: restarts at the start
 //! and at passed positions, refused calls in between, every policy, scarce reserves and rows.
-//! Both sides must keep demand 3, and agree on every answer, count, position and byte.
+//! Both sides must keep demand 3, raise a layout's generation with each step that changes its
+//! slots, and agree on every answer, count, position and byte.
 
 mod demand;
+mod generations;
 mod seen;
 mod side;
 
+use std::slice;
 use std::time::Instant;
 
 use demand::{List, Scenario, Uncut, check_unchanged};
 use difftest::Random;
 use difftest::tables::{OBJECTS, Shape, random_tables, to_bytes};
+use generations::check_generations;
 use numbers::call::REPORT;
 use reference::check::read_tables;
 use reference::position::Position;
@@ -140,7 +144,13 @@ fn call_run(
     }
     note_turn(list, last, seen);
     let before = list.state.clone();
+    let second = list.ended && list.can_raise() && from == before.start();
     let outcome = list.run(side, from.clone(), most);
+    seen.note_call(list.steps);
+    if second && outcome.is_at_end() {
+        check_generations(slice::from_ref(&before), &outcome.state);
+        seen.generations.met("none raised by a second run");
+    }
     if outcome.answer == 0 && outcome.steps() == most && most > 0 {
         seen.turns.met("steps used up at the end");
     }

@@ -1,12 +1,13 @@
 //! What the comparison of runs is to meet.
 
 use crate::demand::{Scenario, Uncut};
+use crate::generations::{self, Cause, EFFECTS, Effect, effect_of, kinds_of_call};
 use crate::side::{Outcome, State};
 use difftest::Coverage;
 use difftest::indices::Indexed;
 use numbers::call::COUNTED;
 use reference::check::{Faults, read_reserve, read_tables};
-use reference::class::{Class, Way, way_to};
+use reference::class::{Class, way_to};
 use reference::fid::Fid;
 use reference::position::Position;
 use reference::site::Site;
@@ -19,9 +20,10 @@ pub struct Seen {
     pub ends: Coverage<u32>,
     pub policies: Coverage<u64>,
     pub repairs: Coverage<&'static str>,
-    /// Repairs of slots with a present object, by the OST index and the owner of that.
-    pub mended: Coverage<Indexed>,
-    pub ways: Coverage<Way>,
+    /// Repairs, with what they do to generations.
+    pub effects: Coverage<(Cause, Effect)>,
+    /// What calls do to the generation of a row.
+    pub generations: Coverage<&'static str>,
     /// Where calls were handed from.
     pub begins: Coverage<&'static str>,
     /// How many steps calls were given.
@@ -88,11 +90,8 @@ impl Seen {
             ends: Coverage::of("ends of uncut runs", [0, 21, 22, 23]),
             policies: Coverage::of("policies", 0..=3),
             repairs: Coverage::of("repairs in uncut runs", REPAIRS),
-            mended: Coverage::of("repairs by index and owner", Indexed::mended()),
-            ways: Coverage::of(
-                "ways of adoption",
-                [Way::MakeParent, Way::FillHole, Way::Grow, Way::ReplaceFresh],
-            ),
+            effects: Coverage::of("repairs and generations", EFFECTS),
+            generations: Coverage::of("generations of rows in calls", generations::CALLS),
             begins: Coverage::of("calls handed", BEGINS),
             given: Coverage::of("steps given", ["none", "some", "one too few", "enough"]),
             stops: Coverage::of("stops", STOPS),
@@ -107,8 +106,8 @@ impl Seen {
         self.ends.require(100);
         self.policies.require(100);
         self.repairs.require(100);
-        self.mended.require(100);
-        self.ways.require(100);
+        self.effects.require(500);
+        self.generations.require(500);
         self.begins.require(100);
         self.given.require(100);
         self.stops.require(100);
@@ -124,34 +123,33 @@ impl Seen {
         let mut position = scenario.state.start();
         for (at, outcome) in uncut.outcomes.iter().enumerate() {
             let before = &uncut.states[at.min(uncut.states.len() - 1)];
-            self.note_step(scenario, &site_of(before), &position, outcome);
+            let site = site_of(before);
+            self.note_step(scenario, &site, &position, outcome);
+            if let Some(cause) = cause_of(&site, &position, outcome) {
+                let effect = effect_of(before, &outcome.state);
+                self.effects.met((cause, effect));
+            }
             position = outcome.position.clone();
         }
+        self.note_call(&uncut.states);
         if uncut.last().answer > 20 && uncut.outcomes.len() > 1 {
             self.stops.met("1 before a stop");
         }
     }
 
+    /// Counts what a call that did these steps did to generations.
+    pub fn note_call(&mut self, steps: &[State]) {
+        for kind in kinds_of_call(steps) {
+            self.generations.met(kind);
+        }
+    }
+
     fn note_step(&mut self, scenario: &Scenario, site: &Site, at: &[u64], outcome: &Outcome) {
-        for (name, &count) in REPAIRS.into_iter().zip(outcome.repairs()) {
-            if count == 1 {
-                self.repairs.met(name);
+        if let Some(class) = repaired(outcome) {
+            self.repairs.met(class);
+            if class == "MULTIPLE" {
+                self.note_redirect(scenario, site);
             }
-        }
-        let repaired = |class: &str| {
-            let number = REPAIRS.iter().position(|name| *name == class);
-            outcome.repairs()[number.expect(class)] == 1
-        };
-        if repaired("MULTIPLE") {
-            self.note_redirect(scenario, site);
-        }
-        if repaired("ORPHAN") {
-            self.note_adoption(site, at);
-        }
-        let mended = ["BLANK", "UNMATCHED", "OWNER", "WRONG-OST"];
-        if mended.into_iter().any(repaired) {
-            let slot = Indexed::at(site, position_of(site, at));
-            self.mended.met(slot.expect("a slot with a present object"));
         }
         self.note_stop(scenario, site, at, outcome.answer);
     }
@@ -180,13 +178,6 @@ impl Seen {
         }
     }
 
-    fn note_adoption(&mut self, site: &Site, at: &[u64]) {
-        let orphan = site.object(at[1] as usize).expect("an orphan is there");
-        let claim = orphan.claim.expect("an orphan has a claim");
-        let way = way_to(site, claim).expect("an orphan's place can be had");
-        self.ways.met(way);
-    }
-
     fn note_stop(&mut self, scenario: &Scenario, site: &Site, at: &[u64], answer: u32) {
         let full = site.tables().objects.iter().all(Option::is_some);
         match answer {
@@ -201,6 +192,28 @@ impl Seen {
             self.stops.met("22 of a redirect");
         }
     }
+}
+
+/// The class that a step repaired, if any.
+fn repaired(step: &Outcome) -> Option<&'static str> {
+    let mut counts = REPAIRS.into_iter().zip(step.repairs());
+    counts.find_map(|(class, &count)| (count == 1).then_some(class))
+}
+
+/// The repair of the step at a position, if it made one.
+fn cause_of(site: &Site, at: &[u64], step: &Outcome) -> Option<Cause> {
+    Some(match repaired(step)? {
+        "BLANK" | "UNMATCHED" | "OWNER" | "WRONG-OST" => {
+            let slot = Indexed::at(site, position_of(site, at));
+            Cause::Mending(slot.expect("a slot with a present object"))
+        }
+        "ORPHAN" => {
+            let orphan = site.object(at[1] as usize).expect("an orphan is there");
+            let claim = orphan.claim.expect("an orphan has a claim");
+            Cause::Adoption(way_to(site, claim).expect("an orphan's place can be had"))
+        }
+        class => Cause::Repair(class),
+    })
 }
 
 /// Whether the step at a position is to redirect its slot.

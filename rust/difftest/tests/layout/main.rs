@@ -1,107 +1,21 @@
 //! The layout functions of the library and of the reference on random layouts: sound, cut,
 //! stretched and damaged, of both versions and patterns and of 0 to 161 slots.
 
+mod rewrite;
+mod seen;
+
 use std::hint::black_box;
 use std::time::Instant;
 
-use difftest::{Coverage, Random};
-use reference::fid::{FIRST_SEQUENCE, Fid, FidFault, LAST_SEQUENCE};
+use difftest::Random;
+use difftest::tables::random_generation;
+use reference::fid::{FIRST_SEQUENCE, Fid, LAST_SEQUENCE};
 use reference::interface;
-use reference::layout::{Fault, Layout, SLOT_BYTES, Stripe, Version};
+use reference::layout::{Layout, SLOT_BYTES, Stripe, Version};
+use rewrite::compare_rewrite;
+use seen::Seen;
 
 const LAYOUTS: usize = 500_000;
-
-/// Everything that the test is to meet.
-struct Seen {
-    read: Coverage<u32>,
-    slot: Coverage<u32>,
-    write: Coverage<u32>,
-    rewrite: Coverage<u32>,
-    slot_kinds: Coverage<&'static str>,
-    read_rules: Coverage<Fault>,
-    write_rules: Coverage<Fault>,
-    rewrite_rules: Coverage<Fault>,
-    rewrite_order: Coverage<&'static str>,
-    write_order: Coverage<&'static str>,
-    changes: Coverage<Change>,
-    slot_counts: Coverage<usize>,
-}
-
-/// The rules that a slot can break in any of the functions.
-const SLOT_RULES: [Fault; 6] = [
-    Fault::Hole,
-    Fault::Object(FidFault::SequenceLow),
-    Fault::Object(FidFault::SequenceHigh),
-    Fault::Object(FidFault::Id),
-    Fault::Object(FidFault::Version),
-    Fault::Ost,
-];
-
-impl Seen {
-    fn nothing() -> Seen {
-        use Fault::*;
-        let bytes_alone = [Header, Magic, Pattern, Count, Length];
-        let numbers_alone = [Pattern, Count, Amount, Version, Width, Mark];
-        // A slot of numbers has no FID version.
-        let of_numbers = SLOT_RULES
-            .into_iter()
-            .filter(|&rule| rule != Object(FidFault::Version));
-        Seen {
-            read: Coverage::of("read answers", [0, 13, 17]),
-            slot: Coverage::of("slot answers", [0, 13, 16, 17]),
-            write: Coverage::of("write answers", [0, 13, 17]),
-            rewrite: Coverage::of("rewrite answers", [0, 13, 16]),
-            slot_kinds: Coverage::of(
-                "slots",
-                [
-                    "hole read",
-                    "hole rewritten",
-                    "named read",
-                    "named rewritten",
-                ],
-            ),
-            read_rules: Coverage::of(
-                "rules of the reader",
-                SLOT_RULES.into_iter().chain(bytes_alone),
-            ),
-            write_rules: Coverage::of(
-                "rules of the writer",
-                of_numbers.clone().chain(numbers_alone),
-            ),
-            rewrite_rules: Coverage::of(
-                "rules of the rewritten slot",
-                of_numbers.chain([Amount, Width, Mark]),
-            ),
-            rewrite_order: Coverage::of("13 before 16 in the rewrite", ["bad layout", "bad slot"]),
-            write_order: Coverage::of(
-                "13 before 17 and reasons for 17 in the writer",
-                [
-                    "13 with a short destination",
-                    "13 with no place for the length",
-                    "short destination",
-                    "no place for the length",
-                ],
-            ),
-            changes: Coverage::of("changes to the bytes", Change::ALL),
-            slot_counts: Coverage::of("slot counts", 0..=161),
-        }
-    }
-
-    fn require(&self) {
-        self.read.require(1);
-        self.slot.require(1);
-        self.write.require(1);
-        self.rewrite.require(1);
-        self.slot_kinds.require(1);
-        self.read_rules.require(1);
-        self.write_rules.require(1);
-        self.rewrite_rules.require(1);
-        self.rewrite_order.require(1);
-        self.write_order.require(1);
-        self.changes.require(1);
-        self.slot_counts.require(1);
-    }
-}
 
 #[test]
 fn layouts_are_read_and_written_alike() {
@@ -169,51 +83,6 @@ fn compare_slot(bytes: &[u8], random: &mut Random, seen: &mut Seen) {
         } else {
             "named read"
         });
-    }
-}
-
-fn compare_rewrite(bytes: &[u8], layout: &Layout, random: &mut Random, seen: &mut Seen) {
-    let index = random_index(bytes, random);
-    let slot = random_slot_numbers(layout.holes_allowed, random);
-    let (mut ours, mut theirs) = (bytes.to_vec(), bytes.to_vec());
-    let input = slot.clone();
-    let answer = lfsck_sys::slot_rewrite(&mut theirs, index, black_box(&input));
-    let expected = interface::slot_rewrite(&mut ours, index, &slot);
-    assert_eq!(
-        (answer, &theirs),
-        (expected, &ours),
-        "rewrite {index} of {bytes:02x?} with {slot:x?}"
-    );
-    assert_eq!(
-        black_box(&input),
-        &slot,
-        "rewrite changed the slot's numbers"
-    );
-    seen.rewrite.met(answer);
-    note_rewrite(bytes, index, &slot, answer, seen);
-}
-
-/// Which rule refused a rewrite, and whether an index past the count was refused with it.
-fn note_rewrite(bytes: &[u8], index: u64, slot: &[u64], answer: u32, seen: &mut Seen) {
-    if answer == 0 {
-        seen.slot_kinds.met(if slot[0] == 0 {
-            "hole rewritten"
-        } else {
-            "named rewritten"
-        });
-    }
-    let Ok(layout) = Layout::parse(bytes) else {
-        if index > 161 {
-            seen.rewrite_order.met("bad layout");
-        }
-        return;
-    };
-    let allowed = |slot| reference::layout::check_slot(slot, layout.holes_allowed);
-    if let Err(rule) = interface::slot_of_numbers(slot).and_then(allowed) {
-        seen.rewrite_rules.met(rule);
-        if index >= layout.slots.len() as u64 {
-            seen.rewrite_order.met("bad slot");
-        }
     }
 }
 
@@ -297,7 +166,7 @@ fn random_layout(random: &mut Random) -> Layout {
         own_id: random.any(),
         own_sequence: random.any(),
         stripe_size: random.any() as u32,
-        generation: random.any() as u16,
+        generation: random_generation(random),
         slots: (0..random.below(most))
             .map(|_| random_slot(holes_allowed, random))
             .collect(),

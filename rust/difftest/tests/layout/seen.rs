@@ -1,0 +1,97 @@
+//! What the comparison of layouts is to meet.
+
+use crate::Change;
+use crate::rewrite::{GENERATIONS, REWRITES};
+use difftest::Coverage;
+use reference::fid::FidFault;
+use reference::layout::Fault;
+
+/// Everything that the test is to meet.
+pub struct Seen {
+    pub read: Coverage<u32>,
+    pub slot: Coverage<u32>,
+    pub write: Coverage<u32>,
+    pub rewrite: Coverage<u32>,
+    pub slot_kinds: Coverage<&'static str>,
+    pub read_rules: Coverage<Fault>,
+    pub write_rules: Coverage<Fault>,
+    pub rewrite_rules: Coverage<Fault>,
+    pub rewrite_order: Coverage<&'static str>,
+    pub rewrites: Coverage<&'static str>,
+    pub generations: Coverage<&'static str>,
+    pub write_order: Coverage<&'static str>,
+    pub changes: Coverage<Change>,
+    pub slot_counts: Coverage<usize>,
+}
+
+/// Reasons for 17, and 13 that comes before it.
+const WRITE_ORDER: [&str; 4] = [
+    "13 with a short destination",
+    "13 with no place for the length",
+    "short destination",
+    "no place for the length",
+];
+
+/// The rules that a slot can break in any of the functions.
+const SLOT_RULES: [Fault; 6] = [
+    Fault::Hole,
+    Fault::Object(FidFault::SequenceLow),
+    Fault::Object(FidFault::SequenceHigh),
+    Fault::Object(FidFault::Id),
+    Fault::Object(FidFault::Version),
+    Fault::Ost,
+];
+
+impl Seen {
+    pub fn nothing() -> Seen {
+        use Fault::*;
+        let bytes_alone = [Header, Magic, Pattern, Count, Length];
+        let numbers_alone = [Pattern, Count, Amount, Version, Width, Mark];
+        // A slot of numbers has no FID version.
+        let of_numbers = SLOT_RULES
+            .into_iter()
+            .filter(|&rule| rule != Object(FidFault::Version));
+        Seen {
+            read: Coverage::of("read answers", [0, 13, 17]),
+            slot: Coverage::of("slot answers", [0, 13, 16, 17]),
+            write: Coverage::of("write answers", [0, 13, 17]),
+            rewrite: Coverage::of("rewrite answers", [0, 13, 16]),
+            slot_kinds: Coverage::of("slots", ["hole read", "named read"]),
+            read_rules: Coverage::of(
+                "rules of the reader",
+                SLOT_RULES.into_iter().chain(bytes_alone),
+            ),
+            write_rules: Coverage::of(
+                "rules of the writer",
+                of_numbers.clone().chain(numbers_alone),
+            ),
+            rewrite_rules: Coverage::of(
+                "rules of the rewritten slot",
+                of_numbers.chain([Amount, Width, Mark]),
+            ),
+            rewrite_order: Coverage::of("13 before 16 in the rewrite", ["bad layout", "bad slot"]),
+            rewrites: Coverage::of("rewritten slots", REWRITES),
+            generations: Coverage::of("generations of rewritten layouts", GENERATIONS),
+            write_order: Coverage::of("13 before 17 and reasons for 17 in the writer", WRITE_ORDER),
+            changes: Coverage::of("changes to the bytes", Change::ALL),
+            slot_counts: Coverage::of("slot counts", 0..=161),
+        }
+    }
+
+    pub fn require(&self) {
+        self.read.require(1);
+        self.slot.require(1);
+        self.write.require(1);
+        self.rewrite.require(1);
+        self.slot_kinds.require(1);
+        self.read_rules.require(1);
+        self.write_rules.require(1);
+        self.rewrite_rules.require(1);
+        self.rewrite_order.require(1);
+        self.rewrites.require(1000);
+        self.generations.require(1000);
+        self.write_order.require(1);
+        self.changes.require(1);
+        self.slot_counts.require(1);
+    }
+}
