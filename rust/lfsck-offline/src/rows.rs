@@ -113,6 +113,12 @@ impl Claim {
     }
 }
 
+/// How often a generation was raised to become another one. No run raises it as often as its field
+/// has values.
+pub fn raises(old: u64, new: u64) -> u64 {
+    (new as u16).wrapping_sub(old as u16).into()
+}
+
 /// A number of slots in words.
 pub fn slots_words(count: usize) -> String {
     match count {
