@@ -179,6 +179,11 @@ impl Layout {
             .try_for_each(|&slot| check_slot(slot, self.holes_allowed))
     }
 
+    /// The generation goes up by one; 0 comes after the last.
+    pub fn raise_generation(&mut self) {
+        self.generation = self.generation.wrapping_add(1);
+    }
+
     /// The pattern's number.
     pub fn pattern(&self) -> u32 {
         if self.holes_allowed {

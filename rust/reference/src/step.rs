@@ -37,6 +37,31 @@ pub fn step(
     policy: Policy,
     reserve: &[Fid],
 ) -> Result<Option<Class>, Stop> {
+    let before = site.tables().parents.clone();
+    let repaired = repair(site, position, policy, reserve)?;
+    raise_generations(site, &before);
+    Ok(repaired)
+}
+
+/// Every file that was there before a step and has other slots after it, or another number of
+/// them, gets the next generation.
+fn raise_generations(site: &mut Site, before: &[Option<Parent>]) {
+    for (row, parent) in before.iter().enumerate() {
+        let Some(parent) = parent else { continue };
+        let after = site.parent(row).map(|parent| &parent.layout.slots);
+        if after != Some(&parent.layout.slots) {
+            change_parent(site, row, |parent| parent.layout.raise_generation());
+        }
+    }
+}
+
+/// The repair of the class at a position, without the generations.
+fn repair(
+    site: &mut Site,
+    position: Position,
+    policy: Policy,
+    reserve: &[Fid],
+) -> Result<Option<Class>, Stop> {
     let Some(class) = Class::at(site, position) else {
         return Ok(None);
     };

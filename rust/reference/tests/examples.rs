@@ -118,11 +118,15 @@ impl Tables {
         }
     }
 
+    /// The layout of a file.
+    fn layout(&self, row: usize) -> Layout {
+        let (mut tables, _) = read_tables(&self.parents, &self.objects);
+        tables.parents.swap_remove(row).expect("a used row").layout
+    }
+
     /// The objects that the slots of a file name.
     fn named(&self, row: usize) -> Vec<Option<Fid>> {
-        let (tables, _) = read_tables(&self.parents, &self.objects);
-        let parent = tables.parents[row].as_ref().expect("a used row");
-        let slots = parent.layout.slots.iter();
+        let slots = self.layout(row).slots.into_iter();
         slots.map(|slot| slot.map(|stripe| stripe.object)).collect()
     }
 
@@ -212,6 +216,7 @@ fn e4_a_slot_that_is_not_the_keeper_is_redirected() {
     assert_eq!(tables.run(1, &[N]), Run::to_end(8, repairs(1, 0, 0)));
     assert_eq!(tables.named(0), [Some(N), Some(B)]);
     assert_eq!(tables.named(1), [Some(A)]);
+    assert_eq!([0, 1].map(|row| tables.layout(row).generation), [1, 0]);
     assert_eq!(tables.object_in(2), fresh(N, P, 0));
 }
 
@@ -273,6 +278,7 @@ fn e8_the_orphan_takes_the_fresh_object_s_slot() {
         let before = tables.clone();
         assert_eq!(tables.run(3, &[]), Run::to_end(4, repairs(0, 1, 1)));
         assert_eq!(tables.named(0), [Some(C)]);
+        assert_eq!(tables.layout(0).generation, 1);
         assert_eq!(tables.object_in(1 - c), None);
         assert_eq!(tables.objects, before.objects);
     }

@@ -1,5 +1,5 @@
 //! A stripe on the wrong OST, on the reference alone: the class, its place in the order, its
-//! repair, and the index that repairs of BLANK and UNMATCHED mend.
+//! repair, and the index that repairs of BLANK and UNMATCHED mend, each with the generation.
 
 use reference::answer::{DONE, NO_ROOM};
 use reference::fid::Fid;
@@ -31,6 +31,11 @@ const REPORT_UNMATCHED: usize = 5;
 const REPORT_OWNER: usize = 6;
 const REPORT_WRONG_OST: usize = 9;
 
+/// The generation of a layout before a run.
+const GENERATION: u16 = 9;
+/// The OST that P's slot names before a run.
+const NAMED_OST: u32 = 3;
+
 /// Both tables as bytes.
 #[derive(Clone, Debug, PartialEq)]
 struct Tables {
@@ -49,6 +54,15 @@ fn on(object: Fid, ost: u32) -> Stripe {
 
 /// A file with one slot, in a row of other bytes.
 fn file(fid: Fid, stripe: Stripe) -> Vec<u8> {
+    file_of(GENERATION, fid, stripe)
+}
+
+/// The file after one step that changed its slot.
+fn changed(fid: Fid, stripe: Stripe) -> Vec<u8> {
+    file_of(GENERATION + 1, fid, stripe)
+}
+
+fn file_of(generation: u16, fid: Fid, stripe: Stripe) -> Vec<u8> {
     let parent = Parent {
         fid,
         owner: OWNER,
@@ -58,7 +72,7 @@ fn file(fid: Fid, stripe: Stripe) -> Vec<u8> {
             own_id: fid.id.into(),
             own_sequence: fid.sequence,
             stripe_size: 1_048_576,
-            generation: 9,
+            generation,
             slots: vec![Some(stripe)],
         },
     };
@@ -81,10 +95,10 @@ fn object(fid: Fid, ost: u32, owner: Owner, claim: Option<(Fid, u32)>) -> Vec<u8
     row
 }
 
-/// P with A, which the slot names on OST 3 and which is on another.
+/// P with A, which is on this OST.
 fn one(ost: u32, owner: Owner, claim: Option<(Fid, u32)>) -> Tables {
     Tables {
-        parents: file(P, on(A, 3)),
+        parents: file(P, on(A, NAMED_OST)),
         objects: object(A, ost, owner, claim),
     }
 }
@@ -128,10 +142,12 @@ impl Tables {
     }
 }
 
-/// P with A on the OST that the slot names.
+/// P with A on the OST that the slot names, after the repair of [`one`]: the generation is raised
+/// where that OST was another.
 fn mended(ost: u32) -> Tables {
+    let mended_file = if ost == NAMED_OST { file } else { changed };
     Tables {
-        parents: file(P, on(A, ost)),
+        parents: mended_file(P, on(A, ost)),
         objects: object(A, ost, OWNER, Some((P, 0))),
     }
 }
@@ -188,7 +204,8 @@ fn multiple_comes_before_it_and_keeps_the_index() {
         generation: 0,
         ..on(N, 4)
     };
-    assert_eq!(tables.parents[PARENT_BYTES..], file(Q, redirected));
+    assert_eq!(tables.parents[..PARENT_BYTES], file(P, on(A, 3)));
+    assert_eq!(tables.parents[PARENT_BYTES..], changed(Q, redirected));
 }
 
 #[test]
@@ -205,7 +222,7 @@ fn two_osts_under_exchanged_indices() {
     assert_eq!(tables.run(0), [6, 0, 0, 0, 0, 0, 0, 0, 0, 2]);
     assert_eq!(
         tables.parents,
-        [file(P, on(A, 4)), file(Q, on(B, 3))].concat()
+        [changed(P, on(A, 4)), changed(Q, on(B, 3))].concat()
     );
     assert_eq!(tables.objects, objects.concat());
 }

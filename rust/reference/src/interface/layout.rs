@@ -61,7 +61,8 @@ pub fn layout_write(
     DONE
 }
 
-/// Puts another slot in the place of one of a layout's.
+/// Puts another slot in the place of one of a layout's and raises its generation; an equal slot
+/// changes nothing.
 pub fn slot_rewrite(layout: &mut [u8], index: u64, slot: &[u64]) -> u32 {
     let (Ok(mut changed), Ok(slot)) = (Layout::parse(layout), slot_of_numbers(slot)) else {
         return BAD_LAYOUT;
@@ -72,8 +73,11 @@ pub fn slot_rewrite(layout: &mut [u8], index: u64, slot: &[u64]) -> u32 {
     let Some(at) = slot_at(&changed, index) else {
         return NO_POSITION;
     };
-    changed.slots[at] = slot;
-    layout.copy_from_slice(&changed.encode());
+    if changed.slots[at] != slot {
+        changed.slots[at] = slot;
+        changed.raise_generation();
+        layout.copy_from_slice(&changed.encode());
+    }
     DONE
 }
 
