@@ -434,6 +434,14 @@ mod tests {
         parse(line).unwrap_or_else(|failure| panic!("{line}: {}", failure.message))
     }
 
+    /// None of these lines is a call.
+    fn expect_refused(lines: &[&str]) {
+        for line in lines {
+            let failure = parse(line).expect_err(line);
+            assert_eq!(failure.status, Status::Usage, "{line}");
+        }
+    }
+
     #[test]
     fn options_may_stand_anywhere() {
         let expected = Command::Run(RunOptions {
@@ -517,7 +525,7 @@ mod tests {
 
     #[test]
     fn an_intake_needs_owners_and_reads_standard_input_once() {
-        for line in [
+        expect_refused(&[
             "intake d",
             "intake d a",
             "intake --owners o",
@@ -529,10 +537,7 @@ mod tests {
             "intake d a --owners o --spare-files -1",
             "intake d a --owners=",
             "intake d a --owners o --steps 3",
-        ] {
-            let failure = parse(line).expect_err(line);
-            assert_eq!(failure.status, Status::Usage, "{line}");
-        }
+        ]);
     }
 
     #[test]
@@ -611,13 +616,39 @@ mod tests {
 
     #[test]
     fn anything_else_is_refused() {
-        for line in [
+        expect_refused(&[
             "",
             "mend d",
             "check",
             "check d e",
             "check d --create",
             "check d --json=1",
+            "check d --summary",
+            "check -",
+            "run d --exit-code",
+            "help mend",
+            "help run show",
+            "--version d",
+            "--version --create",
+            "show d",
+            "show d 1",
+            "show d 1:2:3 e",
+            "log",
+            "log d 1",
+            "log d 1:2 e",
+            "undo d e",
+            "undo d --steps 1",
+            "link",
+            "link f g",
+            "link - -",
+            "link --only CLEAN f",
+            "link -x",
+        ]);
+    }
+
+    #[test]
+    fn a_value_that_is_none_is_refused() {
+        expect_refused(&[
             "run d --steps",
             "run d --steps -1",
             "run d --steps +1",
@@ -628,29 +659,6 @@ mod tests {
             "classes d --owner 1:",
             "classes d --owner alice",
             "classes d --owner 4294967296",
-            "check d --summary",
-            "run d --exit-code",
-            "help mend",
-            "--version d",
-            "--version --create",
-            "help run show",
-            "show d",
-            "show d 1",
-            "show d 1:2:3 e",
-            "log",
-            "log d 1",
-            "log d 1:2 e",
-            "undo d e",
-            "undo d --steps 1",
-            "check -",
-            "link",
-            "link f g",
-            "link - -",
-            "link --only CLEAN f",
-            "link -x",
-        ] {
-            let failure = parse(line).expect_err(line);
-            assert_eq!(failure.status, Status::Usage);
-        }
+        ]);
     }
 }

@@ -34,6 +34,8 @@ pub enum What {
     FileRemoved(File),
     /// The FID that a layout says it belongs to.
     Own(Values<OwnFid>),
+    /// The generation of a layout.
+    Generation(Values<u64>),
     /// The number of slots of a layout.
     SlotCount(Values<usize>),
     /// What a slot names; nothing in a hole, and where there is no such slot.
@@ -64,6 +66,7 @@ impl What {
             What::FileMade(_) => "file_made",
             What::FileRemoved(_) => "file_removed",
             What::Own(_) => "own_fid",
+            What::Generation(_) => "generation",
             What::SlotCount(_) => "slot_count",
             What::Slot(_) => "slot",
             What::ObjectMade(_) => "object_made",
@@ -78,10 +81,15 @@ impl What {
         match self {
             What::FileMade(file) => {
                 let slots = slots_words(file.slots.len());
-                format!("file made, owner {}, {slots}", file.owner)
+                let generation = file.header.generation;
+                format!(
+                    "file made, owner {}, {slots}, generation {generation}",
+                    file.owner
+                )
             }
             What::FileRemoved(_) => "file removed".to_string(),
             What::Own(own) => format!("own FID written into the layout, it was {}", own.old),
+            What::Generation(generation) => generation_words(*generation, undone),
             What::SlotCount(Values { old, new }) => {
                 let done = if new > old { "grown" } else { "cut" };
                 format!("layout {done} from {old} to {}", slots_words(*new))
@@ -102,6 +110,7 @@ impl What {
             What::FileMade(file) => (Json::Null, Json::Object(values::file(file))),
             What::FileRemoved(file) => (Json::Object(values::file(file)), Json::Null),
             What::Own(own) => own.to_json(|own| Json::Object(values::own(own))),
+            What::Generation(generation) => generation.to_json(Json::Number),
             What::SlotCount(count) => count.to_json(|count| Json::Number(count as u64)),
             What::Slot(slot) => slot.to_json(values::slot),
             What::ObjectMade(object) => (Json::Null, Json::Object(values::object(object))),
@@ -113,8 +122,16 @@ impl What {
 }
 
 impl<Of: Copy> Values<Of> {
-    fn to_json(self, json: impl Fn(Of) -> Json) -> (Json, Json) {
+    /// Both for machines.
+    pub fn to_json(self, json: impl Fn(Of) -> Json) -> (Json, Json) {
         (json(self.old), json(self.new))
+    }
+}
+
+impl<Of: PartialEq> Values<Of> {
+    /// Whether something else stands there.
+    pub fn differ(&self) -> bool {
+        self.old != self.new
     }
 }
 
@@ -123,6 +140,14 @@ fn object_words(object: &Object) -> &'static str {
         "empty object"
     } else {
         "object"
+    }
+}
+
+/// A run raises a generation, and an undo puts it back.
+fn generation_words(Values { old, new }: Values<u64>, undone: bool) -> String {
+    match undone {
+        false => format!("generation raised from {old} to {new}"),
+        true => format!("generation put back to {new}, it was {old}"),
     }
 }
 

@@ -52,13 +52,21 @@ fn file_changes(row: usize, old: &File, new: &File, list: &mut Vec<Change>) {
         old: old.header.own,
         new: new.header.own,
     };
+    let generation = Values {
+        old: old.header.generation,
+        new: new.header.generation,
+    };
     let count = Values {
         old: old.slots.len(),
         new: new.slots.len(),
     };
-    let own = (own.old != own.new).then(|| of_file(row, new, What::Own(own)));
-    let count = (count.old != count.new).then(|| of_file(row, new, What::SlotCount(count)));
-    list.extend(own.into_iter().chain(count));
+    let whats = [
+        own.differ().then_some(What::Own(own)),
+        generation.differ().then_some(What::Generation(generation)),
+        count.differ().then_some(What::SlotCount(count)),
+    ];
+    let whats = whats.into_iter().flatten();
+    list.extend(whats.map(|what| of_file(row, new, what)));
     slot_changes(row, new, &old.slots, &new.slots, list);
 }
 
@@ -86,7 +94,7 @@ fn slot_changes(
             old: at(old),
             new: at(new),
         };
-        if values.old != values.new {
+        if values.differ() {
             list.push(Change {
                 slot: Some(index as u32),
                 object: named(values),
@@ -124,8 +132,8 @@ fn object_changes(row: usize, old: &Object, new: &Object, list: &mut Vec<Change>
         new: new.owner,
     };
     let claimant = if new.claim.is_some() { new } else { old };
-    let claim = (claim.old != claim.new).then_some(What::Claim(claim));
-    let owner = (owner.old != owner.new).then_some(What::Owner(owner));
+    let claim = claim.differ().then_some(What::Claim(claim));
+    let owner = owner.differ().then_some(What::Owner(owner));
     for what in claim.into_iter().chain(owner) {
         list.push(of_object(row, claimant, what));
     }
@@ -195,6 +203,7 @@ mod tests {
     fn make_in_layout(slot: Option<u32>, what: &What, file: &mut File) {
         match what {
             What::Own(own) => put(&mut file.header.own, *own),
+            What::Generation(generation) => put(&mut file.header.generation, *generation),
             What::SlotCount(count) => {
                 put(&mut file.slots.len(), *count);
                 // Slots that go are told one by one.
@@ -275,7 +284,7 @@ mod tests {
             expect_whole(&after, &before, &mut kinds);
         }
         println!("{kinds:?}");
-        assert_eq!(kinds.len(), 9);
+        assert_eq!(kinds.len(), 10);
         assert!(kinds.values().all(|&count| count > 100), "{kinds:?}");
     }
 }

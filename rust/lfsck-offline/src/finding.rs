@@ -1,10 +1,11 @@
 //! What is found at a position, and what its repair would do.
 
+use crate::change::Values;
 use crate::class::Class;
 use crate::fid::{MdtFid, OstFid};
 use crate::foretell::{self, Turn};
 use crate::position::Position;
-use crate::rows::{Object, Owner, Stripe};
+use crate::rows::{Object, Owner, Stripe, raised};
 use crate::site::{Named, Place, Site};
 use crate::why::{self, Rule};
 
@@ -26,6 +27,9 @@ pub struct Finding {
     pub object_ost: Option<u64>,
     /// What its repair would do; none where nothing would be done.
     pub repair: Option<Repair>,
+    /// The generation of the file's layout before and after the repair by itself; none where the
+    /// repair leaves it or makes the file.
+    pub generation: Option<Values<u64>>,
     /// The keeper of the object and the rule that makes it so.
     pub keeper: Option<(Named, Rule)>,
     /// How many slots are compared to find the keeper, or to find that there is none.
@@ -91,6 +95,7 @@ impl Finding {
             slot_ost: None,
             object_ost: None,
             repair: None,
+            generation: None,
             keeper: None,
             compared: None,
             denial: None,
@@ -129,6 +134,9 @@ impl Finding {
             .map(|object| object.ost.into());
         self.add_keeper(site, stripe.object);
         self.repair = slot_repair(site, place, stripe, self.class);
+        if self.class == Class::Multiple || other_ost(site, stripe).is_some() {
+            self.add_generation(site);
+        }
     }
 
     fn add_object(&mut self, site: &Site, row: usize) {
@@ -154,12 +162,25 @@ impl Finding {
         self.compared = Some(search.compared);
     }
 
+    /// The repair changes the slots of the file, where it is there.
+    fn add_generation(&mut self, site: &Site) {
+        let row = self.file.and_then(|file| site.file_row(file));
+        let file = row.and_then(|row| site.file(row));
+        self.generation = file.map(|file| Values {
+            old: file.header.generation,
+            new: raised(file.header.generation),
+        });
+    }
+
     /// How the claimed place can be had, or why it cannot.
     fn add_place(&mut self, site: &Site, object: Object) {
         let Some(claim) = object.claim else { return };
         self.turn = foretell::turn(site, &object);
         match why::way_to(site, claim) {
-            Ok(way) => self.repair = repair(Needs::Adopt, way.words(claim)),
+            Ok(way) => {
+                self.repair = repair(Needs::Adopt, way.words(claim));
+                self.add_generation(site);
+            }
             Err(denial) => self.denial = Some(denial.words(claim)),
         }
     }
@@ -234,11 +255,146 @@ fn wrong_ost_repair(site: &Site, stripe: Stripe, owner: Owner) -> Option<Repair>
 
 /// The OST index that is written into a slot; none where it is right.
 fn index_words(site: &Site, stripe: Stripe) -> Option<String> {
+    let ost = other_ost(site, stripe)?;
+    Some(format!(
+        "OST {ost}, where the object is, into the slot, which names OST {}",
+        stripe.ost
+    ))
+}
+
+/// The OST that the object of a slot is on, where the slot names another.
+fn other_ost(site: &Site, stripe: Stripe) -> Option<u64> {
     let ost = u64::from(site.object_of(stripe.object)?.ost);
-    (ost != stripe.ost).then(|| {
-        format!(
-            "OST {ost}, where the object is, into the slot, which names OST {}",
-            stripe.ost
-        )
-    })
+    (ost != stripe.ost).then_some(ost)
+}
+
+#[cfg(test)]
+mod tests {
+    use super::*;
+    use crate::slices;
+    use crate::tables::Tables;
+    use crate::verdict::Verdicts;
+    use difftest::tables::{OBJECTS, Shape};
+    use difftest::{Coverage, Random};
+    use numbers::answer::STEPS_USED;
+    use numbers::{call, object, parent};
+
+    const SHAPE: Shape = Shape {
+        parents: 4,
+        objects: 7,
+        slots: 3,
+        files: 4,
+        fids: 7,
+    };
+
+    /// Every class with a repair, and what its repair does to the generation.
+    const MET: [&str; 13] = [
+        "SELF leaves it",
+        "MULTIPLE raises it",
+        "DANGLING leaves it",
+        "BLANK leaves it",
+        "BLANK raises it",
+        "UNMATCHED leaves it",
+        "UNMATCHED raises it",
+        "WRONG-OST raises it",
+        "OWNER leaves it",
+        "EMPTY leaves it",
+        "ORPHAN raises it",
+        "ORPHAN makes the file",
+        "the last goes to 0",
+    ];
+
+    fn policy(needs: Needs) -> u64 {
+        match needs {
+            Needs::Nothing => 0,
+            Needs::Create => call::CREATE,
+            Needs::Adopt => call::ADOPT,
+            Needs::CreateAndAdopt => call::BOTH,
+        }
+    }
+
+    /// The generation of each file, row by row.
+    fn generations(site: &Site) -> Vec<Option<u64>> {
+        let rows = 0..site.files.len();
+        rows.map(|row| Some(site.file(row)?.header.generation))
+            .collect()
+    }
+
+    /// The library's generations after the repair by itself; none where something ran out.
+    fn mended(tables: &Tables, finding: &Finding, needs: Needs) -> Option<Vec<Option<u64>>> {
+        let mut tables = tables.clone();
+        let position = finding.position.to_numbers();
+        let run = slices::run(&mut tables, policy(needs), 1, position);
+        let is_made = run.answer <= STEPS_USED;
+        assert_eq!(run.repairs.iter().sum::<u64>(), is_made.into(), "{run:?}");
+        is_made.then(|| generations(&Site::new(&tables)))
+    }
+
+    /// What the finding says of the generations: its own file's is raised, and a made one has 0.
+    fn foretold(site: &Site, finding: &Finding) -> Vec<Option<u64>> {
+        let mut list = generations(site);
+        let row = finding.file.and_then(|file| site.file_row(file));
+        match (finding.generation, row) {
+            (Some(Values { old, new }), Some(row)) => {
+                assert_eq!(list[row], Some(old));
+                list[row] = Some(new);
+            }
+            (None, None) if finding.class == Class::Orphan => {
+                let unused = site.files.iter().position(Option::is_none);
+                list[unused.expect("an unused row")] = Some(0);
+            }
+            (None, _) => (),
+            (Some(_), None) => panic!("a generation of no file"),
+        }
+        list
+    }
+
+    fn way_met(site: &Site, finding: &Finding) -> String {
+        let row = finding.file.and_then(|file| site.file_row(file));
+        let does = match (finding.generation, row) {
+            (Some(Values { new: 0, .. }), _) => return "the last goes to 0".to_string(),
+            (Some(_), _) => "raises it",
+            (None, None) if finding.class == Class::Orphan => "makes the file",
+            (None, _) => "leaves it",
+        };
+        format!("{} {does}", finding.class.name())
+    }
+
+    /// Random tables with room for repairs.
+    fn random_case(random: &mut Random) -> Tables {
+        let mut tables = Tables::random(SHAPE, random);
+        tables.age(random);
+        tables.parents.extend([0; parent::BYTES]);
+        tables.objects.extend([0; object::BYTES]);
+        tables.reserve = OBJECTS.iter().flat_map(|fid| fid.to_bytes()).collect();
+        tables
+    }
+
+    /// Every finding of random tables with its repair made by itself.
+    fn expect_generations(tables: &Tables, met: &mut Coverage<String>) {
+        let site = Site::new(tables);
+        let verdicts = Verdicts::new(tables, &site);
+        for position in Position::all(&site) {
+            let class = verdicts.at(position).expect("a class");
+            let finding = Finding::new(&site, position, class);
+            let Some(repair) = &finding.repair else {
+                assert_eq!(finding.generation, None, "{position:?}");
+                continue;
+            };
+            if let Some(after) = mended(tables, &finding, repair.needs) {
+                assert_eq!(foretold(&site, &finding), after, "{position:?}");
+                met.met(way_met(&site, &finding));
+            }
+        }
+    }
+
+    #[test]
+    fn the_generation_after_a_repair_is_the_library_s() {
+        let mut random = Random::for_test("generations of findings");
+        let mut met = Coverage::of("generations", MET.map(str::to_string));
+        for _ in 0..5_000 {
+            expect_generations(&random_case(&mut random), &mut met);
+        }
+        met.require(100);
+    }
 }

@@ -165,7 +165,8 @@ Usage: lfsck-offline run DIR [--create] [--adopt] [--steps N] [--from-start]
 Repairs step by step and saves tables and position together. Goes on from the
 saved position if policy, reserve and tables are those that it was saved with,
 else begins at the start and says why. SELF, BLANK, UNMATCHED, WRONG-OST and
-OWNER are repaired under every policy.
+OWNER are repaired under every policy. A step that changes a slot of a file, or
+the number of its slots, raises the generation of its layout by one.
 
   --create       make objects for slots that have none of their own
                  (MULTIPLE, DANGLING)
@@ -188,7 +189,8 @@ Usage: lfsck-offline show DIR FID [--json]
 
 Tells everything about one file or object: layout, slots, claims, class, and why
 (which rule makes a slot the keeper); and how many slots were compared to find
-the keeper. FID is written [0x200000401:0x1:0x0], with or without brackets, in
+the keeper. Where a repair raises the generation of the layout, it says from
+what to what. FID is written [0x200000401:0x1:0x0], with or without brackets, in
 hexadecimal or decimal numbers.
 
 Exit status: 2 where nothing in the case has the FID.
@@ -201,7 +203,7 @@ Tells what was done in the case, from the log that each run that changes a table
 is written into: when, by which version, under which policy, from where to
 where, the repairs, and every change. With FID, the story of that file or
 object: the changes that concern it, each with the time and the class that was
-mended.
+mended; a generation that repairs of several classes raised has none.
 ";
 
 const UNDO: &str = "\

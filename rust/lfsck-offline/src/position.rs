@@ -121,7 +121,7 @@ mod tests {
     fn the_start_is_the_library_s() {
         let mut random = Random::for_test("start");
         let mut met = Coverage::of("stages", [1, 2, 3]);
-        for _ in 0..1000 {
+        for _ in 0..5_000 {
             let (parents, objects) = to_bytes(&random_tables(SHAPE, &mut random), &mut random);
             let mut start = [0; 3];
             assert_eq!(lfsck_sys::start(&parents, &objects, &mut start), 0);

@@ -113,6 +113,17 @@ impl Claim {
     }
 }
 
+/// The generation of a layout that is raised; its field has 16 bits.
+pub fn raised(generation: u64) -> u64 {
+    (generation as u16).wrapping_add(1).into()
+}
+
+/// How often a generation was raised to become another one. No run raises it as often as its field
+/// has values.
+pub fn raises(old: u64, new: u64) -> u64 {
+    (new as u16).wrapping_sub(old as u16).into()
+}
+
 /// A number of slots in words.
 pub fn slots_words(count: usize) -> String {
     match count {

@@ -19,17 +19,30 @@ pub enum Format {
     /// Of a version without the class WRONG-OST. Its runs passed by slots of that class, so such
     /// a position never counts.
     One,
-    /// Of a version with the class WRONG-OST.
+    /// Of a version that raised no generations. Its runs left those of files whose slots they
+    /// changed, so such a position never counts either.
     Two,
+    /// Of this version.
+    Three,
 }
 
 impl Format {
-    const ALL: [Format; 2] = [Format::One, Format::Two];
+    const ALL: [Format; 3] = [Format::One, Format::Two, Format::Three];
 
     fn title(self) -> &'static str {
         match self {
             Format::One => "lfsck-offline position, format 1",
             Format::Two => "lfsck-offline position, format 2",
+            Format::Three => "lfsck-offline position, format 3",
+        }
+    }
+
+    /// Why a position never counts.
+    fn lacks(self) -> Option<&'static str> {
+        match self {
+            Format::One => Some("it was saved by a version without the class WRONG-OST"),
+            Format::Two => Some("it was saved by a version that raised no generations"),
+            Format::Three => None,
         }
     }
 }
@@ -55,7 +68,7 @@ impl Saved {
     /// A position in these tables.
     pub fn new(position: [u64; 3], policy: u64, tables: &Tables) -> Saved {
         Saved {
-            format: Format::Two,
+            format: Format::Three,
             position,
             policy,
             parents: Digest::of(&tables.parents),
@@ -66,8 +79,7 @@ impl Saved {
 
     /// Why a run with this policy on these tables must not go on from here.
     pub fn differs(&self, policy: u64, tables: &Tables) -> Option<String> {
-        if self.format == Format::One {
-            let why = "it was saved by a version without the class WRONG-OST";
+        if let Some(why) = self.format.lacks() {
             return Some(why.to_string());
         }
         if self.policy != policy {
@@ -157,19 +169,25 @@ mod tests {
 
     /// It is read, and written again byte for byte.
     #[test]
-    fn a_position_of_the_first_format_never_counts() {
-        let saved = Saved {
-            format: Format::One,
-            ..Saved::new([3, 0, 0], 3, &tables())
-        };
-        let text = saved.to_text();
-        assert!(text.starts_with("lfsck-offline position, format 1\nposition 3 0 0\npolicy 3\n"));
-        assert_eq!(Saved::parse(text.as_bytes()), Some(saved.clone()));
-        let why = saved.differs(3, &tables()).expect("a reason");
-        assert!(why.contains("without the class WRONG-OST"), "{why}");
-        // The title alone makes no position of the other format.
-        let other = text.replace("format 1", "format 2");
-        assert_eq!(Saved::parse(other.as_bytes()), None);
+    fn a_position_of_an_earlier_format_never_counts() {
+        for (format, number, lacks) in [
+            (Format::One, "format 1", "without the class WRONG-OST"),
+            (Format::Two, "format 2", "that raised no generations"),
+        ] {
+            let saved = Saved {
+                format,
+                ..Saved::new([3, 0, 0], 3, &tables())
+            };
+            let text = saved.to_text();
+            let start = format!("lfsck-offline position, {number}\nposition 3 0 0\npolicy 3\n");
+            assert!(text.starts_with(&start), "{text}");
+            assert_eq!(Saved::parse(text.as_bytes()), Some(saved.clone()));
+            let why = saved.differs(3, &tables()).expect("a reason");
+            assert!(why.contains(lacks), "{why}");
+            // The title alone makes no position of another format.
+            let other = text.replace(number, "format 3");
+            assert_eq!(Saved::parse(other.as_bytes()), None);
+        }
     }
 
     #[test]

@@ -2,17 +2,19 @@
 //!
 //! A run reports how many repairs it made of each class and not where. Each repair leaves its
 //! own kind of change, so the class can be told; one that a later repair of the same run took
-//! back leaves no change.
+//! back leaves no change but the generation that it raised.
 
-use crate::change::{Change, What};
+use crate::change::{Change, Values, What};
 use crate::class::Class;
-use crate::fid::{Fid, OstFid};
-use crate::rows::Stripe;
+use crate::fid::{Fid, MdtFid, OstFid};
+use crate::rows::{Claim, Stripe, raises};
 
-/// The class that was mended where a run changed something, told from all that it changed.
-pub fn mended(change: &Change, all: &[Change]) -> Class {
-    match &change.what {
+/// The class that was mended where a run changed something, told from all that it changed; none
+/// where repairs of several classes raised a generation.
+pub fn mended(change: &Change, all: &[Change]) -> Option<Class> {
+    Some(match &change.what {
         What::Own(_) => Class::SelfId,
+        What::Generation(generation) => return raised_by(change.file, *generation, all),
         What::ObjectMade(object) if newly_named(object.fid, all) => Class::Multiple,
         What::ObjectMade(_) => Class::Dangling,
         What::ObjectDestroyed(object) if formerly_named(object.fid, all) => Class::Orphan,
@@ -22,10 +24,28 @@ pub fn mended(change: &Change, all: &[Change]) -> Class {
             (_, Some(stripe)) if made(stripe.object, all) => Class::Multiple,
             _ => Class::Orphan,
         },
-        What::Claim(claim) => claim.old.map_or(Class::Blank, Class::Unmatched),
+        What::Claim(claim) => claim_mended(*claim),
         What::Owner(_) => owner_mended(change, all),
         What::FileMade(_) | What::FileRemoved(_) | What::SlotCount(_) => Class::Orphan,
-    }
+    })
+}
+
+/// The class whose repairs alone raised the generation of a file. Each change of a slot raised it
+/// once; where an orphan took a slot that was mended in the same run it was raised twice, by two
+/// classes, and one change is left.
+fn raised_by(file: Option<MdtFid>, generation: Values<u64>, all: &[Change]) -> Option<Class> {
+    let is_slot = |change: &&Change| change.file == file && matches!(change.what, What::Slot(_));
+    let slots = all.iter().filter(is_slot);
+    let classes: Vec<Class> = slots.filter_map(|slot| mended(slot, all)).collect();
+    let first = *classes.first()?;
+    let alone = classes.iter().all(|class| class.name() == first.name());
+    let once = classes.len() as u64 == raises(generation.old, generation.new);
+    (alone && once).then_some(first)
+}
+
+/// A claim is written where there is none, or instead of another.
+fn claim_mended(claim: Values<Option<Claim>>) -> Class {
+    claim.old.map_or(Class::Blank, Class::Unmatched)
 }
 
 /// An owner is written with a claim, or when an object is put in its place, or with the OST
@@ -35,7 +55,7 @@ fn owner_mended(change: &Change, all: &[Change]) -> Class {
         return Class::Owner;
     };
     match claim_written(object, all) {
-        Some(claim) => mended(claim, all),
+        Some(claim) => claim_mended(claim),
         None if newly_named(object, all) => Class::Orphan,
         None if index_written(object, all) => Class::WrongOst,
         None => Class::Owner,
@@ -44,13 +64,16 @@ fn owner_mended(change: &Change, all: &[Change]) -> Class {
 
 /// An OST index is written with a claim, or for itself.
 fn index_mended(object: OstFid, all: &[Change]) -> Class {
-    claim_written(object, all).map_or(Class::WrongOst, |claim| mended(claim, all))
+    claim_written(object, all).map_or(Class::WrongOst, claim_mended)
 }
 
 /// The change of an object's claim.
-fn claim_written(object: OstFid, all: &[Change]) -> Option<&Change> {
-    all.iter()
-        .find(|change| change.object == Some(object) && matches!(change.what, What::Claim(_)))
+fn claim_written(object: OstFid, all: &[Change]) -> Option<Values<Option<Claim>>> {
+    let mut of_object = all.iter().filter(|change| change.object == Some(object));
+    of_object.find_map(|change| match change.what {
+        What::Claim(claim) => Some(claim),
+        _ => None,
+    })
 }
 
 /// Whether a slot names an object that it did not name before.
@@ -104,11 +127,13 @@ mod tests {
     use crate::changes::changes;
     use crate::position::Position;
     use crate::site::Site;
-    use crate::slices::{self, COUNTED};
+    use crate::slices::{self, COUNTED, Run};
     use crate::tables::Tables;
-    use difftest::Random;
-    use difftest::tables::{OBJECTS, Shape, random_tables, to_bytes};
-    use std::collections::BTreeMap;
+    use difftest::tables::{OBJECTS, Shape};
+    use difftest::{Coverage, Random};
+    use numbers::answer::STEPS_USED;
+    use numbers::object;
+    use std::collections::{BTreeMap, BTreeSet};
 
     const SHAPE: Shape = Shape {
         parents: 5,
@@ -119,12 +144,11 @@ mod tests {
     };
 
     fn random_case(random: &mut Random) -> Tables {
-        let (parents, objects) = to_bytes(&random_tables(SHAPE, random), random);
-        Tables {
-            parents,
-            objects: [objects, vec![0; 3 * 46]].concat(),
-            reserve: OBJECTS.iter().flat_map(|fid| fid.to_bytes()).collect(),
-        }
+        let mut tables = Tables::random(SHAPE, random);
+        tables.age(random);
+        tables.objects.extend([0; 3 * object::BYTES]);
+        tables.reserve = OBJECTS.iter().flat_map(|fid| fid.to_bytes()).collect();
+        tables
     }
 
     /// A step at a time the class is known: it is the one whose repair was counted.
@@ -141,7 +165,7 @@ mod tests {
                 let run = slices::run(&mut tables, 3, 1, position);
                 let list = changes(&before, &Site::new(&tables));
                 for change in &list {
-                    let class = mended(change, &list).name();
+                    let class = mended(change, &list).expect("one class").name();
                     let at = COUNTED.iter().position(|name| *name == class);
                     assert_eq!(run.repairs[at.expect(class)], 1, "{change:?} of {list:?}");
                     *met.entry(class).or_insert(0) += 1;
@@ -167,11 +191,88 @@ mod tests {
             let policy = random.below(4) as u64;
             let run = slices::run(&mut tables, policy, u64::MAX, start.to_numbers());
             let list = changes(&before, &Site::new(&tables));
-            for change in &list {
-                let class = mended(change, &list).name();
+            for class in list.iter().filter_map(|change| mended(change, &list)) {
+                let class = class.name();
                 let at = COUNTED.iter().position(|name| *name == class);
-                assert!(run.repairs[at.expect(class)] > 0, "{change:?} of {list:?}");
+                assert!(run.repairs[at.expect(class)] > 0, "{class} of {list:?}");
             }
         }
+    }
+
+    /// The changes of generations in a list, each with its file.
+    fn generations(list: &[Change]) -> Vec<(&Change, MdtFid, Values<u64>)> {
+        let of_file = list
+            .iter()
+            .filter_map(|change| Some((change, change.file?)));
+        of_file
+            .filter_map(|(change, file)| match change.what {
+                What::Generation(generation) => Some((change, file, generation)),
+                _ => None,
+            })
+            .collect()
+    }
+
+    /// The class whose repair a run of one step counted.
+    fn counted(run: &Run) -> &'static str {
+        let class = run.repairs.iter().position(|&count| count == 1);
+        COUNTED[class.expect("a repair")]
+    }
+
+    /// Runs a step at a time, and tells by which classes the generation of each file was raised.
+    fn raisers(tables: &mut Tables, policy: u64) -> BTreeMap<MdtFid, BTreeSet<&'static str>> {
+        let mut raisers: BTreeMap<MdtFid, BTreeSet<&str>> = BTreeMap::new();
+        let mut before = Site::new(tables);
+        let mut position = Position::start(&before).to_numbers();
+        loop {
+            let run = slices::run(tables, policy, 1, position);
+            let after = Site::new(tables);
+            let list = changes(&before, &after);
+            if let Some((_, file, _)) = generations(&list).first() {
+                raisers.entry(*file).or_default().insert(counted(&run));
+            }
+            if run.answer != STEPS_USED {
+                return raisers;
+            }
+            (before, position) = (after, run.position);
+        }
+    }
+
+    /// How generations are raised in a run.
+    const RAISED: [&str; 3] = ["by one class", "by several classes", "twice in one slot"];
+
+    /// A generation has the class that alone raised it, and none where several did.
+    fn expect_raiser(
+        (change, file, generation): (&Change, MdtFid, Values<u64>),
+        classes: &BTreeSet<&str>,
+        list: &[Change],
+    ) -> &'static str {
+        let is_slot = |it: &&Change| it.file == Some(file) && matches!(it.what, What::Slot(_));
+        let slots = list.iter().filter(is_slot).count() as u64;
+        let twice = raises(generation.old, generation.new) > slots;
+        let told = mended(change, list).map(Class::name);
+        let alone = classes.first().copied().filter(|_| classes.len() == 1);
+        assert_eq!(told, alone, "{classes:?} of {list:?}");
+        match (told, twice) {
+            (Some(_), false) => RAISED[0],
+            (None, false) => RAISED[1],
+            (None, true) => RAISED[2],
+            (Some(_), true) => panic!("{change:?} of {list:?}"),
+        }
+    }
+
+    #[test]
+    fn a_generation_has_the_class_that_raised_it() {
+        let mut random = Random::for_test("generations");
+        let mut met = Coverage::of("raised", RAISED);
+        for _ in 0..4_000 {
+            let mut tables = random_case(&mut random);
+            let before = Site::new(&tables);
+            let raisers = raisers(&mut tables, random.below(4) as u64);
+            let list = changes(&before, &Site::new(&tables));
+            generations(&list).into_iter().for_each(|raised| {
+                met.met(expect_raiser(raised, &raisers[&raised.1], &list));
+            });
+        }
+        met.require(20);
     }
 }

@@ -5,6 +5,7 @@ use std::path::Path;
 use crate::args::ClassesOptions;
 use crate::bar::Bar;
 use crate::case::Case;
+use crate::change::Values;
 use crate::class::{Class, MEANINGS, NAMES};
 use crate::classing::classes_at;
 use crate::columns::{self, Line};
@@ -216,6 +217,10 @@ pub fn finding_json(finding: &Finding) -> Json {
             Json::maybe(repair.map(|repair| repair.needs.name())),
         ),
         ("repair", Json::maybe(repair.map(|repair| &repair.does))),
+        (
+            "generation",
+            finding.generation.map_or(Json::Null, generation_json),
+        ),
         ("denial", Json::maybe(finding.denial.as_ref())),
         ("turn", finding.turn.as_ref().map_or(Json::Null, turn_json)),
     ]);
@@ -241,6 +246,11 @@ fn keeper_members(finding: &Finding) -> Members {
             Json::maybe_number(finding.compared.map(|compared| compared as u64)),
         ),
     ]
+}
+
+fn generation_json(generation: Values<u64>) -> Json {
+    let (old, new) = generation.to_json(Json::Number);
+    Json::Object(vec![("old", old), ("new", new)])
 }
 
 fn turn_json(turn: &Turn) -> Json {

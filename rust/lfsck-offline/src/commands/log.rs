@@ -45,7 +45,8 @@ pub fn story(directory: &Path, fid: Fid, json: bool) -> Result<Outcome, Failure>
     Ok(Outcome::done(text))
 }
 
-/// An entry and what of it is told, each with the class that was mended; an undo mends none.
+/// An entry and what of it is told, each with the class that was mended: none of an undo, and none
+/// of a generation that several raised.
 type Told<'log> = (&'log Entry, Vec<(Change, Option<Class>)>);
 
 impl Entry {
@@ -54,7 +55,10 @@ impl Entry {
         let is_run = matches!(self.deed, Deed::Run { .. });
         let concerned = all.iter().filter(|change| concerns(change, fid));
         concerned
-            .map(|change| (change.clone(), is_run.then(|| mended(change, &all))))
+            .map(|change| {
+                let class = is_run.then(|| mended(change, &all)).flatten();
+                (change.clone(), class)
+            })
             .collect()
     }
 
@@ -98,9 +102,10 @@ fn entry_text(entry: &Entry) -> String {
 fn story_text((entry, changes): &Told) -> String {
     let words = |(change, class): &(Change, Option<Class>)| {
         let words = change.words();
-        match class {
-            Some(class) => format!("{words}; {}: {}", class.name(), class.meaning()),
-            None => words,
+        match (class, &entry.deed) {
+            (Some(class), _) => format!("{words}; {}: {}", class.name(), class.meaning()),
+            (None, Deed::Run { .. }) => format!("{words}; by repairs of several classes"),
+            (None, Deed::Undo { .. }) => words,
         }
     };
     let lines: Vec<Line> = changes.iter().map(|it| line(&it.0, words(it))).collect();

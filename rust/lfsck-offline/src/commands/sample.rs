@@ -64,6 +64,7 @@ struct NewFile<'case> {
     fid: Fid,
     own: Fid,
     pattern: u64,
+    generation: u64,
     pool: &'case [u8],
     slots: &'case [Option<(Fid, u64)>],
 }
@@ -74,6 +75,7 @@ fn plain(fid: Fid, slots: &[Option<(Fid, u64)>]) -> NewFile<'_> {
         fid,
         own: fid,
         pattern: layout::PLAIN.into(),
+        generation: 0,
         pool: b"",
         slots,
     }
@@ -124,8 +126,15 @@ fn add_files(parents: &mut Vec<u8>) {
     let fresh = [Some((object(0x19), 1)), Some((object(0x1a), 2))];
     add_file(parents, plain(file(7), &fresh));
     add_file(parents, plain(file(8), &[Some((object(0x1b), 0))]));
-    // The objects of these two came back under exchanged OST indices.
-    add_file(parents, plain(file(10), &[Some((object(0x28), 1))]));
+    // The objects of these two came back under exchanged OST indices. The first has the last
+    // generation.
+    add_file(
+        parents,
+        NewFile {
+            generation: u16::MAX.into(),
+            ..plain(file(10), &[Some((object(0x28), 1))])
+        },
+    );
     add_file(parents, plain(file(11), &[Some((object(0x29), 2))]));
     parents.resize(parents.len() + 2 * parent::BYTES, 0);
 }
@@ -174,7 +183,7 @@ fn add_file(parents: &mut Vec<u8>, file: NewFile) {
         file.own.sequence,
         1 << 20,
         file.slots.len() as u64,
-        0,
+        file.generation,
     ];
     let slots: Vec<u64> = file.slots.iter().copied().flat_map(numbers).collect();
     let mut length = [0];

@@ -6,6 +6,7 @@ use std::path::Path;
 use crate::answers::refusal;
 use crate::bar::{Bar, Work};
 use crate::case::Case;
+use crate::change::Values;
 use crate::class::Class;
 use crate::classing::classes_at;
 use crate::commands::classes::finding_json;
@@ -371,6 +372,9 @@ fn more(finding: &Finding) -> String {
     }
     if let Some(repair) = &finding.repair {
         add(format!("repair, {}: {}", repair.needs.words(), repair.does));
+    }
+    if let Some(Values { old, new }) = finding.generation {
+        add(format!("generation {old} goes to {new} with it"));
     }
     if let Some(turn) = &finding.turn {
         add(turn.words());

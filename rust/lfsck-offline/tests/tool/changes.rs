@@ -20,9 +20,10 @@ const SHAPE: Shape = Shape {
 };
 
 /// Every kind of change that a run makes.
-const KINDS: [&str; 8] = [
+const KINDS: [&str; 9] = [
     "file_made",
     "own_fid",
+    "generation",
     "slot_count",
     "slot",
     "object_made",
@@ -132,6 +133,9 @@ fn make_in_layout(change: &Value, layout: &mut Layout, old: &Value, new: &Value)
             put(&mut stands, own(old), own(new));
             (layout.own_sequence, layout.own_id) = stands;
         }
+        ("generation", Value::Number(old), Value::Number(new)) => {
+            put(&mut layout.generation, *old as u16, *new as u16);
+        }
         ("slot_count", Value::Number(old), Value::Number(new)) => {
             assert!(layout.slots.len() as u64 == *old && old < new);
             layout.slots.resize(*new as usize, None);
@@ -198,6 +202,7 @@ fn every_change_is_listed() {
 }
 
 /// Three objects that claim slots of one absent file: a line for the file and one for each slot.
+/// The file is made with one slot, and grows twice.
 #[test]
 fn every_slot_of_a_made_file_is_listed() {
     let objects: Vec<u8> = (0..3)
@@ -207,7 +212,7 @@ fn every_slot_of_a_made_file_is_listed() {
     let before = case.files();
     let told = case.run(&["run", "--adopt"]).expect(0);
     let lines = "Changed:
-  [0x200000401:0x9:0x0]       -  -                        file made, owner 500:600, 3 slots
+  [0x200000401:0x9:0x0]       -  -                        file made, owner 500:600, 3 slots, generation 2
   [0x200000401:0x9:0x0]       0  [0x240000400:0x1:0x0]    slot names this object now, where there was none
   [0x200000401:0x9:0x0]       1  [0x240000400:0x2:0x0]    slot names this object now, where there was none
   [0x200000401:0x9:0x0]       2  [0x240000400:0x3:0x0]    slot names this object now, where there was none

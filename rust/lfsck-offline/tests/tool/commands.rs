@@ -359,46 +359,40 @@ fn what_runs_out_is_named_with_its_file() {
     assert!(told.out.ends_with(line), "{told:?}");
 }
 
+/// What is shown of a FID has these lines.
+fn expect_shown(case: &Case, fid: &str, lines: &[&str]) {
+    let told = case.run(&["show", fid]).expect(0).out;
+    for line in lines {
+        assert!(told.contains(line), "{line}: {told}");
+    }
+}
+
 #[test]
 fn a_file_is_shown_with_its_slots_and_rules() {
     let case = Case::sample("show-file");
-    let told = case.run(&["show", "[0x200000401:0x3:0x0]"]).expect(0);
-    for line in [
+    let three = [
         "File [0x200000401:0x3:0x0], parent row 2\n",
         "  owner 1001:100\n",
         "  slot 0: MULTIPLE, names [0x240000400:0x11:0x0] on OST 1, generation 0\n",
         "the keeper is slot 1 of [0x200000401:0x1:0x0]: the object claims that slot\n",
         "  slot 1: CLEAN, names [0x240000400:0x13:0x0] on OST 3, generation 0\n",
-    ] {
-        assert!(told.out.contains(line), "{line}: {}", told.out);
-    }
-    let told = case.run(&["show", "0x200000401:5"]).expect(0);
-    for line in [
+    ];
+    expect_shown(&case, "[0x200000401:0x3:0x0]", &three);
+    let five = [
         "the object is on OST 1, has owner 1001:100 and claims nothing\n",
         "this slot is the keeper: it is the first slot in scan order that names the object\n",
         "the object is on OST 2, has owner 1001:100 and claims slot 0 of [0x200000401:0x5:0x0]\n",
         "this slot is the keeper: it is the first slot that names the object in the claimed file\n",
         "the object is on OST 3, has owner 0:0 and claims slot 2 of [0x200000401:0x5:0x0]\n",
         "repair, always: write the owner 1001:100\n",
-    ] {
-        assert!(told.out.contains(line), "{line}: {}", told.out);
-    }
-    let told = case.run(&["show", "0x200000401:4"]).expect(0);
-    assert!(
-        told.out.contains("      the object is absent\n"),
-        "{told:?}"
-    );
-    let told = case.run(&["show", "0x200000401:7"]).expect(0);
-    assert!(
-        told.out
-            .contains("the object is fresh, on OST 2, has owner"),
-        "{told:?}"
-    );
-    let told = case.run(&["show", "0x200000401:8"]).expect(0);
-    assert!(
-        told.out
-            .contains("object [0x240000400:0x24:0x0] claims slot 0")
-    );
+    ];
+    expect_shown(&case, "0x200000401:5", &five);
+    let absent = "      the object is absent\n";
+    expect_shown(&case, "0x200000401:4", &[absent]);
+    let fresh = "the object is fresh, on OST 2, has owner";
+    expect_shown(&case, "0x200000401:7", &[fresh]);
+    let claimant = "object [0x240000400:0x24:0x0] claims slot 0";
+    expect_shown(&case, "0x200000401:8", &[claimant]);
 }
 
 #[test]
@@ -414,16 +408,14 @@ fn a_file_is_shown_to_machines_with_its_classes() {
 #[test]
 fn an_object_is_shown_with_its_keeper() {
     let case = Case::sample("show-object");
-    let told = case.run(&["show", "[0x240000400:0x11:0x0]"]).expect(0);
-    for line in [
+    let lines = [
         "Object [0x240000400:0x11:0x0], object row 1\n",
         "  claims slot 1 of [0x200000401:0x1:0x0]\n",
         "  named by slot 1 of [0x200000401:0x1:0x0], on OST 1: CLEAN\n",
         "  named by slot 0 of [0x200000401:0x3:0x0], on OST 1: MULTIPLE\n",
         "  the keeper is slot 1 of [0x200000401:0x1:0x0]: the object claims this slot\n",
-    ] {
-        assert!(told.out.contains(line), "{line}: {}", told.out);
-    }
+    ];
+    expect_shown(&case, "[0x240000400:0x11:0x0]", &lines);
     let told = case.run(&["show", "0x240000400:0x25:0"]).expect(0);
     assert!(told.out.contains("CONFLICT"), "{told:?}");
     assert!(told.out.contains("  no slot names it\n"), "{told:?}");

@@ -1,15 +1,18 @@
 //! Cases that earlier versions left. One is without the class WRONG-OST: its log has no count of it,
-//! and its position is of the first format, which never counts. Of the others logs and positions are
-//! like those of this version.
+//! and its position is of the first format. The others raised no generations, and their positions
+//! are of the second format. Neither counts.
 
 use crate::bytes::{object_row, parent_row};
 use crate::json::Value;
 use crate::oracle;
-use crate::tool::{Case, Files, JOURNAL, LOG, POSITION, sha256};
+use crate::tool::{Case, Files, JOURNAL, LOG, POSITION, hex, sha256};
 
-/// Where an object row has the OST index, and a parent row its layout's own id.
+/// The bytes of a parent row.
+const PARENT: usize = 3915;
+/// Where an object row has the OST index, and a parent row its layout's own id and generation.
 const OST: usize = 17;
 const OWN_ID: usize = 27 + 8;
+const GENERATION: usize = 27 + 30;
 
 /// What an entry of this version says of WRONG-OST where none was mended, and of its version; and
 /// what one of that version says of its own.
@@ -19,18 +22,26 @@ const EARLIER: &str = "\"version\":\"0.1.0\"";
 const WHY: &str = "The run begins at the start; the saved position does not count: \
                    it was saved by a version without the class WRONG-OST.\n";
 
-/// The position file of that version, saved at the end.
-fn position(files: &Files) -> String {
+/// The versions with that class that raised no generations.
+const WITHOUT_GENERATIONS: [&str; 3] = ["0.2.0", "0.3.0", "0.4.0"];
+const WHY_NOT: &str = "The run begins at the start; the saved position does not count: \
+                       it was saved by a version that raised no generations.\n";
+const RUN: [&str; 3] = ["run", "--create", "--adopt"];
+
+/// A position file of these tables, saved in a format, at a place under a policy.
+fn position(format: u32, at: &str, files: &Files) -> String {
     let digest = |name: &str| sha256(&files[name]);
     let text = format!(
-        "lfsck-offline position, format 1\nposition 3 0 0\npolicy 0\nparents {}\nobjects {}\n\
-         reserve {}\n",
+        "lfsck-offline position, format {format}\n{at}parents {}\nobjects {}\nreserve {}\n",
         digest("parents.tbl"),
         digest("objects.tbl"),
         digest("reserve.tbl")
     );
     format!("{text}digest {}\n", sha256(text.as_bytes()))
 }
+
+/// The end, under no policy.
+const AT_END: &str = "position 3 0 0\npolicy 0\n";
 
 /// A file whose own id was wrong and whose object is on another OST, as a run to the end of that
 /// version left it: the own id is mended, the index not, and the position is the end.
@@ -51,7 +62,7 @@ fn left(name: &str) -> Case {
         .replace("\"to\":[1,0,1],\"steps\":1", "\"to\":[3,0,0],\"steps\":3")
         .replace("\"answer\":1", "\"answer\":0");
     case.write(LOG, log.as_bytes());
-    let position = position(&case.files());
+    let position = position(1, AT_END, &case.files());
     case.write(POSITION, position.as_bytes());
     case
 }
@@ -121,30 +132,129 @@ fn its_run_can_be_taken_back() {
     assert!(!case.files().contains_key(POSITION));
 }
 
-/// A run of a version with the class WRONG-OST is gone on with and taken back like one of this. Its
-/// files have the same forms, so they are made here, with its number in the log.
+/// The parent table with the generations that another one has.
+fn with_generations_of(old: &[u8], new: &[u8]) -> Vec<u8> {
+    let mut table = new.to_vec();
+    for (row, old) in table.chunks_mut(PARENT).zip(old.chunks(PARENT)) {
+        row[GENERATION..GENERATION + 2].copy_from_slice(&old[GENERATION..GENERATION + 2]);
+    }
+    table
+}
+
+/// The log of a run with another parent table as what it left, and another version.
+fn rewritten(log: &str, version: &str, left: &[u8], other: &[u8]) -> String {
+    let mut log = log
+        .replace(VERSION, &format!("\"version\":\"{version}\""))
+        .replace(&sha256(left), &sha256(other));
+    for (left, other) in left.chunks(PARENT).zip(other.chunks(PARENT)) {
+        log = log.replace(&hex(left), &hex(other));
+    }
+    log
+}
+
+/// The sample as a run of so many steps of a version left it, which raised no generation: 24 steps
+/// change slots of two files, and 52 are all.
+fn unraised(name: &str, version: &str, steps: &str) -> Case {
+    let case = Case::sample(name);
+    let start = case.read("parents.tbl");
+    let told = case.run(&[&RUN[..], &["--steps", steps]].concat());
+    assert!(told.out.contains("generation raised from 65535 to 0\n"));
+    let left = case.read("parents.tbl");
+    let unraised = with_generations_of(&start, &left);
+    let log = String::from_utf8(case.read(LOG)).expect("a text");
+    let other = rewritten(&log, version, &left, &unraised);
+    let text = String::from_utf8(case.read(POSITION)).expect("a text");
+    let (title, rest) = text.split_once('\n').expect("a title");
+    assert_eq!(title, "lfsck-offline position, format 3");
+    let (at, _) = rest.split_once("parents ").expect("a digest");
+    case.write("parents.tbl", &unraised);
+    case.write(LOG, other.as_bytes());
+    case.write(POSITION, position(2, at, &case.files()).as_bytes());
+    case
+}
+
+/// The run does not go on with one that raised no generations: it comes to the tables of the uncut
+/// run over what it is handed.
 #[test]
-fn versions_with_the_class_are_gone_on_from() {
-    for version in ["0.2.0", "0.3.0"] {
-        let case = Case::sample("earlier-goes-on");
-        let before = case.read("parents.tbl");
-        case.run(&["run", "--create", "--steps", "6"]).expect(1);
-        let log = String::from_utf8(case.read(LOG)).expect("a text");
-        let other = log.replace(VERSION, &format!("\"version\":\"{version}\""));
-        assert_ne!(other, log);
-        case.write(LOG, other.as_bytes());
-        let left = case.files();
-        let told = case.run(&["run", "--create"]).expect(0).out;
+fn a_run_without_generations_is_not_gone_on_with() {
+    for version in WITHOUT_GENERATIONS {
+        let case = unraised("earlier-unraised", version, "24");
+        let start = case.files();
+        let told = case.run(&RUN).expect(0).out;
+        assert!(told.starts_with(WHY_NOT), "{told}");
+        assert!(told.contains("Steps: 52 done, 0 left.\n"), "{told}");
+        assert!(!told.contains("[0x200000401:0xa:0x0]"), "{told}");
+        oracle::run(&start, 3, u64::MAX).expect_in(&case);
+        case.restore(&start);
+        let report = case.json(&RUN, 0);
+        assert_eq!(report.get("resumed"), &Value::Bool(false));
+        let why = "it was saved by a version that raised no generations";
+        assert!(report.text("beginning").ends_with(why));
+        // The position of this run counts.
+        let told = case.run(&RUN).expect(0).out;
         assert!(told.starts_with("The run goes on from the saved position.\n"));
+    }
+}
+
+/// What such a run mended stays mended, with the generations that it left.
+#[test]
+fn a_finished_run_without_generations_leaves_nothing_to_do() {
+    for version in WITHOUT_GENERATIONS {
+        let case = unraised("earlier-finished", version, "52");
+        let tables = ["parents.tbl", "objects.tbl"];
+        let before = tables.map(|table| case.read(table));
+        let told = case.run(&RUN).expect(0).out;
+        assert!(told.starts_with(WHY_NOT), "{told}");
+        assert!(told.contains("Nothing was changed.\n"), "{told}");
+        assert_eq!(tables.map(|table| case.read(table)), before);
+    }
+}
+
+/// The position of before comes back byte for byte, and still does not count.
+#[test]
+fn an_undo_puts_a_position_without_generations_back() {
+    for version in WITHOUT_GENERATIONS {
+        let case = unraised("earlier-unraised-undo", version, "24");
+        let start = case.files();
+        case.run(&RUN).expect(0);
+        case.run(&["undo"]).expect(0);
+        let mut after = case.files();
+        after.insert(LOG.to_string(), start[LOG].clone());
+        assert_eq!(after, start);
+        let told = case.run(&RUN).expect(0).out;
+        assert!(told.starts_with(WHY_NOT), "{told}");
+    }
+}
+
+/// The kinds of changes of an entry of the log.
+fn kinds(entry: &Value) -> Vec<&str> {
+    let changes = entry.list("changes").iter();
+    changes.map(|change| change.text("kind")).collect()
+}
+
+/// The log tells what such a run changed, without generations, and the run is taken back.
+#[test]
+fn a_run_without_generations_is_read_and_taken_back() {
+    for version in WITHOUT_GENERATIONS {
+        let case = unraised("earlier-unraised-log", version, "24");
+        let left = case.files();
+        case.run(&RUN).expect(0);
         let told = case.json(&["log"], 0);
         let entries = told.list("entries");
         let versions: Vec<&str> = entries.iter().map(|it| it.text("version")).collect();
         assert_eq!(versions, [version, env!("CARGO_PKG_VERSION")]);
-        assert_eq!(entries[0].get("repairs").number("SELF"), 1);
+        assert_eq!(entries[0].get("repairs").number("WRONG-OST"), 1);
+        let of_slots = entries.iter().map(|it| kinds(it).contains(&"slot"));
+        assert_eq!(of_slots.collect::<Vec<bool>>(), [true, true]);
+        let of_generations = entries.iter().map(|it| kinds(it).contains(&"generation"));
+        assert_eq!(of_generations.collect::<Vec<bool>>(), [false, true]);
         case.restore(&left);
-        assert_ne!(case.read("parents.tbl"), before);
         case.run(&["undo"]).expect(0);
-        assert_eq!(case.read("parents.tbl"), before);
+        let sample = Case::sample("earlier-unraised-sample");
+        for table in ["parents.tbl", "objects.tbl"] {
+            assert!(case.read(table) == sample.read(table), "{table}");
+        }
+        assert!(!case.files().contains_key(POSITION));
     }
 }
 
@@ -199,10 +309,7 @@ fn a_log_without_another_count_is_refused() {
 #[test]
 fn a_later_format_is_refused() {
     let case = left("later-format");
-    let text = position(&case.files()).replace("format 1", "format 3");
-    let (body, _) = text.split_once("digest ").expect("a digest");
-    let text = format!("{body}digest {}\n", sha256(body.as_bytes()));
-    case.write(POSITION, text.as_bytes());
+    case.write(POSITION, position(4, AT_END, &case.files()).as_bytes());
     let before = case.files();
     case.run(&["run"])
         .expect_line(2, "this is no saved position");

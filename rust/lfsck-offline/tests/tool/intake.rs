@@ -449,20 +449,20 @@ fn a_reserve_is_a_list_of_fids() {
     assert!(!made(&case).exists());
 }
 
+/// What a dump that is refused has for machines.
+fn failure(case: &Case, dump: &str, words: &[&str]) -> Value {
+    let words: Vec<&str> = words.iter().copied().chain(["--json"]).collect();
+    let told = take(case, dump.as_bytes(), OWNERS.as_bytes(), &words).expect(2);
+    parse(&told.out)
+}
+
 /// For machines a fault has file, line, number, reason and the line as members of their own.
 #[test]
 fn a_fault_is_told_to_machines() {
     let case = Case::empty("intake-fault-json");
-    let failure = |dump: &str, words: &[&str]| {
-        let words: Vec<&str> = words.iter().copied().chain(["--json"]).collect();
-        let told = take(&case, dump.as_bytes(), OWNERS.as_bytes(), &words).expect(2);
-        parse(&told.out)
-    };
     let good = entry("a", &[LMA, LOV]);
-    let told = failure(
-        &(good.clone() + &entry("b c", &[LMA, "user.\u{e9}\n"])),
-        &[],
-    );
+    let dump = good.clone() + &entry("b c", &[LMA, "user.\u{e9}\n"]);
+    let told = failure(&case, &dump, &[]);
     assert_eq!((told.number("status"), told.number("answer")), (2, 33));
     let fault = told.get("fault");
     assert_eq!((fault.text("file"), fault.number("line")), ("dump", 7));
@@ -473,20 +473,27 @@ fn a_fault_is_told_to_machines() {
     assert_eq!(fault.text("text"), "user.\u{e9}");
     assert_eq!(fault.text("text_hex"), "757365722ec3a9");
     assert_eq!((fault.text("name"), fault.number("entry_line")), ("b c", 5));
-    let told = failure(&(good.clone() + &entry("b", &[LMA])), &[]);
+    let told = failure(&case, &(good + &entry("b", &[LMA])), &[]);
     let fault = told.get("fault");
     assert_eq!((fault.number("line"), fault.number("number")), (7, 36));
     assert_eq!((fault.text("text"), fault.text("name_hex")), ("", "62"));
-    let told = failure(&format!("{good}# file: b"), &[]);
+}
+
+/// A line outside entries has no entry, one of a list of FIDs no number, and what is no line of a
+/// file has no fault.
+#[test]
+fn a_fault_has_what_applies() {
+    let case = Case::empty("intake-fault-null");
+    let good = entry("a", &[LMA, LOV]);
+    let told = failure(&case, &format!("{good}# file: b"), &[]);
     assert_eq!(told.get("fault").number("line"), 5);
     assert_eq!(told.get("fault").get("entry_line"), &Value::Null);
     case.write("list", b"\nabc\n");
-    let told = failure(&good, &["--reserve", "list"]);
+    let told = failure(&case, &good, &["--reserve", "list"]);
     let fault = told.get("fault");
     assert_eq!((fault.text("file"), fault.number("line")), ("list", 2));
     assert_eq!(fault.get("number"), &Value::Null);
-    // What is no line of a file has none.
-    let Value::Object(members) = failure(&good, &["--spare-files", "2000"]) else {
+    let Value::Object(members) = failure(&case, &good, &["--spare-files", "2000"]) else {
         panic!("no object");
     };
     assert!(!members.contains_key("fault"), "{members:?}");

@@ -5,7 +5,7 @@ use std::os::unix::fs::{MetadataExt, PermissionsExt};
 
 use crate::json::{self, Value};
 use crate::oracle;
-use crate::tool::{Case, Files, JOURNAL, LOG, POSITION, Told, sha256, timeless};
+use crate::tool::{Case, Files, JOURNAL, LOG, POSITION, Told, hex, sha256, timeless};
 
 const TABLES: [(&str, usize); 3] = [
     ("parents.tbl", 3915),
@@ -25,10 +25,6 @@ fn entries(case: &Case) -> Vec<Value> {
         .get(LOG)
         .map_or("", |bytes| str::from_utf8(bytes).unwrap());
     log.split_inclusive('\n').map(json::parse).collect()
-}
-
-fn hex(bytes: &[u8]) -> String {
-    bytes.iter().map(|byte| format!("{byte:02x}")).collect()
 }
 
 /// The rows of an entry: table, row, old and new bytes.
@@ -188,43 +184,45 @@ fn fid(sequence: u64, id: u32) -> String {
     format!("[{sequence:#x}:{id:#x}:0x0]")
 }
 
+fn file(id: u32) -> String {
+    fid(0x2_0000_0401, id)
+}
+
+fn object(id: u32) -> String {
+    fid(0x2_4000_0400, id)
+}
+
+/// The story of a file or object is this: classes and kinds of changes.
+fn expect_story(case: &Case, fid: &str, expected: &[(&str, &str)]) {
+    let told = story(case, fid);
+    let told: Vec<(&str, &str)> = told
+        .iter()
+        .map(|(class, kind)| (class.as_str(), kind.as_str()))
+        .collect();
+    assert_eq!(told, expected, "{fid}");
+}
+
 #[test]
 fn a_file_and_an_object_have_their_story() {
     let case = Case::sample("story");
     case.run(&RUN).expect(0);
-    let pairs = |list: &[(&str, &str)]| -> Vec<(String, String)> {
-        list.iter()
-            .map(|(class, kind)| (class.to_string(), kind.to_string()))
-            .collect()
-    };
-    let [file, object] = [
-        |id: u32| fid(0x2_0000_0401, id),
-        |id: u32| fid(0x2_4000_0400, id),
-    ];
-    let made = ("DANGLING", "object_made");
-    for (fid, expected) in [
-        (file(2), &[("SELF", "own_fid")][..]),
-        (
-            file(3),
-            &[("MULTIPLE", "slot"), ("MULTIPLE", "object_made")],
-        ),
-        (file(4), &[made]),
-        (object(0x14), &[made]),
-        (object(0x27), &[("EMPTY", "object_destroyed")]),
-        // The object that a slot named before is concerned as well.
-        (object(0x11), &[("MULTIPLE", "slot")]),
-        (object(0x10), &[]),
-    ] {
-        assert_eq!(story(&case, &fid), pairs(expected), "{fid}");
+    expect_story(&case, &file(2), &[("SELF", "own_fid")]);
+    let multiple = ["generation", "slot", "object_made"].map(|kind| ("MULTIPLE", kind));
+    expect_story(&case, &file(3), &multiple);
+    for fid in [file(4), object(0x14)] {
+        expect_story(&case, &fid, &[("DANGLING", "object_made")]);
     }
+    expect_story(&case, &object(0x27), &[("EMPTY", "object_destroyed")]);
+    // The object that a slot named before is concerned as well.
+    expect_story(&case, &object(0x11), &[("MULTIPLE", "slot")]);
+    expect_story(&case, &object(0x10), &[]);
     let told = case.run(&["log", &file(2)]).expect(0).out;
     let why = "SELF: the layout's own FID is not the file's";
     assert!(told.contains(why), "{told}");
     let told = case.run(&["log", &object(0x10)]).expect(0).out;
     assert!(told.starts_with("Nothing in the log concerns"), "{told}");
     case.run(&["undo"]).expect(0);
-    let twice = pairs(&[("SELF", "own_fid"), ("-", "own_fid")]);
-    assert_eq!(story(&case, &file(2)), twice);
+    expect_story(&case, &file(2), &[("SELF", "own_fid"), ("-", "own_fid")]);
     let told = case.run(&["log", &file(2)]).expect(0).out;
     assert!(told.contains("undo of the run of"), "{told}");
 }

@@ -8,6 +8,7 @@ mod commands;
 mod compared;
 mod earlier;
 mod foresee;
+mod generation;
 mod histories;
 mod intake;
 mod intake_input;

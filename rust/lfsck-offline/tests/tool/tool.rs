@@ -213,6 +213,11 @@ pub fn timeless(files: &Files) -> Files {
     files
 }
 
+/// The bytes in hexadecimal digits.
+pub fn hex(bytes: &[u8]) -> String {
+    bytes.iter().map(|byte| format!("{byte:02x}")).collect()
+}
+
 /// The SHA-256 digest in hexadecimal digits, by another program.
 pub fn sha256(bytes: &[u8]) -> String {
     let mut child = Command::new("sha256sum")

@@ -72,6 +72,7 @@ fn show_tells_both_osts() {
       this slot is the keeper: the object claims this slot
       1 slot compared to find the keeper
       repair, always: write the owner 1001:100, and OST 1, where the object is, into the slot, which names OST 2
+      generation 0 goes to 1 with it
 ";
     assert!(told.ends_with(lines), "{told}");
     let told = case.run(&["show", "0x240000400:0x28"]).expect(0).out;
@@ -122,7 +123,8 @@ fn a_run_writes_the_index_and_an_undo_takes_it_back() {
     assert_eq!(after, start);
 }
 
-/// The index is a change of its slot, with all of the slot before and after it.
+/// The index is a change of its slot, with all of the slot before and after it, and comes with one
+/// of the generation.
 #[test]
 fn a_written_index_is_a_change_of_its_slot() {
     let case = Case::sample("wrong-ost-json");
@@ -130,10 +132,10 @@ fn a_written_index_is_a_change_of_its_slot() {
     assert_eq!(report.get("repairs").number("WRONG-OST"), 2);
     let is_ten = |it: &&Value| *it.get("file") == Value::Text(TEN.to_string());
     let changes: Vec<&Value> = report.list("changes").iter().filter(is_ten).collect();
-    assert_eq!(changes.len(), 1);
-    assert_eq!(changes[0].text("kind"), "slot");
+    let kinds: Vec<&str> = changes.iter().map(|it| it.text("kind")).collect();
+    assert_eq!(kinds, ["generation", "slot"]);
     for (side, ost) in [("old", 1), ("new", 2)] {
-        let slot = changes[0].get(side);
+        let slot = changes[1].get(side);
         assert_eq!(slot.text("object"), "[0x240000400:0x28:0x0]");
         assert_eq!([slot.number("generation"), slot.number("ost")], [0, ost]);
     }
