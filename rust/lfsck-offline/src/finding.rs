@@ -363,7 +363,6 @@ mod tests {
     /// Random tables with room for repairs.
     fn random_case(random: &mut Random) -> Tables {
         let mut tables = Tables::random(SHAPE, random);
-        tables.age(random);
         tables.parents.extend([0; parent::BYTES]);
         tables.objects.extend([0; object::BYTES]);
         tables.reserve = OBJECTS.iter().flat_map(|fid| fid.to_bytes()).collect();

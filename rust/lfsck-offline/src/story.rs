@@ -145,7 +145,6 @@ mod tests {
 
     fn random_case(random: &mut Random) -> Tables {
         let mut tables = Tables::random(SHAPE, random);
-        tables.age(random);
         tables.objects.extend([0; 3 * object::BYTES]);
         tables.reserve = OBJECTS.iter().flat_map(|fid| fid.to_bytes()).collect();
         tables

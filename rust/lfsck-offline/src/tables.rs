@@ -109,14 +109,4 @@ impl Tables {
             reserve: Vec::new(),
         }
     }
-
-    /// Gives some files the last generation.
-    pub fn age(&mut self, random: &mut difftest::Random) {
-        const AT: usize = parent::LAYOUT_AT + numbers::layout::GENERATION_AT;
-        for row in self.parents.chunks_exact_mut(parent::BYTES) {
-            if random.one_in(3) {
-                row[AT..AT + 2].fill(u8::MAX);
-            }
-        }
-    }
 }
