@@ -1,7 +1,7 @@
 -- A rewrite changes the bytes of its slot and of the generation, and no others. Assumes nothing.
-use mathlib.Core.Path.{_≡_, refl, sym, ap, _∙_}
+use mathlib.Core.Path.{_≡_, refl, sym, subst, _∙_}
 use mathlib.Core.List.{List, [], _∷_}
-use mathlib.Core.Bool.{Bool, true, false, cond, _||_, true≢false}
+use mathlib.Core.Bool.{Bool, true, false, _||_, true≢false}
 use mathlib.Core.Logic.{_⊎_, inl, inr}
 use Prim.Native.Nat.{ℕ, suc, _+_, _*_, _≤_, _<_}
 use native.Mathlib.Omega.{arith}
@@ -9,7 +9,7 @@ use native.Mathlib.Decide.{decLt}
 use borrow.Author.Tests.{le-leb, lt-ltb, eqb-true}
 use lib.Dec.{eqb, leb, ltb}
 use lib.ListN.{length, getD, drop, set}
-use lib.Seq.{sets, getD-set-other}
+use lib.Seq.{sets, length-sets, getD-set-other}
 use Rattle.wire.specs.Numbers.{le, bytes}
 use Rattle.wire.proofs.Both.{and-both}
 use Rattle.wire.proofs.NumberLaws.{Bytes, length-bytes}
@@ -48,25 +48,38 @@ unfolding rewriteBytes
 rewrite-refused l j s e = rw e
 
 -- "The slot rewrite now touches two more bytes", and no others
-pub others-stay : (l : List ℕ) (j : ℕ) (s : Slot) → Bytes l → OthersStay l j s
-unfolding OthersStay inRewrite
-others-stay l j s b i e = go (eqb (rewriteAnswer l j s) 0) refl (sameSlot (slotOf (drop (slotStart l) l) j) s) refl
-  where
-    at : ℕ
-    at = slotStart l + slotSize * j
+module _ (l : List ℕ) (j : ℕ) (s : Slot) (b : Bytes l) where
+  at : ℕ
+  at = slotStart l + slotSize * j
 
-    slot : (i < at) ⊎ (at + length (encodeSlot s) ≤ i)
-    slot = rw (length-slot s) (out-of at slotSize i (or-first (within at slotSize i) (within generationAt 2 i) e))
+  g : List ℕ
+  g = bytes 2 (nextGeneration (le 2 (drop generationAt l)))
 
-    g : List ℕ
-    g = bytes 2 (nextGeneration (le 2 (drop generationAt l)))
+  -- a refusal, an equal slot, another slot
+  cases : (P : List ℕ → Type 0) → P l → P (sets (sets l at (encodeSlot s)) generationAt g) → P (rewriteBytes l j s)
+  unfolding at g
+  cases P same other = go (eqb (rewriteAnswer l j s) 0) refl (sameSlot (slotOf (drop (slotStart l) l) j) s) refl
+    where
+      go : (d : Bool) → eqb (rewriteAnswer l j s) 0 ≡ d → (c : Bool) → sameSlot (slotOf (drop (slotStart l) l) j) s ≡ c → P (rewriteBytes l j s)
+      go false q c k = subst P (sym (rewrite-refused l j s q)) same
+      go true q true k = subst P (sym (rewrite-stays l j s b (eqb-true (rewriteAnswer l j s) 0 q) k)) same
+      go true q false k = subst P (sym (rewrite-splices l j s b (eqb-true (rewriteAnswer l j s) 0 q) k)) other
 
-    generation : (i < generationAt) ⊎ (generationAt + length g ≤ i)
-    generation = rw (length-bytes 2 (nextGeneration (le 2 (drop generationAt l)))) (out-of generationAt 2 i (or-second (within at slotSize i) (within generationAt 2 i) e))
+  stays : (i : ℕ) → inRewrite l j i ≡ false → getD (sets (sets l at (encodeSlot s)) generationAt g) i 0 ≡ getD l i 0
+  unfolding inRewrite at g
+  stays i e =
+      sets-outside g (sets l at (encodeSlot s)) generationAt i (rw (length-bytes 2 (nextGeneration (le 2 (drop generationAt l)))) (out-of generationAt 2 i (or-second slot generation e)))
+      ∙ sets-outside (encodeSlot s) l at i (rw (length-slot s) (out-of at slotSize i (or-first slot generation e)))
+    where
+      slot : Bool
+      slot = within at slotSize i
 
-    go : (d : Bool) → eqb (rewriteAnswer l j s) 0 ≡ d → (c : Bool) → sameSlot (slotOf (drop (slotStart l) l) j) s ≡ c → getD (rewriteBytes l j s) i 0 ≡ getD l i 0
-    go false q c k = ap (λ (y : List ℕ). getD y i 0) (rewrite-refused l j s q)
-    go true q true k = ap (λ (y : List ℕ). getD y i 0) (rewrite-stays l j s b (eqb-true (rewriteAnswer l j s) 0 q) k)
-    go true q false k =
-        ap (λ (y : List ℕ). getD y i 0) (rewrite-splices l j s b (eqb-true (rewriteAnswer l j s) 0 q) k)
-        ∙ sets-outside g (sets l at (encodeSlot s)) generationAt i generation ∙ sets-outside (encodeSlot s) l at i slot
+      generation : Bool
+      generation = within generationAt 2 i
+
+  pub others-stay : OthersStay l j s
+  unfolding OthersStay
+  others-stay = (
+    cases (λ y. length y ≡ length l) refl (length-sets (sets l at (encodeSlot s)) generationAt g ∙ length-sets l at (encodeSlot s)),
+    λ i e. cases (λ y. getD y i 0 ≡ getD l i 0) refl (stays i e),
+  )

@@ -1,13 +1,13 @@
 -- Laws of other slots in a layout: when two lists of slots are the same, and the generation that comes with them. Assumes nothing.
-use mathlib.Core.Path.{_≡_, refl, sym, ap, _∙_}
+use mathlib.Core.Path.{_≡_, refl, sym, ap}
 use mathlib.Core.List.{List, [], _∷_}
 use mathlib.Core.Bool.{Bool, true, false, cond, _&&_}
-use Prim.Native.Nat.{ℕ, zero, suc, _+_, _<_, _≤_}
+use Prim.Native.Nat.{ℕ, zero, suc, _+_, _<_}
 use borrow.Author.Tests.{eq-eqb, ne-eqb, eqb-true}
 use native.Mathlib.Omega.{arith}
 use lib.Dec.{eqb}
 use lib.ListN.{length, getD, set}
-use Rattle.wire.proofs.Both.{and-first, and-second, and-both}
+use Rattle.wire.proofs.Both.{and-first, and-second}
 use Rattle.fid.specs.Fid.{sameFid}
 use Rattle.fid.proofs.SameLaws.{same-self, same-is}
 use Rattle.fid.specs.declared.OstFid.{OstFid}
@@ -118,11 +118,6 @@ module _ (L : Layout) (ss : List Slot) where
   restriped-same e =
       let q = slots-same (L .slots) ss e in
       rw e (λ i. record { header = L .header; pool = L .pool; slots = sym q i })
-
-  -- others raise its generation
-  pub restriped-raised : sameSlots (L .slots) ss ≡ false → restriped L ss .header ≡ raised (L .header)
-  unfolding restriped generationWith raised
-  restriped-raised e = rw e
 
   pub generation-small : L .header .generation < generations → generationWith L ss < generations
   unfolding generationWith

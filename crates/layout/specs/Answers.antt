@@ -3,7 +3,7 @@ use Prim.Native.Nat.{ℕ, _+_, _*_}
 use mathlib.Core.Path.{_≡_}
 use mathlib.Core.List.{List}
 use mathlib.Core.Bool.{Bool, false, cond, _&&_, _||_}
-use lib.ListN.{getD}
+use lib.ListN.{length, getD}
 use lib.Dec.{leb, ltb, eqb}
 use Rattle.layout.specs.Slot.{slotSize, allowedSlot}
 use Rattle.layout.specs.Layout.{generationAt, slotStart, decodeHeader, decodeLayout, encodeLayout, changed, acceptedLayout, stripeCount, withHoles}
@@ -56,6 +56,7 @@ within at n i = leb at i && ltb i (at + n)
 unfoldable pub inRewrite : List ℕ → ℕ → ℕ → Bool
 inRewrite l j i = within (slotStart l + slotSize * j) slotSize i || within generationAt 2 i
 
--- no others change, whatever is answered
+-- no others change, whatever is answered, and none is added or lost
 unfoldable pub OthersStay : List ℕ → ℕ → Slot → Type 0
-OthersStay l j s = (i : ℕ) → inRewrite l j i ≡ false → getD (rewriteBytes l j s) i 0 ≡ getD l i 0
+OthersStay l j s =
+    (length (rewriteBytes l j s) ≡ length l) × ((i : ℕ) → inRewrite l j i ≡ false → getD (rewriteBytes l j s) i 0 ≡ getD l i 0)

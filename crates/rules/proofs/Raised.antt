@@ -4,12 +4,13 @@ use native.Mathlib.Omega.{arith}
 use mathlib.Core.Path.{_≡_, refl, sym, ap, subst, _∙_}
 use mathlib.Core.Bool.{Bool, true, false, cond, _&&_}
 use mathlib.Core.List.{List, []}
-use borrow.Author.Tests.{eqb-true, eq-eqb}
+use borrow.Author.Tests.{eqb-true}
 use lib.Dec.{eqb}
-use lib.ListN.{getD, set}
+use lib.ListN.{getD}
+use Rattle.fid.specs.declared.MdtFid.{MdtFid}
 use Rattle.fid.specs.declared.OstFid.{OstFid}
 use Rattle.layout.specs.Slot.{sameSlots}
-use Rattle.layout.specs.Layout.{Layout, lastGeneration, generations, nextGeneration, atGeneration, generationWith, restriped, changed}
+use Rattle.layout.specs.Layout.{lastGeneration, generations, nextGeneration, atGeneration, generationWith, restriped, changed}
 use Rattle.layout.specs.declared.Slot.{Slot}
 use Rattle.layout.specs.declared.Slot.the-variants.{Hole, Names}
 use Rattle.layout.proofs.StripeLaws.{slots-self, generation-small}
@@ -21,14 +22,14 @@ use Rattle.tables.specs.declared.Claim.{Claim}
 use Rattle.tables.specs.declared.Claim.the-variants.{Unclaimed, Claims}
 use Rattle.tables.specs.declared.Object.{Object}
 use Rattle.tables.specs.declared.Position.{Position}
-use Rattle.rules.specs.Rows.{ownerOf, tailOf, freeParent, slotAt, objectAt, objectRow, freeObject, sameOwner}
-use Rattle.rules.specs.Places.{way, claims, placeOf, slotNumber}
+use Rattle.rules.specs.Rows.{ownerOf, generationIn, freeParent, slotAt, objectAt, objectRow, freeObject, sameOwner}
+use Rattle.rules.specs.Places.{way, claims, placeOf}
 use Rattle.rules.specs.Classes.{headerClass, slotClass, objectClass}
 use Rattle.rules.specs.Settings.{Settings, creates, adopts}
-use Rattle.rules.specs.Repairs.{putParent, putObject, applyWrite, applyWrites, withSlots, withSlot, ownHeader, withOwn, withOwner, grown, made, destroyed, repairHeader, newObject, usable, redirectTo, redirect, makeObject, mended, mendWrite, indexWrite, mendObject, mendAt, repairSlot, slotFor, ownerWrite, makeParent, destroyAt, destroyNamed, adoptBy, adopt, repairObject}
+use Rattle.rules.specs.Repairs.{putParent, putObject, applyWrite, applyWrites, withSlots, withSlot, ownHeader, withOwn, withOwner, grown, made, repairHeader, usable, redirectTo, redirect, makeObject, mended, mendWrite, indexWrite, mendObject, mendAt, repairSlot, slotFor, ownerWrite, makeParent, destroyAt, destroyNamed, adoptBy, adopt, repairObject}
 use Rattle.rules.specs.Steps.{slotStep, partStep, objectStep, stepAt}
-use Rattle.rules.specs.Runs.{Run, halt, after, onStep, run, noCounts, countOf, stepTables}
-use Rattle.rules.specs.Generations.{GoesOn, RaisedStep, restripes, restripesFrom, restripings, RaisedRun}
+use Rattle.rules.specs.Runs.{Run, halt, after, onStep, run, stepTables}
+use Rattle.rules.specs.Generations.{GoesOn, Begins, RaisedStep, restripes, restripesFrom, restripings, RaisedRun}
 use Rattle.rules.specs.declared.Row.{Row}
 use Rattle.rules.specs.declared.Row.the-variants.{RowIs, NoRow}
 use Rattle.rules.specs.declared.Usable.{Usable}
@@ -52,50 +53,66 @@ use Rattle.rules.proofs.Theorem.{free-row}
 
 -- ## One row
 
-goes-same : (w : ParentRow) → GoesOn w w
-unfolding GoesOn generationWith
-goes-same w p e = (p, e, rw (slots-self (p .layout .slots)))
+abbrev Follows : ParentRow → ParentRow → Type 0
+Follows v w = GoesOn v w × Begins v w
 
-goes-with : (w : ParentRow) (ss : List Slot) (t : List ℕ) → GoesOn w (withSlots w ss t)
-unfolding GoesOn withSlots restriped atGeneration
-goes-with w ss t p e =
-    (record { self = p .self; owner = p .owner; layout = restriped (p .layout) ss; tail = t }, ap (λ (v : ParentRow). withSlots v ss t) e, refl)
+-- no row is both
+apart : {X : Type 0} (v : ParentRow) (b : List ℕ) (q : Parent) → v ≡ unused b → v ≡ used q → X
+apart v b q u e = let z : _≡_ {A = ℕ} 0 1 = cc in absurd (omega arith)
 
-goes-slot : (w : ParentRow) (j : ℕ) (s : Slot) → GoesOn w (withSlot w j s)
-unfolding GoesOn withSlot changed restriped atGeneration
-goes-slot w j s p e =
-    (record { self = p .self; owner = p .owner; layout = changed (p .layout) j s; tail = p .tail }, ap (λ (v : ParentRow). withSlot v j s) e, refl)
+goes-same : (w : ParentRow) → Follows w w
+unfolding GoesOn Begins generationWith
+goes-same w = (λ p e. (p, e, rw (slots-self (p .layout .slots))), λ b u q e. apart w b q u e)
 
-goes-grown : (w : ParentRow) (i : ℕ) (s : Slot) → GoesOn w (grown w i s)
+goes-with : (w : ParentRow) (ss : List Slot) (t : List ℕ) → Follows w (withSlots w ss t)
+unfolding GoesOn Begins withSlots restriped atGeneration
+goes-with w ss t =
+    let f : ParentRow → ParentRow = λ v. withSlots v ss t in (
+      λ p e. (record { self = p .self; owner = p .owner; layout = restriped (p .layout) ss; tail = t }, ap f e, refl),
+      λ b u q e. apart (withSlots w ss t) b q (ap f u) e,
+    )
+
+goes-slot : (w : ParentRow) (j : ℕ) (s : Slot) → Follows w (withSlot w j s)
+unfolding GoesOn Begins withSlot changed restriped atGeneration
+goes-slot w j s =
+    let f : ParentRow → ParentRow = λ v. withSlot v j s in (
+      λ p e. (record { self = p .self; owner = p .owner; layout = changed (p .layout) j s; tail = p .tail }, ap f e, refl),
+      λ b u q e. apart (withSlot w j s) b q (ap f u) e,
+    )
+
+goes-grown : (w : ParentRow) (i : ℕ) (s : Slot) → Follows w (grown w i s)
 unfolding grown
 goes-grown w i s = goes-with w _ _
 
 -- "Mending the own id doesn't count"
-goes-own : (w : ParentRow) → GoesOn w (withOwn w)
-unfolding GoesOn withOwn ownHeader generationWith
-goes-own w p e = (
-  record { self = p .self; owner = p .owner; layout = record { header = ownHeader (p .layout .header) (p .self); pool = p .layout .pool; slots = p .layout .slots }; tail = p .tail },
-  ap withOwn e,
-  rw (slots-self (p .layout .slots)),
+goes-own : (w : ParentRow) → Follows w (withOwn w)
+unfolding GoesOn Begins withOwn ownHeader generationWith
+goes-own w = (
+  λ p e. (
+    record { self = p .self; owner = p .owner; layout = record { header = ownHeader (p .layout .header) (p .self); pool = p .layout .pool; slots = p .layout .slots }; tail = p .tail },
+    ap withOwn e,
+    rw (slots-self (p .layout .slots)),
+  ),
+  λ b u q e. apart (withOwn w) b q (ap withOwn u) e,
 )
 
--- a row that wasn't used had no layout
-goes-unused : (v w : ParentRow) (b : List ℕ) → v ≡ unused b → GoesOn v w
-unfolding GoesOn
-goes-unused v w b u p e = let z : _≡_ {A = ℕ} 0 1 = cc in absurd (omega arith)
+-- "a made parent starts at 0", in a row that wasn't used
+goes-made : (v : ParentRow) (b : List ℕ) → v ≡ unused b → (f : MdtFid) (i : ℕ) (w : Owner) (s : Slot) (l : List ℕ) → Follows v (made f i w s l)
+unfolding GoesOn Begins made generationIn
+goes-made v b u f i w s l = (λ p e. apart v b p u e, λ c t q e. sym (ap generationIn e))
 
 -- ## One write
 
 abbrev Goes : List ParentRow → List ParentRow → Type 0
-Goes rows more = (r : ℕ) → GoesOn (rowAt rows r) (rowAt more r)
+Goes rows more = (r : ℕ) → Follows (rowAt rows r) (rowAt more r)
 
 goes-still : (rows : List ParentRow) → Goes rows rows
 goes-still rows r = goes-same (rowAt rows r)
 
-goes-put : (T : Tables) (r : ℕ) (w : ParentRow) → GoesOn (rowAt (T .parents) r) w → Goes (T .parents) (putParent T r w .parents)
+goes-put : (T : Tables) (r : ℕ) (w : ParentRow) → Follows (rowAt (T .parents) r) w → Goes (T .parents) (putParent T r w .parents)
 unfolding rowAt putParent
 goes-put T r w h k =
-    set-pointwise (T .parents) r w (unused []) (λ v. GoesOn (getD (T .parents) k (unused [])) v) k
+    set-pointwise (T .parents) r w (unused []) (λ v. Follows (getD (T .parents) k (unused [])) v) k
     (λ e. rw e (goes-same (getD (T .parents) r (unused [])))) (λ e. rw e h) (λ n. goes-same (getD (T .parents) k (unused [])))
 
 -- a write that leaves the parents alone
@@ -220,14 +237,13 @@ aside-named rows (Names g n i) = go (objectRow rows g)
     go NoRow = aside-nothing
     go (RowIs o) = aside-destroy o
 
--- "a made parent starts at 0": it is in a row that wasn't used
 raises-parent : (T : Tables) (x : Object) (p : Place) (a : Row) → freeParent (T .parents) ≡ a → Raises T (makeParent x p a)
 unfolding makeParent applyWrite
 raises-parent T x p NoRow e = raises-stops T 23
 raises-parent T x p (RowIs r) e =
     let free = free-row T r e in
     raises-first T _ (Make r (p .file) (x .owner) (p .index) (slotFor x)) Nothing Nothing
-    (goes-put T r _ (goes-unused (rowAt (T .parents) r) _ (free .0 .0) (free .0 .1))) aside-nothing aside-nothing
+    (goes-put T r _ (goes-made (rowAt (T .parents) r) (free .0 .0) (free .0 .1) _ _ _ _ _)) aside-nothing aside-nothing
 
 raises-adopt : (T : Tables) (o : ℕ) (x : Object) (p : Place) (v : Way) → Raises T (adoptBy T o x p v)
 unfolding adoptBy applyWrite
@@ -290,7 +306,7 @@ onward g k false h = go (eqb g lastGeneration) refl
 pub raised-run : (settings : Settings) (n : ℕ) (T : Tables) (p : Position) → RaisedRun settings n T p
 unfolding RaisedRun RaisedStep GoesOn run restripings restripesFrom restripes halt onStep after stepTables generationWith slotsOf
 raised-run settings zero T p r w e h = (w, e, omega arith)
-raised-run settings (suc n) T p r w e h = go (isEnd p) (stepAt settings T p) (raised-step settings T p r w e) (λ S. raised-run settings n S (next S p) r)
+raised-run settings (suc n) T p r w e h = go (isEnd p) (stepAt settings T p) (raised-step settings T p r .0 w e) (λ S. raised-run settings n S (next S p) r)
   where
     Result : Run → ℕ → Type 0
     Result x k = (q : Parent) × (rowAt (x .tables .parents) r ≡ used q) × (q .layout .header .generation ≡ (w .layout .header .generation + k) % generations)

@@ -5,7 +5,7 @@ use mathlib.Core.Bool.{Bool, true, false, cond}
 use mathlib.Core.List.{List}
 use Rattle.layout.specs.Slot.{sameSlots}
 use Rattle.layout.specs.Layout.{generations, generationWith}
-use Rattle.tables.specs.Records.{Parent, ParentRow, used, Tables}
+use Rattle.tables.specs.Records.{Parent, ParentRow, unused, used, Tables}
 use Rattle.tables.specs.Positions.{slotsOf, rowAt, isEnd, next}
 use Rattle.tables.specs.declared.Position.{Position}
 use Rattle.rules.specs.Rows.{generationIn}
@@ -28,12 +28,18 @@ GoesOn v w =
     (p : Parent) → v ≡ used p →
     (q : Parent) × (w ≡ used q) × (q .layout .header .generation ≡ generationWith (p .layout) (q .layout .slots))
 
+-- "a made parent starts at 0": a row that wasn't used, and is
+unfoldable pub Begins : ParentRow → ParentRow → Type 0
+Begins v w = (b : List ℕ) → v ≡ unused b → (q : Parent) → w ≡ used q → q .layout .header .generation ≡ 0
+
 -- "Every step that changes a slot or the slot count of an existing layout now raises that layout's generation by one", and no other does
 unfoldable pub RaisedStep : Settings → Tables → Position → Type 0
 RaisedStep settings T p =
-    (r : ℕ) → GoesOn (rowAt (T .parents) r) (rowAt (stepTables (stepAt settings T p) T .parents) r)
+    (r : ℕ) →
+    GoesOn (rowAt (T .parents) r) (rowAt (stepTables (stepAt settings T p) T .parents) r)
+    × Begins (rowAt (T .parents) r) (rowAt (stepTables (stepAt settings T p) T .parents) r)
 
--- "Mending the own id doesn't count": the repairs that leave all slots
+-- "Mending the own id doesn't count": the repairs that leave all slots, and so all generations
 unfoldable pub leavesSlots : Repair → Bool
 leavesSlots OfSelf = true
 leavesSlots OfMultiple = false
@@ -45,11 +51,15 @@ leavesSlots OfEmpty = true
 leavesSlots OfOrphan = false
 leavesSlots OfWrongOst = false
 
--- a step that makes one of these leaves every generation
+-- a row with the slots and the generation that it had
+unfoldable pub Left : ParentRow → ParentRow → Type 0
+Left v w = (slotsOf w ≡ slotsOf v) × (generationIn w ≡ generationIn v)
+
+-- a step that makes one of these repairs leaves every row so
 unfoldable pub LeftStep : Settings → Tables → Position → Type 0
 LeftStep settings T p =
     (c : Repair) (a b e : Write) → stepAt settings T p ≡ repairs c a b e → leavesSlots c ≡ true →
-    (r : ℕ) → generationIn (rowAt (applyWrites a b e T .parents) r) ≡ generationIn (rowAt (T .parents) r)
+    (r : ℕ) → Left (rowAt (T .parents) r) (rowAt (applyWrites a b e T .parents) r)
 
 -- ## A run
 

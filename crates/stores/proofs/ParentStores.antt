@@ -20,7 +20,7 @@ use Rattle.layout.proofs.SlotLaws.{length-slot, length-encode-slots, encode-app
 use Rattle.layout.proofs.HeaderLaws.{length-header}
 use Rattle.layout.proofs.LayoutLaws.{slot-bytes, length-changed}
 use Rattle.layout.proofs.StripeLaws.{slots-longer}
-use Rattle.tables.specs.Records.{Parent, ParentRow, used}
+use Rattle.tables.specs.Records.{Parent, used}
 use Rattle.tables.specs.Bytes.{encodeOwner, encodeParent, renderParent, renderRow}
 use Rattle.tables.specs.Positions.{slotsOf}
 use Rattle.tables.specs.declared.Owner.{Owner}
@@ -124,13 +124,13 @@ filled-render p j at s h a =
 -- ## Growth
 
 -- by holes, with another header
-pub longer : Parent → Header → ℕ → Parent
-longer p hd more = record { self = p .self; owner = p .owner; layout = record { header = hd; pool = p .layout .pool; slots = p .layout .slots ++ replicate more Hole }; tail = drop (24 * more) (p .tail) }
+pub lengthened : Parent → Header → ℕ → Parent
+lengthened p hd more = record { self = p .self; owner = p .owner; layout = record { header = hd; pool = p .layout .pool; slots = p .layout .slots ++ replicate more Hole }; tail = drop (24 * more) (p .tail) }
 
-grown-is : (p : Parent) (i : ℕ) (s : Slot) → length (p .layout .slots) ≤ i →
-    grown (used p) i s ≡ used (filled (longer p (raised (p .layout .header)) (suc i - length (p .layout .slots))) i s)
-unfolding grown withSlots slotsOf tailOf longer filled restriped generationWith raised
-grown-is p i s h =
+grown-filled : (p : Parent) (i : ℕ) (s : Slot) → length (p .layout .slots) ≤ i →
+    grown (used p) i s ≡ used (filled (lengthened p (raised (p .layout .header)) (suc i - length (p .layout .slots))) i s)
+unfolding grown withSlots slotsOf tailOf lengthened filled restriped generationWith raised
+grown-filled p i s h =
     let more : ℕ = suc i - length (p .layout .slots) in
     let ss : List Slot = p .layout .slots ++ replicate more Hole in
     let lm : length ss ≡ suc i = rw (length-append, length-replicate more Hole) (omega arith) in
@@ -139,8 +139,8 @@ grown-is p i s h =
 pub grown-render : (p : Parent) (hd : Header) (i size at : ℕ) (b c d : List ℕ) → length (p .layout .slots) ≤ i → size ≡ 32 + length (p .layout .pool) + 24 * (i + 1) →
     at ≡ 59 + length (p .layout .pool) + 24 * length (p .layout .slots) → 24 * (i + 1 - length (p .layout .slots)) ≤ length (p .tail) →
     b ≡ sets (renderParent (used p)) 25 (bytes 2 size) → c ≡ sets b 27 (encodeHeader hd (i + 1)) →
-    d ≡ sets c at (encodeSlots (replicate (i + 1 - length (p .layout .slots)) Hole)) → d ≡ renderParent (used (longer p hd (suc i - length (p .layout .slots))))
-unfolding longer
+    d ≡ sets c at (encodeSlots (replicate (i + 1 - length (p .layout .slots)) Hole)) → d ≡ renderParent (used (lengthened p hd (suc i - length (p .layout .slots))))
+unfolding lengthened
 grown-render p hd i size at b c d h sz a tl s1 s2 s3 =
     let n : ℕ = length (p .layout .slots) in
     let more : ℕ = suc i - n in
@@ -168,19 +168,19 @@ grown-render p hd i size at b c d h sz a tl s1 s2 s3 =
     let lt : length Z ≡ length (take (24 * more) (p .tail)) = rw (length-holes more, length-take-le (24 * more) (p .tail) (omega arith)) in
     let r3 : d ≡ pre ++ (Z ++ T) = rw (s3, me, r2′) (over pre (take (24 * more) (p .tail)) T Z at lp lt) in
     let lm : length (p .layout .slots ++ replicate more Hole) ≡ suc i = rw (length-append, length-replicate more Hole) (omega arith) in
-    let q : length (encodeLayout (longer p hd more .layout)) ≡ size = rw (layout-length (longer p hd more .layout), lm) (omega arith) in
-    let w : renderParent (used (longer p hd more)) ≡ pre ++ (Z ++ T) =
-    spread (longer p hd more) ∙ rw (q, lm, encode-append (p .layout .slots) (replicate more Hole)) (simp append-assoc) in
+    let q : length (encodeLayout (lengthened p hd more .layout)) ≡ size = rw (layout-length (lengthened p hd more .layout), lm) (omega arith) in
+    let w : renderParent (used (lengthened p hd more)) ≡ pre ++ (Z ++ T) =
+    spread (lengthened p hd more) ∙ rw (q, lm, encode-append (p .layout .slots) (replicate more Hole)) (simp append-assoc) in
     r3 ∙ sym w
 
 -- the last of the slots that it grew to
 pub grown-slot : (p : Parent) (i at : ℕ) (s : Slot) → length (p .layout .slots) ≤ i → at ≡ 59 + length (p .layout .pool) + 24 * i →
-    sets (renderParent (used (longer p (raised (p .layout .header)) (suc i - length (p .layout .slots))))) at (encodeSlot s) ≡ renderParent (grown (used p) i s)
-unfolding longer
+    sets (renderParent (used (lengthened p (raised (p .layout .header)) (suc i - length (p .layout .slots))))) at (encodeSlot s) ≡ renderParent (grown (used p) i s)
+unfolding lengthened
 grown-slot p i at s h a =
     let more : ℕ = suc i - length (p .layout .slots) in
     let lm : length (p .layout .slots ++ replicate more Hole) ≡ suc i = rw (length-append, length-replicate more Hole) (omega arith) in
-    filled-render (longer p (raised (p .layout .header)) more) i at s (omega arith) a ∙ ap renderParent (sym (grown-is p i s h))
+    filled-render (lengthened p (raised (p .layout .header)) more) i at s (omega arith) a ∙ ap renderParent (sym (grown-filled p i s h))
 
 -- ## A parent made
 
@@ -198,9 +198,9 @@ front-stores a b c d e p n s1 s2 s3 s4 =
 pub maker : MdtFid → ℕ → Owner → List ℕ → Parent
 maker f i w l = record { self = f; owner = w; layout = record { header = madeHeader f; pool = []; slots = replicate (suc i) Hole }; tail = drop (26 + layoutSize magicOne (suc i)) l }
 
-made-is : (f : MdtFid) (i : ℕ) (w : Owner) (s : Slot) (l : List ℕ) → made f i w s l ≡ used (filled (maker f i w l) i s)
+made-filled : (f : MdtFid) (i : ℕ) (w : Owner) (s : Slot) (l : List ℕ) → made f i w s l ≡ used (filled (maker f i w l) i s)
 unfolding made maker madeHeader filled
-made-is f i w s l = refl
+made-filled f i w s l = refl
 
 size-one : (n : ℕ) → layoutSize magicOne n ≡ 32 + 24 * n
 unfolding layoutSize headerSize
@@ -249,4 +249,4 @@ pub made-slot : (f : MdtFid) (i : ℕ) (w : Owner) (s : Slot) (a : List ℕ) →
 unfolding maker
 made-slot f i w s a =
     let n : length (replicate (suc i) Hole) ≡ suc i = length-replicate (suc i) Hole in
-    filled-render (maker f i w (drop 1 a)) i (59 + 24 * i) s (omega arith) refl ∙ ap renderParent (sym (made-is f i w s (drop 1 a)))
+    filled-render (maker f i w (drop 1 a)) i (59 + 24 * i) s (omega arith) refl ∙ ap renderParent (sym (made-filled f i w s (drop 1 a)))

@@ -30,7 +30,7 @@ use Rattle.search.proofs.ParsedRows.{parent-used}
 use Rattle.stores.specs.Made.{madeHeader}
 use Rattle.stores.specs.UsedRow.{UsedRow}
 use Rattle.stores.proofs.StoreLaws.{part-whole}
-use Rattle.stores.proofs.ParentStores.{own-render, slot-put, longer, grown-render, grown-slot, made-render, made-slot}
+use Rattle.stores.proofs.ParentStores.{own-render, slot-put, lengthened, grown-render, grown-slot, made-render, made-slot}
 
 -- ## What is known of a used row
 
@@ -159,7 +159,7 @@ module _ (row : List ℕ) (b : Bytes row) (u : UsedRow row) where
         sets (sets (sets row 25 (bytes 2 (slotStart l + 24 * (i + 1)))) 27 (encodeHeader (raised (decodeHeader l)) (i + 1))) (27 + slotStart l + 24 * stripeCount l)
         (encodeSlots (replicate (i + 1 - stripeCount l) Hole))
 
-    longer-is : let p = decodeParent row in longerRow ≡ renderParent (used (longer p (raised (p .layout .header)) (suc i - length (p .layout .slots))))
+    longer-is : let p = decodeParent row in longerRow ≡ renderParent (used (lengthened p (raised (p .layout .header)) (suc i - length (p .layout .slots))))
     unfolding longerRow
     longer-is =
         let l : List ℕ = layoutBytes row in
@@ -187,7 +187,7 @@ module _ (row : List ℕ) (b : Bytes row) (u : UsedRow row) where
         let p : Parent = decodeParent row in
         let n : length (p .layout .slots) ≡ stripeCount l = count-of row in
         let k : 32 + length (p .layout .pool) ≡ slotStart l = pool-of row (used-facts row u) in
-        let e : sets longerRow (27 + slotStart l + 24 * i) (encodeSlot s) ≡ sets (renderParent (used (longer p (raised (p .layout .header)) (suc i - length (p .layout .slots))))) (27 + slotStart l + 24 * i) (encodeSlot s) =
+        let e : sets longerRow (27 + slotStart l + 24 * i) (encodeSlot s) ≡ sets (renderParent (used (lengthened p (raised (p .layout .header)) (suc i - length (p .layout .slots))))) (27 + slotStart l + 24 * i) (encodeSlot s) =
         ap (λ (y : List ℕ). sets y (27 + slotStart l + 24 * i) (encodeSlot s)) longer-is in
         e ∙ grown-slot p i (27 + slotStart l + 24 * i) s (omega arith) (omega arith)
         ∙ ap (λ (w : ParentRow). renderParent (grown w i s)) (sym (parent-used row (u .used)))

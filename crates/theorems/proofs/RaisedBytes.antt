@@ -2,10 +2,10 @@
 use Prim.Native.Nat.{ℕ, _+_, _*_, _/_, _%_, _<_}
 use native.Mathlib.Omega.{arith}
 use mathlib.Core.Path.{_≡_, refl, sym, ap, _∙_}
-use mathlib.Core.Bool.{Bool, true, false, cond}
+use mathlib.Core.Bool.{Bool, true, false}
 use mathlib.Core.List.{List}
 use lib.ListN.{length, take, drop}
-use Rattle.wire.specs.Numbers.{Bytes, le}
+use Rattle.wire.specs.Numbers.{Bytes}
 use Rattle.wire.proofs.NumberLaws.{bytes-drop, bytes-take, le-small-at}
 use Rattle.layout.specs.Layout.{generationAt, generations, decodeHeader, decodeLayout}
 use Rattle.tables.specs.Records.{Parent, ParentRow, unused, used}
