@@ -260,8 +260,8 @@ uint32_t lfsck_keeper(const uint8_t *parents, size_t parents_bytes,
 /*
  * Checks the input as lfsck_check does, then repairs in place, step by step. A step that changes a
  * slot of a file that was there before it, or the number of its slots, raises the generation of
- * that file's layout by one, 65,535 going to 0; no other step changes a generation, and a file that
- * is made has 0.
+ * that file's layout by one, 65,535 going to 0; no other step changes a generation. A file that a
+ * step makes begins at 0.
  *
  *   parents, objects  the tables, changed
  *   reserve           FIDs for new objects, 16 bytes each
