@@ -116,10 +116,10 @@ goes-put T r w h k =
     (λ e. rw e (goes-same (getD (T .parents) r (unused [])))) (λ e. rw e h) (λ n. goes-same (getD (T .parents) k (unused [])))
 
 -- a write that leaves the parents alone
-Aside : Write → Type 0
+unfoldable pub Aside : Write → Type 0
 Aside w = (T : Tables) → applyWrite T w .parents ≡ T .parents
 
-aside-nothing : Aside Nothing
+pub aside-nothing : Aside Nothing
 unfolding Aside applyWrite
 aside-nothing T = refl
 
@@ -224,11 +224,11 @@ raises-slot settings T r j f n ost CLEAN = raises-rests T
 
 -- ## Objects
 
-aside-owner : (o : ℕ) (x : Object) (w : Owner) → Aside (ownerWrite o x w)
+pub aside-owner : (o : ℕ) (x : Object) (w : Owner) → Aside (ownerWrite o x w)
 unfolding ownerWrite
 aside-owner o x w = aside-when (sameOwner (x .owner) w) _ (aside-object o (withOwner x w))
 
-aside-named : (rows : List ObjectRow) (s : Slot) → Aside (destroyNamed rows s)
+pub aside-named : (rows : List ObjectRow) (s : Slot) → Aside (destroyNamed rows s)
 unfolding destroyNamed destroyAt
 aside-named rows Hole = aside-nothing
 aside-named rows (Names g n i) = go (objectRow rows g)

@@ -61,11 +61,29 @@ LeftStep settings T p =
     (c : Repair) (a b e : Write) → stepAt settings T p ≡ repairs c a b e → leavesSlots c ≡ true →
     (r : ℕ) → Left (rowAt (T .parents) r) (rowAt (applyWrites a b e T .parents) r)
 
--- ## A run
-
 -- whether row r has other slots, or another number of them: 1 or 0
 unfoldable pub restripes : ℕ → Tables → Tables → ℕ
 restripes r T S = cond (sameSlots (slotsOf (rowAt (T .parents) r)) (slotsOf (rowAt (S .parents) r))) 0 1
+
+-- the repairs that change a slot or the slot count whenever they are made
+unfoldable pub changesSlots : Repair → Bool
+changesSlots OfSelf = false
+changesSlots OfMultiple = true
+changesSlots OfDangling = false
+changesSlots OfBlank = false
+changesSlots OfUnmatched = false
+changesSlots OfOwner = false
+changesSlots OfEmpty = false
+changesSlots OfOrphan = true
+changesSlots OfWrongOst = true
+
+-- a step that makes one of these leaves some row with other slots, or another number of them
+unfoldable pub ChangedStep : Settings → Tables → Position → Type 0
+ChangedStep settings T p =
+    (c : Repair) (a b e : Write) → stepAt settings T p ≡ repairs c a b e → changesSlots c ≡ true →
+    (r : ℕ) × (restripes r T (applyWrites a b e T) ≡ 1)
+
+-- ## A run
 
 -- one step's, and those of the steps that follow it
 unfoldable pub restripesFrom : ℕ → Tables → (Tables → ℕ) → Step → ℕ
