@@ -37,30 +37,31 @@ fn show_tells_the_generation_that_a_repair_leaves() {
     let case = Case::sample("generation-show");
     for (id, lines) in [
         (2, &[][..]),
-        (3, &["0 goes to 1"]),
+        (3, &["from 0 to 1"]),
         (4, &[]),
         (5, &[]),
-        (6, &["0 goes to 1", "0 goes to 1"]),
-        (7, &["0 goes to 1"]),
+        (6, &["from 0 to 1", "from 0 to 1"]),
+        (7, &["from 0 to 1"]),
         (8, &[]),
         (9, &[]),
-        (10, &["65535 goes to 0"]),
-        (11, &["0 goes to 1"]),
+        (10, &["from 65535 to 0"]),
+        (11, &["from 0 to 1"]),
     ] {
         let told = case.run(&["show", &file(id)]).expect(0).out;
-        let shown = told.lines().filter(|line| line.contains("goes to"));
+        let shown = told.lines().filter(|line| line.contains("generation goes"));
         let expected = lines
             .iter()
-            .map(|line| format!("      generation {line} with it"));
+            .map(|line| format!("      the layout's generation goes {line} with it"));
         assert!(shown.eq(expected), "{told}");
     }
     let ten = case.run(&["show", &file(10)]).expect(0).out;
     assert!(ten.contains("1048576, generation 65535, 1 slot\n"), "{ten}");
-    let lines = "which names OST 1\n      generation 65535 goes to 0 with it\n";
+    let lines = "which names OST 1\n      the layout's generation goes from 65535 to 0 with it\n";
     assert!(ten.ends_with(lines), "{ten}");
     // Of an orphan it is the generation of the file that it claims.
     let told = case.run(&["show", "0x240000400:0x20"]).expect(0).out;
-    let lines = "a hole\n      generation 0 goes to 1 with it\n  no slot names it\n";
+    let lines =
+        "a hole\n      the layout's generation goes from 0 to 1 with it\n  no slot names it\n";
     assert!(told.contains(lines), "{told}");
     let told = case.run(&["show", "0x240000400:0x22"]).expect(0).out;
     assert!(!told.contains("generation"), "{told}");

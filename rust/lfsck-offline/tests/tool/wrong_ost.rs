@@ -72,7 +72,7 @@ fn show_tells_both_osts() {
       this slot is the keeper: the object claims this slot
       1 slot compared to find the keeper
       repair, always: write the owner 1001:100, and OST 1, where the object is, into the slot, which names OST 2
-      generation 0 goes to 1 with it
+      the layout's generation goes from 0 to 1 with it
 ";
     assert!(told.ends_with(lines), "{told}");
     let told = case.run(&["show", "0x240000400:0x28"]).expect(0).out;
