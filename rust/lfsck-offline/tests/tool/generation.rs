@@ -3,7 +3,7 @@
 use crate::bytes::{object, object_row, parent_row};
 use crate::json::Value;
 use crate::oracle;
-use crate::tool::{Case, LOG};
+use crate::tool::{Case, LOG, expect_lines};
 
 const RUN: [&str; 3] = ["run", "--create", "--adopt"];
 
@@ -162,21 +162,14 @@ fn a_generation_is_raised_and_put_back() {
     assert_eq!(told, dry);
     let grown =
         line(6, "generation raised from 0 to 2") + &line(6, "layout grown from 2 to 4 slots");
-    let last = line(10, "generation raised from 65535 to 0");
-    let log = case.run(&["log"]).expect(0).out;
-    for lines in [&grown, &last] {
-        assert!(
-            told.contains(lines) && log.contains(lines),
-            "{lines}: {told}"
-        );
-    }
-    let told = case.run(&["undo"]).expect(0).out;
-    for words in [
+    let raised = [grown, line(10, "generation raised from 65535 to 0")];
+    expect_lines(&told, &raised);
+    expect_lines(&case.run(&["log"]).expect(0).out, &raised);
+    let put_back = [
         line(6, "generation put back to 0, it was 2"),
         line(10, "generation put back to 65535, it was 0"),
-    ] {
-        assert!(told.contains(&words), "{words}: {told}");
-    }
+    ];
+    expect_lines(&case.run(&["undo"]).expect(0).out, &put_back);
     let log = case.run(&["log", &file(10)]).expect(0).out;
     assert!(log.contains("it was 0\n") && log.contains("raised from 65535 to 0; WRONG-OST: "));
     let mut after = case.files();
