@@ -102,7 +102,7 @@ fn random_parent(fid: Fid, shape: Shape, random: &mut Random) -> Parent {
     }
 }
 
-/// Any generation, one that is the last of its first byte, or, as often as these, one of the last
+/// Any generation, one whose low byte is 255, or, as often as these two together, one of the last
 /// three.
 pub fn random_generation(random: &mut Random) -> u16 {
     let any = random.any();

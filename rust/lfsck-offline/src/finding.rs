@@ -27,8 +27,8 @@ pub struct Finding {
     pub object_ost: Option<u64>,
     /// What its repair would do; none where nothing would be done.
     pub repair: Option<Repair>,
-    /// The generation of the file's layout before and after the repair by itself; none where the
-    /// repair leaves it or makes the file.
+    /// The generation of the layout of the file before and after the repair by itself; none where
+    /// the repair leaves it or makes the file.
     pub generation: Option<Values<u64>>,
     /// The keeper of the object and the rule that makes it so.
     pub keeper: Option<(Named, Rule)>,

@@ -165,8 +165,9 @@ Usage: lfsck-offline run DIR [--create] [--adopt] [--steps N] [--from-start]
 Repairs step by step and saves tables and position together. Goes on from the
 saved position if policy, reserve and tables are those that it was saved with,
 else begins at the start and says why. SELF, BLANK, UNMATCHED, WRONG-OST and
-OWNER are repaired under every policy. A step that changes a slot of a file, or
-the number of its slots, raises the generation of its layout by one.
+OWNER are repaired under every policy. A step that changes a slot of a file that
+was there, or the number of its slots, raises the generation of its layout by
+one.
 
   --create       make objects for slots that have none of their own
                  (MULTIPLE, DANGLING)

@@ -19,10 +19,10 @@ pub enum Format {
     /// Of a version without the class WRONG-OST. Its runs passed by slots of that class, so such
     /// a position never counts.
     One,
-    /// Of a version that raised no generations. Its runs left those of files whose slots they
-    /// changed, so such a position never counts either.
+    /// Of a version that raised no generations, so that a list of calls that goes on from there
+    /// is none of demand 3: such a position never counts either.
     Two,
-    /// Of this version.
+    /// Of a version that raises generations.
     Three,
 }
 

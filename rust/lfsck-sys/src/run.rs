@@ -20,6 +20,7 @@ unsafe extern "C" {
 /// Checks the input, then makes at most `most` steps from a position on. The tables and the
 /// position, 3 numbers, are changed in place; the report, 10 numbers, is the steps done and the
 /// repairs of SELF, MULTIPLE, DANGLING, BLANK, UNMATCHED, OWNER, EMPTY, ORPHAN and WRONG-OST.
+/// A step that changes the slots of a file that was there raises its layout's generation.
 /// Answers 0, 1, 11 to 17 or 21 to 23.
 pub fn run(
     parents: &mut [u8],

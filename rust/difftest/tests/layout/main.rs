@@ -9,6 +9,9 @@ use std::time::Instant;
 
 use difftest::Random;
 use difftest::tables::random_generation;
+use numbers::layout::{
+    COUNT_AT, HOLES, MAGIC_AT, MAGIC_ONE, MAGIC_THREE, MOST_SLOTS, PATTERN_AT, PLAIN,
+};
 use reference::fid::{FIRST_SEQUENCE, Fid, LAST_SEQUENCE};
 use reference::interface;
 use reference::layout::{Layout, SLOT_BYTES, Stripe, Version};
@@ -91,48 +94,17 @@ fn compare_write(layout: &Layout, random: &mut Random, seen: &mut Seen) {
     if random.one_in(2) {
         numbers.damage(random);
     }
-    let LayoutNumbers {
-        fields,
-        pool,
-        slots,
-    } = &numbers;
     let needed = layout.encode().len();
-    let destination = {
-        let count = around(needed, random);
-        random.bytes(count)
-    };
-    let out = {
-        let count = random.pick(&[0, 1, 1, 1, 2, 3]);
-        random.numbers(count)
-    };
-    let (mut our_bytes, mut their_bytes) = (destination.clone(), destination.clone());
-    let (mut our_out, mut their_out) = (out.clone(), out.clone());
+    let lent = Room::random(needed, random);
+    let (mut ours, mut theirs) = (lent.clone(), lent.clone());
     let input = numbers.clone();
-    let answer = {
-        let input = black_box(&input);
-        lfsck_sys::layout_write(
-            &input.fields,
-            &input.pool,
-            &input.slots,
-            &mut their_bytes,
-            &mut their_out,
-        )
-    };
-    let expected = interface::layout_write(fields, pool, slots, &mut our_bytes, &mut our_out);
-    assert_eq!(
-        (answer, &their_bytes, &their_out),
-        (expected, &our_bytes, &our_out),
-        "write {numbers:x?}"
-    );
+    let answer = black_box(&input).write(lfsck_sys::layout_write, &mut theirs);
+    let expected = numbers.write(interface::layout_write, &mut ours);
+    assert_eq!((answer, &theirs), (expected, &ours), "write {numbers:x?}");
     assert_eq!(black_box(&input), &numbers, "write changed its input");
     seen.write.met(answer);
-    note_write(
-        &numbers,
-        destination.len() < needed,
-        out.is_empty(),
-        answer,
-        seen,
-    );
+    let is_short = lent.destination.len() < needed;
+    note_write(&numbers, is_short, lent.out.is_empty(), answer, seen);
 }
 
 /// Which rule refused a write, and what room was missing.
@@ -159,7 +131,12 @@ fn random_layout(random: &mut Random) -> Layout {
     } else {
         Version::Three(random.bytes(16).try_into().expect("16 bytes"))
     };
-    let most = random.pick(&[2, 9, 9, 41, 162]);
+    let count = if random.one_in(16) {
+        MOST_SLOTS
+    } else {
+        let most = random.pick(&[2, 9, 9, 41, MOST_SLOTS + 2]);
+        random.below(most)
+    };
     Layout {
         version,
         holes_allowed,
@@ -167,7 +144,7 @@ fn random_layout(random: &mut Random) -> Layout {
         own_sequence: random.any(),
         stripe_size: random.any() as u32,
         generation: random_generation(random),
-        slots: (0..random.below(most))
+        slots: (0..count)
             .map(|_| random_slot(holes_allowed, random))
             .collect(),
     }
@@ -204,7 +181,7 @@ fn random_id(random: &mut Random) -> u32 {
     }
 }
 
-/// An index within the layout, at its count, past it or far outside.
+/// An index within the layout, of its last slot, at its count, past it or far outside.
 fn random_index(bytes: &[u8], random: &mut Random) -> u64 {
     let about = bytes.len().saturating_sub(32) / SLOT_BYTES;
     match random.below(8) {
@@ -212,6 +189,7 @@ fn random_index(bytes: &[u8], random: &mut Random) -> u64 {
         1 => u64::MAX - random.below(3) as u64,
         2 => random.any(),
         3 => random.below(170) as u64,
+        4 => about.saturating_sub(1) as u64,
         _ => random.below(about.max(1)) as u64,
     }
 }
@@ -233,6 +211,12 @@ fn around(needed: usize, random: &mut Random) -> usize {
 }
 
 // Changes to the bytes of a layout.
+
+/// Right and wrong magics.
+const MAGICS: [u32; 4] = [MAGIC_ONE + 1, MAGIC_THREE, MAGIC_ONE, 0];
+
+/// Right and wrong patterns.
+const PATTERNS: [u32; 6] = [0, PLAIN, 2, 0x4000_0000, HOLES, 0x8000_0001];
 
 #[derive(Clone, Copy, Debug, PartialEq, Eq, PartialOrd, Ord)]
 enum Change {
@@ -288,32 +272,9 @@ impl Change {
                 bytes.extend(last);
             }
             Change::HeaderByte => bytes[random.below(header)] ^= 1 << random.below(8),
-            Change::Magic => put(
-                bytes,
-                0,
-                &random
-                    .pick(&[0x0BD1_0BD1_u32, 0x0BD3_0BD0, 0x0BD1_0BD0, 0])
-                    .to_le_bytes(),
-            ),
-            Change::Pattern => put(
-                bytes,
-                4,
-                &random
-                    .pick(&[0_u32, 1, 2, 0x4000_0000, 0x4000_0001, 0x8000_0001])
-                    .to_le_bytes(),
-            ),
-            Change::Count => {
-                let count = u16::from_le_bytes([bytes[28], bytes[29]]);
-                let other = random.pick(&[
-                    count.wrapping_sub(1),
-                    count + 1,
-                    count ^ 256,
-                    160,
-                    161,
-                    u16::MAX,
-                ]);
-                put(bytes, 28, &other.to_le_bytes());
-            }
+            Change::Magic => put(bytes, MAGIC_AT, &random.pick(&MAGICS).to_le_bytes()),
+            Change::Pattern => put(bytes, PATTERN_AT, &random.pick(&PATTERNS).to_le_bytes()),
+            Change::Count => recount(bytes, random),
             _ => self.make_in_slot(&mut bytes[header..], random),
         }
     }
@@ -347,11 +308,41 @@ impl Change {
     }
 }
 
+/// Another count, near the one that stands or at a bound.
+fn recount(bytes: &mut [u8], random: &mut Random) {
+    const MOST: u16 = MOST_SLOTS as u16;
+    let count = u16::from_le_bytes([bytes[COUNT_AT], bytes[COUNT_AT + 1]]);
+    let [fewer, more] = [count.wrapping_sub(1), count + 1];
+    let other = random.pick(&[fewer, more, count ^ 256, MOST, MOST + 1, u16::MAX]);
+    put(bytes, COUNT_AT, &other.to_le_bytes());
+}
+
 fn put(bytes: &mut [u8], at: usize, field: &[u8]) {
     bytes[at..at + field.len()].copy_from_slice(field);
 }
 
-// Layouts as the numbers that the writer takes.
+// Layouts as the numbers that the writer takes, and what it is lent to write.
+
+type Write = fn(&[u64], &[u8], &[u64], &mut [u8], &mut [u64]) -> u32;
+
+#[derive(Clone, Debug, PartialEq)]
+struct Room {
+    destination: Vec<u8>,
+    /// The place for the length.
+    out: Vec<u64>,
+}
+
+impl Room {
+    /// Too little, as much as is needed, or more.
+    fn random(needed: usize, random: &mut Random) -> Room {
+        let bytes = around(needed, random);
+        let places = random.pick(&[0, 1, 1, 1, 2, 3]);
+        Room {
+            destination: random.bytes(bytes),
+            out: random.numbers(places),
+        }
+    }
+}
 
 #[derive(Clone, Debug, PartialEq)]
 struct LayoutNumbers {
@@ -383,6 +374,17 @@ impl LayoutNumbers {
                 .flat_map(|&slot| interface::numbers_of_slot(slot))
                 .collect(),
         }
+    }
+
+    /// Lends them to a writer, with a room.
+    fn write(&self, write: Write, room: &mut Room) -> u32 {
+        write(
+            &self.fields,
+            &self.pool,
+            &self.slots,
+            &mut room.destination,
+            &mut room.out,
+        )
     }
 
     /// One number changed, or one amount.

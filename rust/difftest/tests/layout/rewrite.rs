@@ -6,7 +6,7 @@ use crate::seen::Seen;
 use crate::{random_index, random_slot_numbers};
 use difftest::Random;
 use numbers::call::{HEADER_READ, SLOT};
-use numbers::layout::{GENERATION_AT, HEADER_ONE};
+use numbers::layout::{GENERATION_AT, HEADER_ONE, HEADER_THREE, MOST_SLOTS};
 use reference::interface;
 use reference::layout::{Layout, SLOT_BYTES, Stripe};
 
@@ -21,6 +21,15 @@ pub const REWRITES: [&str; 9] = [
     "another generation",
     "another OST index",
     "several other numbers",
+];
+
+/// Where the slots of a layout begin with one that a rewrite changes, and whether that is the last
+/// slot that a layout can have.
+pub const PLACES: [(usize, bool); 4] = [
+    (HEADER_ONE, false),
+    (HEADER_ONE, true),
+    (HEADER_THREE, false),
+    (HEADER_THREE, true),
 ];
 
 /// What a rewrite does to the generation.
@@ -57,6 +66,10 @@ pub fn compare_rewrite(bytes: &[u8], layout: &Layout, random: &mut Random, seen:
         seen.rewrites.met(kind_of_rewrite(&was, &slot));
         let raise = kind_of_raise(generation_of(bytes), was == slot);
         seen.generations.met(raise);
+        if was != slot {
+            let is_last = index as usize + 1 == MOST_SLOTS;
+            seen.places.met((slots_at(bytes), is_last));
+        }
     }
     note_refusal(bytes, index, &slot, seen);
 }
@@ -66,6 +79,13 @@ fn slot_of(bytes: &[u8], index: u64) -> Vec<u64> {
     let mut slot = vec![0; SLOT];
     assert_eq!(lfsck_sys::layout_slot(bytes, index, &mut slot), 0);
     slot
+}
+
+/// Where the slots begin, as the library reads it.
+fn slots_at(bytes: &[u8]) -> usize {
+    let mut fields = [0; HEADER_READ];
+    assert_eq!(lfsck_sys::layout_read(bytes, &mut fields), 0);
+    fields[HEADER_READ - 1] as usize
 }
 
 /// The generation of a layout.
@@ -81,9 +101,7 @@ fn check_rewritten(before: &[u8], after: &[u8], index: u64, slot: &[u64]) {
     if slot_of(before, index) != slot {
         let raised = generation_of(before).wrapping_add(1);
         assert_eq!(generation_of(after), raised, "rewrite {index}");
-        let mut fields = [0; HEADER_READ];
-        assert_eq!(lfsck_sys::layout_read(before, &mut fields), 0);
-        let start = fields[HEADER_READ - 1] as usize + SLOT_BYTES * index as usize;
+        let start = slots_at(before) + SLOT_BYTES * index as usize;
         for part in [GENERATION_AT..HEADER_ONE, start..start + SLOT_BYTES] {
             restored[part.clone()].copy_from_slice(&before[part]);
         }

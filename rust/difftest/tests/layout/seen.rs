@@ -1,7 +1,7 @@
 //! What the comparison of layouts is to meet.
 
 use crate::Change;
-use crate::rewrite::{GENERATIONS, REWRITES};
+use crate::rewrite::{GENERATIONS, PLACES, REWRITES};
 use difftest::Coverage;
 use reference::fid::FidFault;
 use reference::layout::Fault;
@@ -19,6 +19,8 @@ pub struct Seen {
     pub rewrite_order: Coverage<&'static str>,
     pub rewrites: Coverage<&'static str>,
     pub generations: Coverage<&'static str>,
+    /// Where the slots of changed layouts begin, and whether the last that can be is changed.
+    pub places: Coverage<(usize, bool)>,
     pub write_order: Coverage<&'static str>,
     pub changes: Coverage<Change>,
     pub slot_counts: Coverage<usize>,
@@ -72,6 +74,10 @@ impl Seen {
             rewrite_order: Coverage::of("13 before 16 in the rewrite", ["bad layout", "bad slot"]),
             rewrites: Coverage::of("rewritten slots", REWRITES),
             generations: Coverage::of("generations of rewritten layouts", GENERATIONS),
+            places: Coverage::of(
+                "first bytes of changed slots, and whether it is slot 159",
+                PLACES,
+            ),
             write_order: Coverage::of("13 before 17 and reasons for 17 in the writer", WRITE_ORDER),
             changes: Coverage::of("changes to the bytes", Change::ALL),
             slot_counts: Coverage::of("slot counts", 0..=161),
@@ -90,6 +96,7 @@ impl Seen {
         self.rewrite_order.require(1);
         self.rewrites.require(1000);
         self.generations.require(1000);
+        self.places.require(200);
         self.write_order.require(1);
         self.changes.require(1);
         self.slot_counts.require(1);

@@ -86,7 +86,8 @@ impl Uncut {
         self.last().answer == 0
     }
 
-    /// In one call it does the same, in as many steps as the starting tables count.
+    /// In one call it does the same, first to generations and then to all bytes, in as many steps
+    /// as the starting tables count.
     fn check_whole(&self, scenario: &Scenario, side: &mut Side) {
         let call = scenario.call(scenario.state.start(), u64::MAX);
         let whole = side.call(&scenario.state, &call);
@@ -167,8 +168,6 @@ pub struct List<'a> {
     pub state: State,
     /// The tables are the uncut run's after so many steps.
     reached: usize,
-    /// The tables of the uncut run's steps that the last call made, those before it first.
-    pub steps: &'a [State],
     /// A call has reached the end.
     pub ended: bool,
     /// Positions that calls have passed.
@@ -182,7 +181,6 @@ impl<'a> List<'a> {
             uncut,
             state: scenario.state.clone(),
             reached: 0,
-            steps: &uncut.states[..1],
             ended: false,
             passed: Vec::new(),
         }
@@ -202,22 +200,25 @@ impl<'a> List<'a> {
     }
 
     /// A call from the start or a passed position.
-    pub fn run(&mut self, side: &mut Side, position: Vec<u64>, most: u64) -> Outcome {
+    pub fn run(&self, side: &mut Side, position: Vec<u64>, most: u64) -> (Call, Outcome) {
         let call = self.scenario.call(position, most);
         let outcome = side.call(&self.state, &call);
         assert!(!outcome.is_refused(), "a passed position is refused");
         check_answer(&self.state, &call, &outcome);
+        (call, outcome)
+    }
+
+    /// The list goes on with the tables that a call left.
+    pub fn go_on(&mut self, call: Call, outcome: Outcome) {
         self.check_tables(&outcome);
-        check_generations(self.steps, &outcome.state);
         self.check_enough(&call, &outcome);
         if outcome.is_at_end() {
             check_end(self.scenario, &outcome);
             self.ended = true;
         }
         self.passed.push(call.position);
-        self.passed.push(outcome.position.clone());
-        self.state = outcome.state.clone();
-        outcome
+        self.passed.push(outcome.position);
+        self.state = outcome.state;
     }
 
     /// The tables are always the uncut run's after some number of its steps; once a call has
@@ -226,10 +227,7 @@ impl<'a> List<'a> {
         let further = &self.uncut.states[self.reached..];
         let found = further.iter().position(|state| state == &outcome.state);
         match found {
-            Some(steps) => {
-                self.reached += steps;
-                self.steps = &further[..=steps];
-            }
+            Some(steps) => self.reached += steps,
             None => panic!("no tables that the uncut run has from here on"),
         }
         if outcome.is_at_end() || self.ended {
@@ -248,17 +246,21 @@ impl<'a> List<'a> {
     }
 
     /// The positions between the steps of a call are passed too. Taking them one by one from
-    /// the tables before it does what the call did.
-    pub fn retrace(&mut self, side: &mut Side, before: &State, from: Vec<u64>, whole: &Outcome) {
-        let mut state = before.clone();
-        let mut position = from;
-        for _ in 0..whole.steps() {
-            let step = side.call(&state, &self.scenario.call(position, 1));
+    /// the tables before it does what the call did: first to generations, then to all bytes.
+    /// Gives the tables before the call and after each step.
+    pub fn retrace(&mut self, side: &mut Side, call: &Call, whole: &Outcome) -> Vec<State> {
+        let mut states = vec![self.state.clone()];
+        let mut position = call.position.clone();
+        for at in 0..whole.steps() as usize {
+            let step = side.call(&states[at], &self.scenario.call(position, 1));
             assert_eq!(step.steps(), 1);
-            (state, position) = (step.state, step.position);
+            states.push(step.state);
+            position = step.position;
             self.passed.push(position.clone());
         }
-        assert!(state == whole.state && position == whole.position);
+        check_generations(&states, &whole.state);
+        assert!(states.last() == Some(&whole.state) && position == whole.position);
+        states
     }
 
     /// A run of a steps and then one of b equals one of a + b. The list goes on without them.

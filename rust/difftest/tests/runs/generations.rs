@@ -8,16 +8,24 @@ use reference::class::Way;
 
 /// What clients cache of a layout.
 struct Cached<'state> {
+    version: Version,
     generation: u16,
     /// The bytes of all slots.
     slots: &'state [u8],
 }
 
+/// The version of a layout, which says where its slots begin.
+#[derive(Clone, Copy, Debug, PartialEq, Eq, PartialOrd, Ord)]
+pub enum Version {
+    One,
+    Three,
+}
+
 /// What a step does to generations.
 #[derive(Clone, Copy, Debug, PartialEq, Eq, PartialOrd, Ord)]
 pub enum Effect {
-    /// That of one layout goes up by one.
-    Raised,
+    /// That of one layout, of this version, goes up by one.
+    Raised(Version),
     /// None changes.
     Left,
     /// A file is made, with 0.
@@ -31,28 +39,44 @@ pub enum Cause {
     Repair(&'static str),
     /// Of a slot that keeps a present object.
     Mending(Indexed),
-    /// Of an orphan.
+    /// Of an orphan, without growth.
     Adoption(Way),
+    /// Of an orphan that lets a layout grow by one slot, or by several.
+    Growth(&'static str),
 }
 
-/// The effect of each repair; no other is allowed.
-pub const EFFECTS: [(Cause, Effect); 15] = [
-    (Cause::Repair("SELF"), Effect::Left),
-    (Cause::Repair("MULTIPLE"), Effect::Raised),
-    (Cause::Repair("DANGLING"), Effect::Left),
-    (Cause::Repair("EMPTY"), Effect::Left),
-    (Cause::Mending(Indexed::Owner), Effect::Left),
-    (Cause::Mending(Indexed::WrongOstRightOwner), Effect::Raised),
-    (Cause::Mending(Indexed::WrongOstWrongOwner), Effect::Raised),
-    (Cause::Mending(Indexed::BlankRightIndex), Effect::Left),
-    (Cause::Mending(Indexed::BlankWrongIndex), Effect::Raised),
-    (Cause::Mending(Indexed::UnmatchedRightIndex), Effect::Left),
-    (Cause::Mending(Indexed::UnmatchedWrongIndex), Effect::Raised),
-    (Cause::Adoption(Way::MakeParent), Effect::Made),
-    (Cause::Adoption(Way::FillHole), Effect::Raised),
-    (Cause::Adoption(Way::Grow), Effect::Raised),
-    (Cause::Adoption(Way::ReplaceFresh), Effect::Raised),
+/// Repairs that leave all generations.
+const LEAVING: [Cause; 6] = [
+    Cause::Repair("SELF"),
+    Cause::Repair("DANGLING"),
+    Cause::Repair("EMPTY"),
+    Cause::Mending(Indexed::Owner),
+    Cause::Mending(Indexed::BlankRightIndex),
+    Cause::Mending(Indexed::UnmatchedRightIndex),
 ];
+
+/// Repairs that raise one.
+const RAISING: [Cause; 9] = [
+    Cause::Repair("MULTIPLE"),
+    Cause::Mending(Indexed::WrongOstRightOwner),
+    Cause::Mending(Indexed::WrongOstWrongOwner),
+    Cause::Mending(Indexed::BlankWrongIndex),
+    Cause::Mending(Indexed::UnmatchedWrongIndex),
+    Cause::Adoption(Way::FillHole),
+    Cause::Adoption(Way::ReplaceFresh),
+    Cause::Growth("by one slot"),
+    Cause::Growth("by several slots"),
+];
+
+/// The effects of each repair; no other is allowed.
+pub fn effects() -> impl Iterator<Item = (Cause, Effect)> {
+    let left = LEAVING.map(|cause| (cause, Effect::Left));
+    let raised = RAISING.into_iter().flat_map(|cause| {
+        [Version::One, Version::Three].map(|version| (cause, Effect::Raised(version)))
+    });
+    let made = (Cause::Adoption(Way::MakeParent), Effect::Made);
+    left.into_iter().chain(raised).chain([made])
+}
 
 /// What a call does to the generation of a row, and a second run to all.
 pub const CALLS: [&str; 8] = [
@@ -76,12 +100,13 @@ fn rows(state: &State) -> impl Iterator<Item = Option<Cached<'_>>> {
 fn cached(row: &[u8]) -> Cached<'_> {
     let number = |at: usize| u16::from_le_bytes([row[at], row[at + 1]]);
     let (_, layout) = row.split_at(parent::LAYOUT_AT);
-    let header = if layout[MAGIC_AT..PATTERN_AT] == MAGIC_THREE.to_le_bytes() {
-        HEADER_THREE
+    let (version, header) = if layout[MAGIC_AT..PATTERN_AT] == MAGIC_THREE.to_le_bytes() {
+        (Version::Three, HEADER_THREE)
     } else {
-        HEADER_ONE
+        (Version::One, HEADER_ONE)
     };
     Cached {
+        version,
         generation: number(parent::LAYOUT_AT + GENERATION_AT),
         slots: &layout[header..number(parent::LENGTH_AT).into()],
     }
@@ -123,7 +148,7 @@ pub fn effect_of(before: &State, after: &State) -> Effect {
         }
         (Some(was), Some(is)) if was.generation != is.generation => {
             assert_eq!(is.generation, was.generation.wrapping_add(1));
-            Some(Effect::Raised)
+            Some(Effect::Raised(is.version))
         }
         _ => None,
     });

@@ -8,13 +8,11 @@ mod generations;
 mod seen;
 mod side;
 
-use std::slice;
 use std::time::Instant;
 
 use demand::{List, Scenario, Uncut, check_unchanged};
 use difftest::Random;
 use difftest::tables::{OBJECTS, Shape, random_tables, to_bytes};
-use generations::check_generations;
 use numbers::call::REPORT;
 use reference::check::read_tables;
 use reference::position::Position;
@@ -143,25 +141,15 @@ fn call_run(
         seen.turns.met("a then b");
     }
     note_turn(list, last, seen);
-    let before = list.state.clone();
-    let second = list.ended && list.can_raise() && from == before.start();
-    let outcome = list.run(side, from.clone(), most);
-    seen.note_call(list.steps);
-    if second && outcome.is_at_end() {
-        check_generations(slice::from_ref(&before), &outcome.state);
-        seen.generations.met("none raised by a second run");
-    }
-    if outcome.answer == 0 && outcome.steps() == most && most > 0 {
-        seen.turns.met("steps used up at the end");
-    }
-    if made_and_destroyed(&before, &outcome) {
-        seen.turns.met("a row made and destroyed in one call");
-    }
+    let (call, outcome) = list.run(side, from, most);
+    note_outcome(list, &call, &outcome, seen);
     if random.one_in(4) {
-        list.retrace(side, &before, from, &outcome);
+        seen.note_call(&list.retrace(side, &call, &outcome));
         seen.turns.met("retraced");
     }
-    outcome.answer
+    let answer = outcome.answer;
+    list.go_on(call, outcome);
+    answer
 }
 
 fn note_turn(list: &List, last: Option<u32>, seen: &mut Seen) {
@@ -172,6 +160,20 @@ fn note_turn(list: &List, last: Option<u32>, seen: &mut Seen) {
         Some(11..=17) => seen.turns.met("a refused call before another"),
         Some(21..=23) => seen.turns.met("a call after a stop"),
         _ => (),
+    }
+}
+
+/// What a call did, with the tables before it in the list.
+fn note_outcome(list: &List, call: &Call, outcome: &Outcome, seen: &mut Seen) {
+    let second = list.ended && list.can_raise() && call.position == list.state.start();
+    if second && outcome.is_at_end() {
+        seen.generations.met("none raised by a second run");
+    }
+    if outcome.answer == 0 && outcome.steps() == call.most && call.most > 0 {
+        seen.turns.met("steps used up at the end");
+    }
+    if made_and_destroyed(&list.state, outcome) {
+        seen.turns.met("a row made and destroyed in one call");
     }
 }
 

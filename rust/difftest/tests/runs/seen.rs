@@ -1,16 +1,17 @@
 //! What the comparison of runs is to meet.
 
 use crate::demand::{Scenario, Uncut};
-use crate::generations::{self, Cause, EFFECTS, Effect, effect_of, kinds_of_call};
+use crate::generations::{self, Cause, Effect, effect_of, effects, kinds_of_call};
 use crate::side::{Outcome, State};
 use difftest::Coverage;
 use difftest::indices::Indexed;
 use numbers::call::COUNTED;
 use reference::check::{Faults, read_reserve, read_tables};
-use reference::class::{Class, way_to};
+use reference::class::{Class, Way, way_to};
 use reference::fid::Fid;
 use reference::position::Position;
 use reference::site::Site;
+use reference::tables::Claim;
 
 /// Counts of what was met.
 pub struct Seen {
@@ -22,7 +23,7 @@ pub struct Seen {
     pub repairs: Coverage<&'static str>,
     /// Repairs, with what they do to generations.
     pub effects: Coverage<(Cause, Effect)>,
-    /// What calls do to the generation of a row.
+    /// What calls do to the generation of a row, where their steps are made one by one as well.
     pub generations: Coverage<&'static str>,
     /// Where calls were handed from.
     pub begins: Coverage<&'static str>,
@@ -90,7 +91,7 @@ impl Seen {
             ends: Coverage::of("ends of uncut runs", [0, 21, 22, 23]),
             policies: Coverage::of("policies", 0..=3),
             repairs: Coverage::of("repairs in uncut runs", REPAIRS),
-            effects: Coverage::of("repairs and generations", EFFECTS),
+            effects: Coverage::of("repairs and generations", effects()),
             generations: Coverage::of("generations of rows in calls", generations::CALLS),
             begins: Coverage::of("calls handed", BEGINS),
             given: Coverage::of("steps given", ["none", "some", "one too few", "enough"]),
@@ -106,8 +107,8 @@ impl Seen {
         self.ends.require(100);
         self.policies.require(100);
         self.repairs.require(100);
-        self.effects.require(500);
-        self.generations.require(500);
+        self.effects.require(100);
+        self.generations.require(300);
         self.begins.require(100);
         self.given.require(100);
         self.stops.require(100);
@@ -210,10 +211,24 @@ fn cause_of(site: &Site, at: &[u64], step: &Outcome) -> Option<Cause> {
         "ORPHAN" => {
             let orphan = site.object(at[1] as usize).expect("an orphan is there");
             let claim = orphan.claim.expect("an orphan has a claim");
-            Cause::Adoption(way_to(site, claim).expect("an orphan's place can be had"))
+            match way_to(site, claim).expect("an orphan's place can be had") {
+                Way::Grow => Cause::Growth(growth_to(site, claim)),
+                way => Cause::Adoption(way),
+            }
         }
         class => Cause::Repair(class),
     })
+}
+
+/// How far the claimed layout grows up to the claimed slot.
+fn growth_to(site: &Site, claim: Claim) -> &'static str {
+    let row = site.parent_row(claim.parent);
+    let parent = row.and_then(|row| site.parent(row)).expect("a file");
+    if claim.index as usize == parent.layout.slots.len() {
+        "by one slot"
+    } else {
+        "by several slots"
+    }
 }
 
 /// Whether the step at a position is to redirect its slot.

@@ -374,7 +374,9 @@ fn more(finding: &Finding) -> String {
         add(format!("repair, {}: {}", repair.needs.words(), repair.does));
     }
     if let Some(Values { old, new }) = finding.generation {
-        add(format!("generation {old} goes to {new} with it"));
+        add(format!(
+            "the layout's generation goes from {old} to {new} with it"
+        ));
     }
     if let Some(turn) = &finding.turn {
         add(turn.words());

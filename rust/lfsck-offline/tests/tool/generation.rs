@@ -3,7 +3,7 @@
 use crate::bytes::{object, object_row, parent_row};
 use crate::json::Value;
 use crate::oracle;
-use crate::tool::{Case, LOG};
+use crate::tool::{Case, LOG, expect_lines};
 
 const RUN: [&str; 3] = ["run", "--create", "--adopt"];
 
@@ -37,30 +37,31 @@ fn show_tells_the_generation_that_a_repair_leaves() {
     let case = Case::sample("generation-show");
     for (id, lines) in [
         (2, &[][..]),
-        (3, &["0 goes to 1"]),
+        (3, &["from 0 to 1"]),
         (4, &[]),
         (5, &[]),
-        (6, &["0 goes to 1", "0 goes to 1"]),
-        (7, &["0 goes to 1"]),
+        (6, &["from 0 to 1", "from 0 to 1"]),
+        (7, &["from 0 to 1"]),
         (8, &[]),
         (9, &[]),
-        (10, &["65535 goes to 0"]),
-        (11, &["0 goes to 1"]),
+        (10, &["from 65535 to 0"]),
+        (11, &["from 0 to 1"]),
     ] {
         let told = case.run(&["show", &file(id)]).expect(0).out;
-        let shown = told.lines().filter(|line| line.contains("goes to"));
+        let shown = told.lines().filter(|line| line.contains("generation goes"));
         let expected = lines
             .iter()
-            .map(|line| format!("      generation {line} with it"));
+            .map(|line| format!("      the layout's generation goes {line} with it"));
         assert!(shown.eq(expected), "{told}");
     }
     let ten = case.run(&["show", &file(10)]).expect(0).out;
     assert!(ten.contains("1048576, generation 65535, 1 slot\n"), "{ten}");
-    let lines = "which names OST 1\n      generation 65535 goes to 0 with it\n";
+    let lines = "which names OST 1\n      the layout's generation goes from 65535 to 0 with it\n";
     assert!(ten.ends_with(lines), "{ten}");
     // Of an orphan it is the generation of the file that it claims.
     let told = case.run(&["show", "0x240000400:0x20"]).expect(0).out;
-    let lines = "a hole\n      generation 0 goes to 1 with it\n  no slot names it\n";
+    let lines =
+        "a hole\n      the layout's generation goes from 0 to 1 with it\n  no slot names it\n";
     assert!(told.contains(lines), "{told}");
     let told = case.run(&["show", "0x240000400:0x22"]).expect(0).out;
     assert!(!told.contains("generation"), "{told}");
@@ -161,21 +162,14 @@ fn a_generation_is_raised_and_put_back() {
     assert_eq!(told, dry);
     let grown =
         line(6, "generation raised from 0 to 2") + &line(6, "layout grown from 2 to 4 slots");
-    let last = line(10, "generation raised from 65535 to 0");
-    let log = case.run(&["log"]).expect(0).out;
-    for lines in [&grown, &last] {
-        assert!(
-            told.contains(lines) && log.contains(lines),
-            "{lines}: {told}"
-        );
-    }
-    let told = case.run(&["undo"]).expect(0).out;
-    for words in [
+    let raised = [grown, line(10, "generation raised from 65535 to 0")];
+    expect_lines(&told, &raised);
+    expect_lines(&case.run(&["log"]).expect(0).out, &raised);
+    let put_back = [
         line(6, "generation put back to 0, it was 2"),
         line(10, "generation put back to 65535, it was 0"),
-    ] {
-        assert!(told.contains(&words), "{words}: {told}");
-    }
+    ];
+    expect_lines(&case.run(&["undo"]).expect(0).out, &put_back);
     let log = case.run(&["log", &file(10)]).expect(0).out;
     assert!(log.contains("it was 0\n") && log.contains("raised from 65535 to 0; WRONG-OST: "));
     let mut after = case.files();

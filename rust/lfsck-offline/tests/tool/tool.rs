@@ -200,6 +200,13 @@ impl From<Output> for Told {
     }
 }
 
+/// All of these stand in a text.
+pub fn expect_lines(text: &str, lines: &[impl AsRef<str>]) {
+    for line in lines.iter().map(AsRef::as_ref) {
+        assert!(text.contains(line), "{line}: {text}");
+    }
+}
+
 /// The files without the times in the log, which differ from run to run.
 pub fn timeless(files: &Files) -> Files {
     let mut files = files.clone();

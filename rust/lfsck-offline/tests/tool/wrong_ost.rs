@@ -3,7 +3,7 @@
 use crate::bytes::{object_row, parent_row};
 use crate::json::Value;
 use crate::oracle;
-use crate::tool::{Case, LOG};
+use crate::tool::{Case, LOG, expect_lines};
 
 const TEN: &str = "[0x200000401:0xa:0x0]";
 const ELEVEN: &str = "[0x200000401:0xb:0x0]";
@@ -23,12 +23,6 @@ fn three(name: &str) -> Case {
     rows[1][CLAIM..CLAIM + 16].fill(0);
     let parents = parent_row(1, &[0x10, 0x11, 0x12]);
     Case::with(name, &parents, &rows.concat(), &[])
-}
-
-fn expect_lines(text: &str, lines: &[&str]) {
-    for line in lines {
-        assert!(text.contains(line), "{line}: {text}");
-    }
 }
 
 #[test]
@@ -72,7 +66,7 @@ fn show_tells_both_osts() {
       this slot is the keeper: the object claims this slot
       1 slot compared to find the keeper
       repair, always: write the owner 1001:100, and OST 1, where the object is, into the slot, which names OST 2
-      generation 0 goes to 1 with it
+      the layout's generation goes from 0 to 1 with it
 ";
     assert!(told.ends_with(lines), "{told}");
     let told = case.run(&["show", "0x240000400:0x28"]).expect(0).out;
