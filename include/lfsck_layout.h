@@ -4,13 +4,14 @@
  *
  * Every function answers one of the numbers below. All other numbers are uint64_t. What is lent
  * is a pointer and a count: of bytes for a table, a layout, a pool, a linkEA, names, the piece of
- * a dump, owners or a state, of numbers for an array of numbers. A pointer is not null and, for
- * numbers, aligned, also where its count is 0. What is lent to be written overlaps nothing else
- * that is lent. Nothing is kept after the call.
+ * a dump, owners, a state or working room, of numbers for an array of numbers. A pointer is not
+ * null and, for numbers, aligned, also where its count is 0. What is lent to be written overlaps
+ * nothing else that is lent. Nothing is kept after the call.
  *
- * With an answer of 11 to 17, or of 31, nothing that was lent is changed. Of several answers that
- * apply the lowest is given, but LFSCK_BAD_LINK before all others. An array that is longer than
- * what is handed out keeps its rest.
+ * With an answer of 11 to 17, of 31 or of 39, nothing that was lent is changed but working room. Of
+ * several answers that apply the lowest is given, but LFSCK_BAD_LINK before all others; the
+ * namespace check has an order of its own. An array that is longer than what is handed out keeps
+ * its rest.
  */
 #ifndef LFSCK_LAYOUT_H
 #define LFSCK_LAYOUT_H
@@ -26,23 +27,25 @@ extern "C" {
 enum {
     LFSCK_OK = 0,             /* done; of a run, the end is reached */
     LFSCK_STEPS_USED = 1,     /* the steps are used up and the end is not reached */
-    LFSCK_BAD_TABLE = 11,     /* a table is not whole rows or too long, or a mark is not 0 or 1;
-                                 the piece of a dump is too long */
+    LFSCK_BAD_TABLE = 11,     /* a table is not whole rows or too long, or a mark is none; the piece
+                                 of a dump is too long */
     LFSCK_BAD_POLICY = 12,    /* the policy is above 3 */
     LFSCK_BAD_LAYOUT = 13,    /* a layout or a slot is against the rules */
     LFSCK_BAD_FID = 14,       /* a bad FID, object index or claim, or fresh without claim */
     LFSCK_FID_TWICE = 15,     /* a FID twice among used parents, or twice among used objects */
-    LFSCK_NO_POSITION = 16,   /* there is no such position, slot, record or state */
+    LFSCK_NO_POSITION = 16,   /* there is no such position, slot, record, state or child */
     LFSCK_NO_ROOM = 17,       /* too few places for what is handed out */
     LFSCK_NO_RESERVE = 21,    /* a slot is to be redirected: no usable FID in the reserve */
     LFSCK_NO_OBJECT_ROW = 22, /* an object is to be made: no unused object row */
     LFSCK_NO_PARENT_ROW = 23, /* a file is to be made: no unused parent row */
-    LFSCK_BAD_LINK = 31,      /* a linkEA or a record is against the rules */
+    LFSCK_BAD_LINK = 31,      /* a linkEA, a record or a name is against the rules */
     LFSCK_BAD_DUMP = 33,      /* a bad line of a dump or of owners, or a dump that ends too soon */
     LFSCK_ATTR_TWICE = 34,    /* trusted.lov, fid or lma twice in an entry */
     LFSCK_NO_SELF = 35,       /* an entry without self FID */
     LFSCK_NO_KIND = 36,       /* an entry that is neither a file nor an object, or both */
-    LFSCK_NO_FIT = 37         /* an entry whose row doesn't fit */
+    LFSCK_NO_FIT = 37,        /* an entry whose row doesn't fit */
+    LFSCK_LINK_FULL = 38,     /* a record outgrows the room for its child's linkEA */
+    LFSCK_LONG_CLIMB = 39     /* a climb from directory to directory is too long or circular */
 };
 
 /* Tables: bytes of a row or an entry, and the most of them. */
@@ -52,7 +55,11 @@ enum {
     LFSCK_RESERVE_BYTES = 16,
     LFSCK_PARENTS_MAX = 1024,
     LFSCK_OBJECTS_MAX = 65536,
-    LFSCK_RESERVE_MAX = 65536
+    LFSCK_RESERVE_MAX = 65536,
+    LFSCK_ENTRY_BYTES = 293,
+    LFSCK_CHILD_BYTES = 4130,
+    LFSCK_ENTRIES_MAX = 65536,
+    LFSCK_CHILDREN_MAX = 65536
 };
 
 /* What a policy allows, beside the repairs that are always made; add them for both. */
@@ -97,6 +104,40 @@ enum {
     LFSCK_PIECE_MAX = 65536    /* bytes of the longest piece */
 };
 
+/* The namespace check. */
+enum {
+    LFSCK_ENTRY_NAME = 255,  /* bytes of the longest name of an entry */
+    LFSCK_LINK_ROOM = 4096,  /* bytes of the longest linkEA of a child */
+    LFSCK_LEVELS_MAX = 4096, /* levels of the longest climb */
+    LFSCK_WORKING_BYTES = 16 /* bytes of index and of room for each row of either table */
+};
+
+/* ROOT, whose version is 0. */
+#define LFSCK_ROOT_SEQUENCE UINT64_C(0x200000007)
+#define LFSCK_ROOT_ID UINT64_C(0x1)
+
+/* The marks of child rows. */
+enum {
+    LFSCK_MARK_HIDDEN = 0,  /* a hidden directory */
+    LFSCK_MARK_VISIBLE = 1, /* a visible directory */
+    LFSCK_MARK_NO_FID = 2   /* no directory: the row has no self FID */
+};
+
+/* What is found of an entry's FID. */
+enum {
+    LFSCK_FID_CONSISTENT = 0, /* FID-in-dirent and self FID are the same */
+    LFSCK_FID_NO_DIRENT = 1,  /* there is no FID-in-dirent */
+    LFSCK_FID_DIFFERS = 2,    /* they differ */
+    LFSCK_FID_NO_SELF = 3,    /* the child has no self FID */
+    LFSCK_FID_NEITHER = 4     /* there is neither */
+};
+
+/* What is found of an entry's record in the linkEA of its child. */
+enum {
+    LFSCK_RECORD_CONSISTENT = 0, /* it is there */
+    LFSCK_RECORD_MISSING = 1     /* it is missing, or there is no linkEA */
+};
+
 /* How many numbers describe a thing. */
 enum {
     LFSCK_READ_FIELDS = 8,      /* a header that was read */
@@ -108,7 +149,18 @@ enum {
     LFSCK_REPORT_NUMBERS = 10,  /* the report of a run */
     LFSCK_LINK_FIELDS = 4,      /* the header of a linkEA */
     LFSCK_RECORD_READ = 6,      /* a record of a linkEA that was read */
-    LFSCK_RECORD_WRITE = 5      /* a record of a linkEA to be written */
+    LFSCK_RECORD_WRITE = 5,     /* a record of a linkEA to be written */
+    LFSCK_FINDING_NUMBERS = 2,  /* the findings of an entry */
+    LFSCK_MENDED_NUMBERS = 5    /* the report of a mending */
+};
+
+/* The numbers of a mending's report. */
+enum {
+    LFSCK_MENDED_TAKEN = 0,    /* self FIDs taken from an entry */
+    LFSCK_MENDED_WRITTEN = 1,  /* FID-in-dirents written */
+    LFSCK_MENDED_APPENDED = 2, /* records appended */
+    LFSCK_MENDED_REMOVED = 3,  /* records removed */
+    LFSCK_MENDED_STOPPED = 4   /* the entry it stopped in front of, else the number of entries */
 };
 
 /* The numbers of a report: the steps done, and the repairs of each class among them. */
@@ -486,6 +538,119 @@ uint32_t lfsck_intake_feed(uint8_t *state, size_t state_bytes,
  */
 uint32_t lfsck_intake_end(const uint8_t *state, size_t state_bytes,
                           uint64_t *out, size_t out_count);
+
+/*
+ * The namespace check compares the entries of directories with the children that they name. Two
+ * tables are lent, and zero stands where there is no FID.
+ *
+ * An entry row is the directory's FID, 16 bytes; the child's row in the other table, 4; the
+ * FID-in-dirent, 16; the length of the name, 2; and 255 bytes of room for it. A child row is the
+ * self FID, 16 bytes; the FID of "..", 16; the length of the linkEA, 2, or 0 where there is none;
+ * and 4,096 bytes of room for it. The record of an entry has its directory's FID and its name.
+ *
+ * A directory is known by its FID, and is the first child row with that self FID. It is visible
+ * if it is ROOT, whatever its row says and where it has none, or if its row has a linkEA. Else
+ * ".." is followed upward to the first directory that is visible, or that has no row, or has
+ * neither linkEA nor "..", and so is hidden.
+ *
+ * Of the answers of these functions the first that applies is given, in the order
+ * LFSCK_BAD_TABLE, LFSCK_NO_POSITION, LFSCK_BAD_LINK, LFSCK_NO_ROOM, LFSCK_LONG_CLIMB,
+ * LFSCK_LINK_FULL. Index and room are working room: what they hold after a call, a refused one
+ * too, is not said.
+ */
+
+/*
+ * Which directories are visible.
+ *
+ *   entries, children  the tables
+ *   index, room        LFSCK_WORKING_BYTES each for each entry row and each child row
+ *   marks              1 number a child row, written
+ *
+ * LFSCK_OK           the marks are in the first numbers. Rows with the same self FID have the same
+ *                    mark
+ * LFSCK_BAD_TABLE    a table is not whole rows or too long
+ * LFSCK_NO_POSITION  an entry's child is at or past the child rows
+ * LFSCK_BAD_LINK     a name of no bytes or more than 255, with a slash or a zero byte, or a linkEA
+ *                    that is none or longer than its room
+ * LFSCK_NO_ROOM      index, room or marks are too short
+ * LFSCK_LONG_CLIMB   from a child row with a self FID, named by an entry or not, more than
+ *                    LFSCK_LEVELS_MAX levels are to be climbed; in a circle that is always so
+ */
+uint32_t lfsck_names_judge(const uint8_t *entries, size_t entries_bytes,
+                           const uint8_t *children, size_t children_bytes,
+                           uint8_t *index, size_t index_bytes,
+                           uint8_t *room, size_t room_bytes,
+                           uint64_t *marks, size_t marks_count);
+
+/*
+ * What each entry shows, in the tables as they are lent; entries of hidden directories too.
+ *
+ *   entries, children  the tables
+ *   out                2 numbers an entry, written: what is found of its FID and of its record
+ *
+ * LFSCK_OK       the findings are in the first numbers
+ * LFSCK_BAD_TABLE, LFSCK_NO_POSITION, LFSCK_BAD_LINK
+ *                as lfsck_names_judge
+ * LFSCK_NO_ROOM  out is too short
+ */
+uint32_t lfsck_names_find(const uint8_t *entries, size_t entries_bytes,
+                          const uint8_t *children, size_t children_bytes,
+                          uint64_t *out, size_t out_count);
+
+/*
+ * Mends under marks, in four sweeps, each finished before the next. Entries of hidden directories
+ * are left out, and their records stay.
+ *
+ *   1. A child without self FID takes the FID-in-dirent of its first entry that has one.
+ *   2. Each entry gets the self FID of its child.
+ *   3. In the order of the entries, a child that lacks an entry's record gets it, behind the
+ *      others; one without linkEA gets a linkEA with time and padding 0.
+ *   4. A child's records without entry of that child go, and so do repeats behind the first.
+ *
+ * A child that has no self FID after the first sweep stays as it is, with its entries. The room
+ * past a linkEA that is changed becomes zero. A second mending under the same marks, after a
+ * finished one, changes nothing.
+ *
+ *   entries, children  the tables, changed
+ *   index, room        as lfsck_names_judge
+ *   marks              exactly 1 number a child row, as they were handed out. A row marked
+ *                      LFSCK_MARK_NO_FID is no directory, also where it has a self FID since
+ *   report             5 numbers, written
+ *
+ * LFSCK_OK         all four sweeps are finished
+ * LFSCK_BAD_TABLE  as lfsck_names_judge; or the marks are not one for each child row, one is
+ *                  none, or one is another than LFSCK_MARK_NO_FID at a row without self FID
+ * LFSCK_NO_POSITION, LFSCK_BAD_LINK
+ *                  as lfsck_names_judge
+ * LFSCK_NO_ROOM    index, room or report are too short
+ * LFSCK_LINK_FULL  the third sweep stops in front of an entry whose record outgrows the room.
+ *                  What was done before it stands, no record is removed, and the report tells the
+ *                  entry
+ */
+uint32_t lfsck_names_mend(uint8_t *entries, size_t entries_bytes,
+                          uint8_t *children, size_t children_bytes,
+                          uint8_t *index, size_t index_bytes,
+                          uint8_t *room, size_t room_bytes,
+                          const uint64_t *marks, size_t marks_count,
+                          uint64_t *report, size_t report_count);
+
+/*
+ * Judges the tables as they are lent, then mends them under the marks.
+ *
+ *   entries, children  the tables, changed
+ *   index, room        as lfsck_names_judge
+ *   marks              1 number a child row, written, with LFSCK_LINK_FULL too
+ *   report             5 numbers, written, with LFSCK_LINK_FULL too
+ *
+ * The answers are those of lfsck_names_judge, with LFSCK_NO_ROOM also where report is too short,
+ * and LFSCK_LINK_FULL as lfsck_names_mend.
+ */
+uint32_t lfsck_names_pass(uint8_t *entries, size_t entries_bytes,
+                          uint8_t *children, size_t children_bytes,
+                          uint8_t *index, size_t index_bytes,
+                          uint8_t *room, size_t room_bytes,
+                          uint64_t *marks, size_t marks_count,
+                          uint64_t *report, size_t report_count);
 
 #ifdef __cplusplus
 }

@@ -39,7 +39,7 @@ pub record WholeFacts (size most : ℕ) (l : List ℕ) : Type 0 where
   pub exact : size * (length l / size) ≡ length l
   pub few : length l / size ≤ most
 
-whole-facts : (size most : ℕ) (l : List ℕ) → wholeRows size most l ≡ true → WholeFacts size most l
+pub whole-facts : (size most : ℕ) (l : List ℕ) → wholeRows size most l ≡ true → WholeFacts size most l
 unfolding wholeRows
 whole-facts size most l h =
     let a : Bool = eqb (size * (length l / size)) (length l) in

@@ -69,7 +69,7 @@ unfoldable pub secondHalf : Order → ℕ → ℕ → ℕ
 secondHalf little n v = v / 256 ^ n
 secondHalf big n v = v % 256 ^ n
 
-le-front : (n : ℕ) (p q : List ℕ) → n ≤ length p → le n (p ++ q) ≡ le n p
+pub le-front : (n : ℕ) (p q : List ℕ) → n ≤ length p → le n (p ++ q) ≡ le n p
 unfolding le
 le-front zero p q h = refl
 le-front (suc n) [] q h = absurd (not-suc-le-zero h)

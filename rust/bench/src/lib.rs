@@ -3,4 +3,5 @@
 pub mod dump;
 pub mod input;
 pub mod measure;
+pub mod namespace;
 pub mod plain;

@@ -6,11 +6,13 @@ use std::time::Duration;
 use bench::dump::{Dump, Shape};
 use bench::input::{Names, OBJECTS, PAST_OBJECTS, Tables};
 use bench::measure::{Timed, Times, side_by_side, timed};
+use bench::namespace::Namespace;
 use bench::plain;
 use numbers::call::{self, END};
 use numbers::intake::{MOST_PIECE, STATE};
 use numbers::layout::MOST_SLOTS as SLOTS;
-use numbers::{link, object, parent, reserve};
+use numbers::names::{MOST_LEVELS, WORKING};
+use numbers::{child, link, object, parent, reserve};
 
 /// The ratio that the library is to keep to.
 const MOST_RATIO: f64 = 1.3;
@@ -32,6 +34,9 @@ const RECORDS: usize = 1_000_000;
 const WALKED: usize = 2_000;
 /// The bytes of a name.
 const NAME: usize = 16;
+
+/// The children of a namespace, each with an entry.
+const CHILDREN: usize = child::MOST;
 
 /// The bytes of a dump that is taken in.
 const DUMP: usize = 1_000_000_000;
@@ -65,6 +70,7 @@ fn main() {
     measure_listing(rounds);
     measure_keepers(rounds);
     measure_link(rounds);
+    measure_names(rounds);
     for shape in SHAPES {
         measure_intake(shape, rounds);
     }
@@ -418,6 +424,96 @@ fn walk(
         assert_eq!(records.len(), WALKED);
         records
     })
+}
+
+/// A namespace at full size: judged, its findings told, and a whole pass.
+fn measure_names(rounds: usize) {
+    let names = Namespace::of(CHILDREN, MOST_LEVELS);
+    let times = side_by_side(
+        rounds,
+        || judge(&names, lfsck_names_judge),
+        || judge(&names, plain::names_judge),
+    );
+    print_names("judged", times);
+    let times = side_by_side(
+        rounds,
+        || find(&names, lfsck_sys::names_find),
+        || find(&names, plain::names_find),
+    );
+    print_names("findings told", times);
+    let times = side_by_side(
+        rounds,
+        || pass(&names, lfsck_names_pass),
+        || pass(&names, plain::names_pass),
+    );
+    print_names("pass", times);
+}
+
+fn print_names(what: &str, times: Times) {
+    let (rows, chain) = (grouped(CHILDREN), grouped(MOST_LEVELS));
+    let what = format!("namespace, {what}: {rows} entries and children, chains of {chain}");
+    print_line(&what, times, "");
+}
+
+/// Marks by either side.
+type JudgeCall = fn(&[u8], &[u8], &mut [u64]) -> u32;
+
+/// The library's judging, with its working room.
+fn lfsck_names_judge(entries: &[u8], children: &[u8], marks: &mut [u64]) -> u32 {
+    let (mut index, mut room) = (working(), working());
+    lfsck_sys::names_judge(entries, children, &mut index, &mut room, marks)
+}
+
+/// Working room for both tables.
+fn working() -> Vec<u8> {
+    vec![0; WORKING * 2 * CHILDREN]
+}
+
+/// Times the judging, of which every climb must have an end.
+fn judge(names: &Namespace, call: JudgeCall) -> Timed<Vec<u64>> {
+    let mut marks = vec![9; CHILDREN];
+    let Timed { result, took } = timed(|| call(&names.entries, &names.children, &mut marks));
+    assert_eq!(result, 0);
+    Timed {
+        result: marks,
+        took,
+    }
+}
+
+/// Times the findings.
+fn find(names: &Namespace, call: JudgeCall) -> Timed<Vec<u64>> {
+    let mut out = vec![9; call::FINDING * CHILDREN];
+    let Timed { result, took } = timed(|| call(&names.entries, &names.children, &mut out));
+    assert_eq!(result, 0);
+    Timed { result: out, took }
+}
+
+/// A pass by either side.
+type PassCall = fn(&mut [u8], &mut [u8], &mut [u64], &mut [u64; call::MENDED]) -> u32;
+
+/// The library's pass, with its working room.
+fn lfsck_names_pass(
+    entries: &mut [u8],
+    children: &mut [u8],
+    marks: &mut [u64],
+    report: &mut [u64; call::MENDED],
+) -> u32 {
+    let (mut index, mut room) = (working(), working());
+    lfsck_sys::names_pass(entries, children, &mut index, &mut room, marks, report)
+}
+
+/// Times a pass, which must do what there is to be done: the tables afterwards.
+fn pass(names: &Namespace, call: PassCall) -> Timed<Namespace> {
+    let mut after = names.clone();
+    let (mut marks, mut report) = (vec![9; CHILDREN], [9; call::MENDED]);
+    let Namespace { entries, children } = &mut after;
+    let Timed { result, took } = timed(|| call(entries, children, &mut marks, &mut report));
+    assert_eq!((result, report[4]), (0, CHILDREN as u64));
+    assert_eq!(report[..4], Namespace::done(CHILDREN));
+    Timed {
+        result: after,
+        took,
+    }
 }
 
 /// A dump of 1 GB, made piece by piece as it is taken in.

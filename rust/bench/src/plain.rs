@@ -2,8 +2,9 @@
 //!
 //! The same searches in the same order: rows are looked for from the first on, in the bytes
 //! that the caller lends, without any index; the claimed slot is looked at first; a FID that
-//! stands twice is found by comparing every row with all later ones. What is proved of the
-//! library is not proved of this; the tests compare the two.
+//! stands twice is found by comparing every row with all later ones. Directories of a namespace
+//! are found by a hash map. What is proved of the library is not proved of this; the tests compare
+//! the two.
 
 mod bytes;
 mod check;
@@ -13,6 +14,7 @@ mod keeper;
 mod layout;
 mod link;
 mod listing;
+mod names;
 mod position;
 mod repair;
 mod run;
@@ -23,4 +25,5 @@ pub use intake::{State as IntakeState, intake_end, intake_feed};
 pub use keeper::keeper;
 pub use link::{link_read, link_record, link_write};
 pub use listing::classes;
+pub use names::{names_find, names_judge, names_mend, names_pass};
 pub use run::run;

@@ -3,6 +3,7 @@
 
 pub mod dumps;
 pub mod indices;
+pub mod names;
 pub mod tables;
 
 use std::collections::BTreeMap;

@@ -16,6 +16,7 @@ mod intake;
 mod keeper;
 mod layout;
 mod link;
+mod names;
 mod run;
 
 pub use check::{check, start, steps};
@@ -24,4 +25,5 @@ pub use intake::{intake_end, intake_feed};
 pub use keeper::keeper;
 pub use layout::{layout_read, layout_slot, layout_write, slot_rewrite};
 pub use link::{link_read, link_record, link_write};
+pub use names::{names_find, names_judge, names_mend, names_pass};
 pub use run::run;

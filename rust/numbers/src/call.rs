@@ -41,3 +41,8 @@ pub const LINK_HEADER: usize = 4;
 pub const LINK_READ: usize = 6;
 /// The numbers of a record that is written.
 pub const LINK_WRITTEN: usize = LINK_READ - 1;
+/// The numbers of an entry's findings: that of its FID and that of its record.
+pub const FINDING: usize = 2;
+/// The numbers of a mending's report: self FIDs taken, FID-in-dirents written, records appended and
+/// removed, and the entry it stopped in front of or the number of entries.
+pub const MENDED: usize = 5;

@@ -3,10 +3,13 @@
 
 pub mod answer;
 pub mod call;
+pub mod child;
+pub mod entry;
 pub mod fid;
 pub mod intake;
 pub mod layout;
 pub mod link;
+pub mod names;
 pub mod object;
 pub mod parent;
 pub mod reserve;

@@ -1,6 +1,6 @@
 //! The numbers are those of the C header.
 
-use numbers::{answer, call, intake, layout, link, object, parent, reserve};
+use numbers::{answer, call, child, entry, intake, layout, link, names, object, parent, reserve};
 
 const HEADER: &str = include_str!("../../../include/lfsck_layout.h");
 
@@ -40,6 +40,14 @@ fn sizes_and_limits() {
         ("LFSCK_LINK_HEADER", link::HEADER),
         ("LFSCK_RECORD_BEFORE", link::NAME_AT),
         ("LFSCK_NAME_BYTES", link::MOST_NAME),
+        ("LFSCK_ENTRY_BYTES", entry::BYTES),
+        ("LFSCK_CHILD_BYTES", child::BYTES),
+        ("LFSCK_ENTRIES_MAX", entry::MOST),
+        ("LFSCK_CHILDREN_MAX", child::MOST),
+        ("LFSCK_ENTRY_NAME", entry::ROOM),
+        ("LFSCK_LINK_ROOM", child::ROOM),
+        ("LFSCK_LEVELS_MAX", names::MOST_LEVELS),
+        ("LFSCK_WORKING_BYTES", names::WORKING),
         ("LFSCK_INTAKE_STATE", intake::STATE),
         ("LFSCK_PIECE_MAX", intake::MOST_PIECE),
     ] {
@@ -60,6 +68,8 @@ fn what_calls_are_handed() {
         ("LFSCK_LINK_FIELDS", call::LINK_HEADER),
         ("LFSCK_RECORD_READ", call::LINK_READ),
         ("LFSCK_RECORD_WRITE", call::LINK_WRITTEN),
+        ("LFSCK_FINDING_NUMBERS", call::FINDING),
+        ("LFSCK_MENDED_NUMBERS", call::MENDED),
         // The last of each.
         ("LFSCK_WRONG_OST", call::CLASSES - 1),
         ("LFSCK_REPORT_WRONG_OST", call::COUNTED),
@@ -72,6 +82,11 @@ fn what_calls_are_handed() {
         ("LFSCK_STAGE_PARENTS", call::STAGE_PARENTS),
         ("LFSCK_STAGE_OBJECTS", call::STAGE_OBJECTS),
         ("LFSCK_STAGE_END", call::STAGE_END),
+        ("LFSCK_ROOT_SEQUENCE", names::ROOT_SEQUENCE),
+        ("LFSCK_ROOT_ID", names::ROOT_ID.into()),
+        ("LFSCK_MARK_HIDDEN", names::HIDDEN),
+        ("LFSCK_MARK_VISIBLE", names::VISIBLE),
+        ("LFSCK_MARK_NO_FID", names::NO_FID),
     ] {
         assert_eq!(number, number_of(name), "{name}");
     }
@@ -98,6 +113,8 @@ fn answers() {
         ("LFSCK_NO_SELF", answer::NO_SELF),
         ("LFSCK_NO_KIND", answer::NO_KIND),
         ("LFSCK_NO_FIT", answer::NO_FIT),
+        ("LFSCK_LINK_FULL", answer::LINK_FULL),
+        ("LFSCK_LONG_CLIMB", answer::LONG_CLIMB),
     ] {
         assert_eq!(u64::from(number), number_of(name), "{name}");
     }

@@ -8,7 +8,7 @@ pub const FIRST_SEQUENCE: u64 = 0x2_0000_0400;
 pub const LAST_SEQUENCE: u64 = 0xffff_ffff_ffff_fffe;
 
 /// A FID of a file or of an object.
-#[derive(Clone, Copy, Debug, PartialEq, Eq, PartialOrd, Ord)]
+#[derive(Clone, Copy, Debug, PartialEq, Eq, PartialOrd, Ord, Hash)]
 pub struct Fid {
     /// The sequence.
     pub sequence: u64,

@@ -8,6 +8,7 @@ mod intake;
 mod keeper;
 mod layout;
 mod link;
+mod names;
 mod run;
 
 pub use check::{check, start, steps};
@@ -19,6 +20,7 @@ pub use layout::{
     slot_rewrite,
 };
 pub use link::{LinkFault, LinkFaults, link_of_numbers, link_read, link_record, link_write};
+pub use names::{Working, names_find, names_judge, names_mend, names_pass};
 pub use run::run;
 
 use crate::answer::{DONE, NO_ROOM};

@@ -1,4 +1,5 @@
-//! The layout check and repair in plain Rust, written from the paper alone.
+//! The layout check and repair, and the namespace check, in plain Rust, written from the papers
+//! alone.
 //!
 //! It is slow and simple on purpose, and shares nothing with the verified library: bytes are
 //! read into vectors and options, changed there, and written back. The differential tests
@@ -12,6 +13,7 @@ pub mod intake;
 pub mod interface;
 pub mod layout;
 pub mod link;
+pub mod names;
 pub mod position;
 pub mod run;
 pub mod search;

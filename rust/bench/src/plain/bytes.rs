@@ -4,14 +4,14 @@ use numbers::fid::{BYTES, FIRST_SEQUENCE, ID_AT, LAST_SEQUENCE, SEQUENCE_AT, VER
 use numbers::object::SELF_AT;
 
 /// A FID, or a claim with its index in the place of the version.
-#[derive(Clone, Copy, PartialEq, Eq)]
+#[derive(Clone, Copy, PartialEq, Eq, Hash)]
 pub struct Fid {
     pub sequence: u64,
     pub id: u32,
     pub version: u32,
 }
 
-/// No claim.
+/// No claim, and where a namespace has no FID.
 pub const NO_FID: Fid = Fid {
     sequence: 0,
     id: 0,

@@ -111,7 +111,7 @@ fn put_record(record: &[u64; LINK_WRITTEN], names: &[u8], to: &mut [u8]) -> usiz
 }
 
 /// Whether bytes are a linkEA: header, then each record and its name, then the count.
-fn is_good(link: &[u8]) -> bool {
+pub(super) fn is_good(link: &[u8]) -> bool {
     if link.len() < HEADER
         || number32(link, MAGIC_AT) != MAGIC
         || number64(link, TOTAL_AT) != link.len() as u64
@@ -145,7 +145,7 @@ fn name_of<'names>(record: &[u64; LINK_WRITTEN], names: &'names [u8]) -> Option<
     good.then_some(name)
 }
 
-fn is_good_name(name: &[u8]) -> bool {
+pub(super) fn is_good_name(name: &[u8]) -> bool {
     name.iter().all(|&byte| byte != b'/' && byte != 0)
 }
 
@@ -154,14 +154,14 @@ fn fits(number: u64) -> bool {
 }
 
 /// The length that the record at a place says.
-fn length_at(link: &[u8], at: usize) -> usize {
+pub(super) fn length_at(link: &[u8], at: usize) -> usize {
     u16::from_be_bytes(link[at..at + 2].try_into().expect("2 bytes")).into()
 }
 
-fn big32(bytes: &[u8], at: usize) -> u32 {
+pub(super) fn big32(bytes: &[u8], at: usize) -> u32 {
     u32::from_be_bytes(bytes[at..at + 4].try_into().expect("4 bytes"))
 }
 
-fn big64(bytes: &[u8], at: usize) -> u64 {
+pub(super) fn big64(bytes: &[u8], at: usize) -> u64 {
     u64::from_be_bytes(bytes[at..at + 8].try_into().expect("8 bytes"))
 }

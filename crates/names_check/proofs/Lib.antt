@@ -1,0 +1,5 @@
+pub mod TestLaws
+pub mod LinkLaws
+pub mod FindingLaws
+pub mod CallLaws
+pub mod OneFinding

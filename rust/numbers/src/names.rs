@@ -1,0 +1,17 @@
+//! The namespace check.
+
+/// The sequence of ROOT.
+pub const ROOT_SEQUENCE: u64 = 0x2_0000_0007;
+/// The object id of ROOT, whose version is 0.
+pub const ROOT_ID: u32 = 1;
+/// The most levels of a climb.
+pub const MOST_LEVELS: usize = 4096;
+/// The bytes of index and of room for each row of either table.
+pub const WORKING: usize = 16;
+
+/// The mark of a hidden directory.
+pub const HIDDEN: u64 = 0;
+/// The mark of a visible directory.
+pub const VISIBLE: u64 = 1;
+/// The mark of a row without self FID.
+pub const NO_FID: u64 = 2;
