@@ -8,10 +8,10 @@ use Rattle.names.specs.Rows.{parseChildren}
 use Rattle.names.specs.Visible.{goodMarks}
 use Rattle.names.proofs.SoundLaws.{parsed-children}
 use Rattle.names_judge.proofs.DirectoryLaws.{its-self}
-use Rattle.names_mend.specs.Directories.{fitMark}
-use Rattle.names_mend.proofs.FitLaws.{other-many, fitFrom, fit-start, fit-not, fit-on, fit-all}
-use Rattle.names_mend.proofs.fit.good_marks.Statement.{statement}
-use Rattle.names_mend.proofs.fit.good_marks.Tie as tie
+use Rattle.names_marks.specs.Directories.{fitMark}
+use Rattle.names_marks.proofs.FitLaws.{other-many, fitFrom, fit-start, fit-not, fit-on, fit-all}
+use Rattle.names_marks.proofs.fit.good_marks.Statement.{statement}
+use Rattle.names_marks.proofs.fit.good_marks.Tie as tie
 
 abbrev Inv-loop : tie.InvT-loop
 Inv-loop children marks count r₀ r = (r ≤ count) × (length marks ≡ count) × (goodMarks marks (parseChildren children) ≡ fitFrom marks (parseChildren children) r)

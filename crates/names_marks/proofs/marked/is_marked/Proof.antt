@@ -1,10 +1,10 @@
 use mathlib.Core.Path.{_∙_}
 use native.Mathlib.Omega.{arith}
 use denote.Ref.{now}
-use Rattle.names_mend.proofs.MarkLaws.{directory-self, mark-past, mark-there}
+use Rattle.names_marks.proofs.MarkLaws.{directory-self, mark-past, mark-there}
 use borrow.Author.Needs.{needs}
-use Rattle.names_mend.proofs.marked.is_marked.Statement.{statement}
-use Rattle.names_mend.proofs.marked.is_marked.Tie as tie
+use Rattle.names_marks.proofs.marked.is_marked.Statement.{statement}
+use Rattle.names_marks.proofs.marked.is_marked.Tie as tie
 
 returns : tie.Need-returns
 returns c = let b = c .before .before .before in let a = b .args in mark-past (now (a .children)) (now (a .marks)) (b .pre) (a .f) (a .r) (omega arith)

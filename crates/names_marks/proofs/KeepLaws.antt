@@ -13,7 +13,7 @@ use Rattle.names.specs.Rows.{Child, withSelf}
 use Rattle.names.specs.Findings.{same}
 use Rattle.names.specs.Visible.{noSelfMark, visibleMark, firstMarked, seenBy}
 use Rattle.names_judge.specs.Listed.{childKey, childNumbers}
-use Rattle.names_mend.specs.Directories.{selfUnder, directories, Keeps}
+use Rattle.names_marks.specs.Directories.{selfUnder, directories, Keeps}
 
 keeps-tail : (m : ℕ) (ms : List ℕ) (c d : Child) (cs ds : List Child) → Keeps (m ∷ ms) (c ∷ cs) (d ∷ ds) → Keeps ms cs ds
 keeps-tail m ms c d cs ds k = record { long = omega (arith, k .long); selves = λ r h t. k .selves (suc r) (omega arith) t }

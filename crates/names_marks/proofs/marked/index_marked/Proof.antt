@@ -2,8 +2,8 @@ use mathlib.Core.Path.{ap, _∙_}
 use native.Mathlib.Omega.{arith}
 use Rattle.index.specs.Entries.{sorted}
 use borrow.Author.Needs.{needs}
-use Rattle.names_mend.proofs.marked.index_marked.Statement.{statement}
-use Rattle.names_mend.proofs.marked.index_marked.Tie as tie
+use Rattle.names_marks.proofs.marked.index_marked.Statement.{statement}
+use Rattle.names_marks.proofs.marked.index_marked.Tie as tie
 
 returns : tie.Need-returns
 returns c =

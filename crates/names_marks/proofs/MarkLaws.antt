@@ -20,7 +20,7 @@ use Rattle.names.specs.Visible.{noSelfMark, visibleMark, isRoot, firstRow, dire
 use Rattle.names.proofs.SoundLaws.{parsed-children, parsed-child}
 use Rattle.names_judge.specs.Listed.{isRow}
 use Rattle.names_judge.proofs.LookLaws.{first-is, row-inside}
-use Rattle.names_mend.specs.Directories.{selfUnder, directories, visibleFrom}
+use Rattle.names_marks.specs.Directories.{selfUnder, directories, visibleFrom}
 
 pub under-less : (m : ℕ) (f : MdtFid) → m < noSelfMark → f ≡ selfUnder m f
 unfolding selfUnder

@@ -9,13 +9,13 @@ use Rattle.index.specs.Search.{keyOf, lowestOf}
 use Rattle.index.proofs.FindLaws.{walk-start, walk-done, walk-over, walk-takes, walk-skips}
 use Rattle.names.specs.Rows.{parseChildren}
 use Rattle.names.specs.Visible.{directory}
-use Rattle.names_mend.specs.Directories.{directories}
-use Rattle.names_mend.proofs.MarkLaws.{directories-many}
+use Rattle.names_marks.specs.Directories.{directories}
+use Rattle.names_marks.proofs.MarkLaws.{directories-many}
 use Rattle.names_judge.specs.Listed.{isRow}
 use Rattle.names_judge.proofs.DirectoryLaws.{directory-none, directory-found, listed-ordered}
 use borrow.Author.Needs.{needs}
-use Rattle.names_mend.proofs.marked.find.Statement.{statement}
-use Rattle.names_mend.proofs.marked.find.Tie as tie
+use Rattle.names_marks.proofs.marked.find.Statement.{statement}
+use Rattle.names_marks.proofs.marked.find.Tie as tie
 
 abbrev Inv-loop : tie.InvT-loop
 Inv-loop children marks index n f g first i₀ i = (first ≤ i)

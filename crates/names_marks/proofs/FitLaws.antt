@@ -12,7 +12,7 @@ use lib.Seq.{drop-cons}
 use Rattle.fid.specs.declared.MdtFid.{MdtFid}
 use Rattle.names.specs.Rows.{Child, isNone, noChild, childAt}
 use Rattle.names.specs.Visible.{noSelfMark, goodMark, goodMarks}
-use Rattle.names_mend.specs.Directories.{fitMark}
+use Rattle.names_marks.specs.Directories.{fitMark}
 
 pub fit-below : (m : ℕ) (f : MdtFid) → m < noSelfMark → not (isNone f) ≡ fitMark m f
 unfolding fitMark

@@ -1,10 +1,10 @@
 use mathlib.Core.Path.{ap, _∙_}
 use mathlib.Core.Bool.{not}
 use native.Mathlib.Omega.{arith}
-use Rattle.names_mend.proofs.FitLaws.{fit-below, fit-two}
+use Rattle.names_marks.proofs.FitLaws.{fit-below, fit-two}
 use borrow.Author.Needs.{needs}
-use Rattle.names_mend.proofs.fit.good_mark.Statement.{statement}
-use Rattle.names_mend.proofs.fit.good_mark.Tie as tie
+use Rattle.names_marks.proofs.fit.good_mark.Statement.{statement}
+use Rattle.names_marks.proofs.fit.good_mark.Tie as tie
 
 returns : tie.Need-returns
 returns c = let a = c .before .before .args in ap not (c .is-none .ensures) ∙ fit-below (a .mark) (a .f) (omega arith)

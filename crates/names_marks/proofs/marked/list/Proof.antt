@@ -8,10 +8,10 @@ use Rattle.index.specs.Entries.{entries}
 use Rattle.names.specs.Rows.{parseChildren}
 use Rattle.names_judge.specs.Listed.{childNumbers}
 use Rattle.names_judge.proofs.DirectoryLaws.{listedFrom, list-start, list-row, list-end}
-use Rattle.names_mend.specs.Directories.{directories}
-use Rattle.names_mend.proofs.MarkLaws.{directories-many, directory-self}
-use Rattle.names_mend.proofs.marked.list.Statement.{statement}
-use Rattle.names_mend.proofs.marked.list.Tie as tie
+use Rattle.names_marks.specs.Directories.{directories}
+use Rattle.names_marks.proofs.MarkLaws.{directories-many, directory-self}
+use Rattle.names_marks.proofs.marked.list.Statement.{statement}
+use Rattle.names_marks.proofs.marked.list.Tie as tie
 
 abbrev Inv-loop : tie.InvT-loop
 Inv-loop children marks index₀ count n₀ r₀ index n r = (r ≤ count) × (n ≤ r) × (length index ≡ length index₀)

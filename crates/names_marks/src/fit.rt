@@ -6,7 +6,7 @@ use names_judge::judge::NO_SELF;
 ghost use mathlib.Core.Path.{_≡_};
 ghost use Rattle.names.specs.Rows.{parseChildren};
 ghost use Rattle.names.specs.Visible.{goodMarks};
-ghost use Rattle.names_mend.specs.Directories.{fitMark};
+ghost use Rattle.names_marks.specs.Directories.{fitMark};
 
 // Whether a mark fits a self FID.
 fn good_mark(mark: u64, f: MdtFid) -> bool

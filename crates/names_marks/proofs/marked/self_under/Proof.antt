@@ -1,8 +1,8 @@
 use native.Mathlib.Omega.{arith}
 use Rattle.fid.specs.Fid.{zeroFid}
-use Rattle.names_mend.proofs.MarkLaws.{under-less, under-none}
-use Rattle.names_mend.proofs.marked.self_under.Statement.{statement}
-use Rattle.names_mend.proofs.marked.self_under.Tie as tie
+use Rattle.names_marks.proofs.MarkLaws.{under-less, under-none}
+use Rattle.names_marks.proofs.marked.self_under.Statement.{statement}
+use Rattle.names_marks.proofs.marked.self_under.Tie as tie
 
 returns : tie.Need-returns
 returns c = under-less _ _ (omega arith)

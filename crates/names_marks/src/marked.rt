@@ -16,7 +16,7 @@ ghost use Rattle.names.specs.Rows.{childSize, parseChildren};
 ghost use Rattle.names.specs.Check.{maxRows};
 ghost use Rattle.names.specs.Visible.{directory, seenBy};
 ghost use Rattle.names_judge.specs.Listed.{childNumbers, isRow};
-ghost use Rattle.names_mend.specs.Directories.{selfUnder, directories, IndexedUnder};
+ghost use Rattle.names_marks.specs.Directories.{selfUnder, directories, IndexedUnder};
 
 // The self FID of a row that is a directory under its mark, else none.
 fn self_under(mark: u64, f: MdtFid) -> MdtFid

@@ -1,10 +1,10 @@
 use mathlib.Core.Path.{sym, _∙_}
 use denote.Ref.{now}
 use Rattle.names.specs.Rows.{parseChildren}
-use Rattle.names_mend.proofs.MarkLaws.{seen-root, seen-out, seen-row, marked-inside}
+use Rattle.names_marks.proofs.MarkLaws.{seen-root, seen-out, seen-row, marked-inside}
 use borrow.Author.Needs.{needs}
-use Rattle.names_mend.proofs.marked.seen.Statement.{statement}
-use Rattle.names_mend.proofs.marked.seen.Tie as tie
+use Rattle.names_marks.proofs.marked.seen.Statement.{statement}
+use Rattle.names_marks.proofs.marked.seen.Tie as tie
 
 returns : tie.Need-returns
 returns c =

@@ -1,0 +1,1 @@
+// No code: what is promised of a mending, over records, and the proof.
