@@ -28,7 +28,7 @@ unfolding findings
 findings-length cs [] = refl
 findings-length cs (e ∷ es) = omega (arith, findings-length cs es)
 
-entry-row : (l : List ℕ) (i : ℕ) → i < length l / entrySize → getD (parseEntries l) i (decodeEntry []) ≡ entryAt l i
+pub entry-row : (l : List ℕ) (i : ℕ) → i < length l / entrySize → getD (parseEntries l) i (decodeEntry []) ≡ entryAt l i
 unfolding parseEntries entryRows entryAt
 entry-row l i h =
     List·getD-map decodeEntry (rows entrySize (length l / entrySize) l) i [] ∙ ap decodeEntry (rows-at entrySize (length l / entrySize) i l h)

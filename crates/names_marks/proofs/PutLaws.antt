@@ -14,6 +14,7 @@ use Rattle.fid.specs.declared.MdtFid.{MdtFid}
 use Rattle.fid.proofs.FidLaws.{Fits, decode-encode, length-encode}
 use Rattle.index.proofs.EntryLaws.{drop-sets}
 use Rattle.names.specs.Rows.{entrySize, childSize, childRowAt, childFidAt, nameLengthAt, entryNameAt, upAt, linkLengthAt, linkRoomAt, mdtFid, childRow, nameLength, nameBytes, decodeEntry, linkLength, linkBytes, decodeLinked, decodeChild, withFid, withSelf}
+use Rattle.names.specs.Check.{goodName, goodLinkEA}
 use Rattle.names_judge.proofs.NoteLaws.{le-before}
 
 -- a number before a store
@@ -70,3 +71,23 @@ module _ (row : List ℕ) (f : MdtFid) (w : Fits (f .0)) where
       let r : drop (linkRoomAt + le 2 (drop linkLengthAt row)) x ≡ drop (linkRoomAt + le 2 (drop linkLengthAt row)) row =
       after 0 (linkRoomAt + le 2 (drop linkLengthAt row)) row (f .0) (omega arith) in
       rw (u, l, m, r, g)
+
+  -- its linkEA is as good as it was
+  pub self-link : goodLinkEA (sets row 0 (encodeFid (f .0))) ≡ goodLinkEA row
+  unfolding goodLinkEA linkLength linkBytes
+  self-link =
+      let l : drop linkLengthAt (sets row 0 (encodeFid (f .0))) ≡ drop linkLengthAt row = after 0 linkLengthAt row (f .0) (omega arith) in
+      let m : drop linkRoomAt (sets row 0 (encodeFid (f .0))) ≡ drop linkRoomAt row = after 0 linkRoomAt row (f .0) (omega arith) in
+      rw (l, m)
+
+  -- and so is its name, with the row of its child
+  pub fid-name : goodName (sets row childFidAt (encodeFid (f .0))) ≡ goodName row
+  unfolding goodName nameLength nameBytes
+  fid-name =
+      let l : drop nameLengthAt (sets row childFidAt (encodeFid (f .0))) ≡ drop nameLengthAt row = after childFidAt nameLengthAt row (f .0) (omega arith) in
+      let m : drop entryNameAt (sets row childFidAt (encodeFid (f .0))) ≡ drop entryNameAt row = after childFidAt entryNameAt row (f .0) (omega arith) in
+      rw (l, m)
+
+  pub fid-child : childRow (sets row childFidAt (encodeFid (f .0))) ≡ childRow row
+  unfolding childRow
+  fid-child = number-before 4 childRowAt childFidAt row (encodeFid (f .0)) (omega arith)
