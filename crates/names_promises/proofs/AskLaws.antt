@@ -1,13 +1,13 @@
 -- What it says of an entry and its child that the entry gives, mends, lacks or asks. Assumes nothing.
 use mathlib.Core.Path.{_≡_, refl}
-use mathlib.Core.Bool.{Bool, true, false, cond, not, _&&_}
+use mathlib.Core.Bool.{Bool, true, false, cond, not, _&&_, true≢false}
 use mathlib.Core.List.{List}
 use borrow.Author.Tests.{not-true}
 use Rattle.wire.proofs.Both.{and-first, and-second}
 use Rattle.fid.specs.declared.MdtFid.{MdtFid}
 use Rattle.names.specs.Rows.{Entry, Child, isNone, childOf}
-use Rattle.names.specs.Findings.{linkFor, hasLink}
-use Rattle.names.specs.Sweeps.{Asks, nothing, room, more, gives, mends, outgrows, lacks, asks}
+use Rattle.names.specs.Findings.{same, linkFor, hasLink}
+use Rattle.names.specs.Sweeps.{Asks, nothing, room, more, gives, mends, differs, outgrows, lacks, asks}
 
 module _ (seen : MdtFid → Bool) (cs : List Child) (e : Entry) where
   pub gives-none : gives seen cs e ≡ true → isNone (childOf cs e .self) ≡ true
@@ -46,3 +46,29 @@ module _ (seen : MdtFid → Bool) (cs : List Child) (e : Entry) where
       go true true h = cc
       go true false h = cc
       go false o h = refl
+
+-- all that is read of a child's self FID: two tables with the same one ask the same
+module _ (seen : MdtFid → Bool) (cs ds : List Child) (e : Entry) (h : childOf ds e .self ≡ childOf cs e .self) where
+  pub gives-same : gives seen ds e ≡ gives seen cs e
+  unfolding gives
+  gives-same = rw h
+
+  pub mends-same : mends seen ds e ≡ mends seen cs e
+  unfolding mends
+  mends-same = rw h
+
+  pub differs-same : differs seen ds e ≡ differs seen cs e
+  unfolding differs mends
+  differs-same = rw h
+
+  -- and where the record stays, what lacked none lacks none
+  pub lacks-same : (hasLink (linkFor e) (childOf cs e) ≡ true → hasLink (linkFor e) (childOf ds e) ≡ true) → lacks seen cs e ≡ false →
+      lacks seen ds e ≡ false
+  unfolding lacks
+  lacks-same k l = rw mends-same (go (mends seen cs e) (hasLink (linkFor e) (childOf cs e)) l k)
+    where
+      go : (m b : Bool) → (m && not b) ≡ false → (b ≡ true → hasLink (linkFor e) (childOf ds e) ≡ true) →
+          (m && not (hasLink (linkFor e) (childOf ds e))) ≡ false
+      go true true l k = rw (k refl)
+      go true false l k = absurd (true≢false l)
+      go false b l k = refl

@@ -1,6 +1,6 @@
 -- What holds of each entry of a list. Assumes nothing.
 use Prim.Native.Nat.{ℕ, zero, suc, _<_}
-use mathlib.Core.List.{List, [], _∷_}
+use mathlib.Core.List.{List, [], _∷_, map}
 use native.Mathlib.Omega.{arith}
 use lib.ListN.{length}
 use Rattle.names.specs.Rows.{Entry}
@@ -29,3 +29,7 @@ module _ (P : Entry → Type 0) where
 pub each-with : (P Q R : Entry → Type 0) → ((e : Entry) → P e → Q e → R e) → (es : List Entry) → Each P es → Each Q es → Each R es
 each-with P Q R f [] p q = tt
 each-with P Q R f (e ∷ es) p q = (f e (p .0) (q .0), each-with P Q R f es (p .1) (q .1))
+
+pub each-map : (P Q : Entry → Type 0) (g : Entry → Entry) → ((e : Entry) → P e → Q (g e)) → (es : List Entry) → Each P es → Each Q (map g es)
+each-map P Q g f [] p = tt
+each-map P Q g f (e ∷ es) p = (f e (p .0), each-map P Q g f es (p .1))

@@ -14,7 +14,7 @@ use Rattle.names.specs.Promises.{noEntry, entryAt, SameEntry}
 module _ (seen : MdtFid → Bool) where
   -- ## Entries
 
-  same-written : (cs : List Child) (e : Entry) → SameEntry e (written seen cs e)
+  pub same-written : (cs : List Child) (e : Entry) → SameEntry e (written seen cs e)
   unfolding written withFid
   same-written cs e = go (mends seen cs e)
     where
@@ -87,7 +87,7 @@ module _ (seen : MdtFid → Bool) where
 
   -- ## Children
 
-  taking-many : (cs : List Child) (e : Entry) → length (taking seen cs e) ≡ length cs
+  pub taking-many : (cs : List Child) (e : Entry) → length (taking seen cs e) ≡ length cs
   unfolding taking
   taking-many cs e = go (gives seen cs e)
     where
@@ -105,7 +105,7 @@ module _ (seen : MdtFid → Bool) where
   sweep4-many es [] r = refl
   sweep4-many es (c ∷ cs) r = ap suc (sweep4-many es cs (suc r))
 
-  appending-many : (cs : List Child) (e : Entry) → length (appending cs e) ≡ length cs
+  pub appending-many : (cs : List Child) (e : Entry) → length (appending cs e) ≡ length cs
   unfolding appending
   appending-many cs e = length-set cs (e .child) (withLinkEA (childOf cs e) (grownLink (childOf cs e) (linkFor e)))
 

@@ -1,5 +1,12 @@
 pub mod AskLaws
 pub mod EachLaws
+pub mod FirstLaws
 pub mod FrameLaws
+pub mod KeptLaws
+pub mod LinkLaws
 pub mod RowFrames
+pub mod SameLinks
+pub mod SecondLaws
 pub mod SelfLaws
+pub mod StillLaws
+pub mod ThirdLaws

@@ -1,16 +1,19 @@
 -- How the children's rows change over a sweep, from how one row changes in a step. Assumes nothing.
-use Prim.Native.Nat.{ℕ, zero, suc, _+_}
+use Prim.Native.Nat.{ℕ, zero, suc, _+_, _<_}
 use mathlib.Core.Path.{_≡_, refl, sym, ap}
 use mathlib.Core.Bool.{Bool, true, false, cond}
 use mathlib.Core.List.{List, [], _∷_}
 use native.Mathlib.Omega.{arith}
-use lib.ListN.{set}
+use borrow.Author.Tests.{eqb-true, eqb-false}
+use lib.ListN.{length, set}
+use lib.Seq.{getD-set-same}
+use lib.Dec.{eqb}
 use Rattle.wire.specs.Numbers.{le}
 use Rattle.fid.specs.Fid.{decodeFid, sameFid, zeroFid}
 use Rattle.fid.specs.declared.MdtFid.{MdtFid}
 use Rattle.names.specs.Rows.{Entry, Child, isNone, mdtFid, decodeChild, noChild, childAt, childOf, withSelf, withLinkEA}
 use Rattle.names.specs.Findings.{linkFor, hasLink}
-use Rattle.names.specs.Sweeps.{Asks, nothing, room, more, gives, taking, sweep1, grownLink, appending, lacks, asks, onward, sweep3, gone, pruned, sweep4}
+use Rattle.names.specs.Sweeps.{Asks, nothing, room, more, gives, taking, sweep1, grownLink, appending, lacks, asks, onward, sweep3, startOf, leftLinks, gone, pruned, sweep4}
 use Rattle.names_promises.proofs.AskLaws.{gives-none, mends-seen, lacks-mends, lacks-link, asks-room}
 use Rattle.names_promises.proofs.EachLaws.{Each}
 
@@ -27,6 +30,11 @@ related-set R same (d ∷ ds) zero c h zero = h
 related-set R same (d ∷ ds) zero c h (suc r) = same (suc r) (childAt ds r)
 related-set R same (d ∷ ds) (suc k) c h zero = same 0 d
 related-set R same (d ∷ ds) (suc k) c h (suc r) = related-set (λ j. R (suc j)) (λ j. same (suc j)) ds k c h r
+
+-- the row of an entry's child, as set
+pub set-own : (cs : List Child) (e : Entry) (d : Child) → e .child < length cs → childOf (set cs (e .child) d) e ≡ d
+unfolding childOf childAt
+set-own cs e d h = getD-set-same cs (e .child) d noChild h
 
 module _ (seen : MdtFid → Bool) (R : ℕ → Child → Child → Type 0) (same : (r : ℕ) (c : Child) → R r c c)
     (join : (r : ℕ) (a b c : Child) → R r a b → R r b c → R r a c) where
@@ -72,6 +80,21 @@ module _ (seen : MdtFid → Bool) (R : ℕ → Child → Child → Type 0) (same
         go more h rec = same r (childAt cs r)
 
 -- ## Sweep 4
+
+-- a child with the records that stay
+unfoldable pub shorter : (MdtFid → Bool) → List Entry → ℕ → Child → Child
+shorter seen es r c =
+    withLinkEA c (record { time = startOf (c .link) .time; padding = startOf (c .link) .padding; links = leftLinks seen es r c })
+
+-- it is that child where a record goes, else as it was
+pub pruned-either : (seen : MdtFid → Bool) (es : List Entry) (r : ℕ) (c : Child) (P : Child → Type 0) → (gone seen es r c ≡ 0 → P c) →
+    ((gone seen es r c ≡ 0 → ⊥) → P (shorter seen es r c)) → P (pruned seen es r c)
+unfolding pruned shorter
+pruned-either seen es r c P old new = go (eqb (gone seen es r c) 0) refl
+  where
+    go : (b : Bool) → eqb (gone seen es r c) 0 ≡ b → P (cond b c (shorter seen es r c))
+    go true h = old (eqb-true (gone seen es r c) 0 h)
+    go false h = new (eqb-false (gone seen es r c) 0 h)
 
 -- a row that isn't there stays so
 none-pruned : (seen : MdtFid → Bool) (es : List Entry) (r : ℕ) → pruned seen es r noChild ≡ noChild

@@ -1,16 +1,14 @@
 -- A self FID stays over each sweep, and over a mending. Assumes nothing.
 use Prim.Native.Nat.{ℕ, _+_}
 use mathlib.Core.Path.{_≡_, refl, _∙_}
-use mathlib.Core.Bool.{Bool, true, false, cond, true≢false}
+use mathlib.Core.Bool.{Bool, true, false, true≢false}
 use mathlib.Core.List.{List}
-use native.Mathlib.Omega.{arith}
-use lib.Dec.{eqb}
 use Rattle.fid.specs.declared.MdtFid.{MdtFid}
 use Rattle.names.specs.Rows.{Entry, Child, isNone, childAt, withSelf, withLinkEA}
-use Rattle.names.specs.Sweeps.{startOf, sweep1, sweep3, leftLinks, gone, pruned, sweep4}
+use Rattle.names.specs.Sweeps.{sweep1, sweep3, pruned, sweep4}
 use Rattle.names.specs.Mend.{first, second, third, finish, mended}
 use Rattle.names_promises.proofs.EachLaws.{each-every}
-use Rattle.names_promises.proofs.RowFrames.{grown, sweep1-rows, sweep3-rows, sweep4-at}
+use Rattle.names_promises.proofs.RowFrames.{grown, sweep1-rows, sweep3-rows, shorter, pruned-either, sweep4-at}
 
 pub sweep1-self : (seen : MdtFid → Bool) (es : List Entry) (cs : List Child) (r : ℕ) → isNone (childAt cs r .self) ≡ false →
     childAt (sweep1 seen es cs) r .self ≡ childAt cs r .self
@@ -26,12 +24,8 @@ sweep3-self seen es cs n i r =
     (each-every (λ e. Unit {0}) (λ e. tt) es) cs n i r
 
 pub pruned-self : (seen : MdtFid → Bool) (es : List Entry) (r : ℕ) (c : Child) → pruned seen es r c .self ≡ c .self
-unfolding pruned withLinkEA
-pruned-self seen es r c = go (eqb (gone seen es r c) 0)
-  where
-    go : (b : Bool) → cond b c (withLinkEA c (record { time = startOf (c .link) .time; padding = startOf (c .link) .padding; links = leftLinks seen es r c })) .self ≡ c .self
-    go true = refl
-    go false = refl
+unfolding shorter withLinkEA
+pruned-self seen es r c = pruned-either seen es r c (λ d. d .self ≡ c .self) (λ g. refl) (λ g. refl)
 
 pub sweep4-self : (seen : MdtFid → Bool) (es : List Entry) (cs : List Child) (k r : ℕ) → childAt (sweep4 seen es cs k) r .self ≡ childAt cs r .self
 sweep4-self seen es cs k r = rw (sweep4-at seen es cs k r (k + r) refl) (pruned-self seen es (k + r) (childAt cs r))
