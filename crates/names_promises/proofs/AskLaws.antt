@@ -6,8 +6,8 @@ use borrow.Author.Tests.{not-true}
 use Rattle.wire.proofs.Both.{and-first, and-second}
 use Rattle.fid.specs.declared.MdtFid.{MdtFid}
 use Rattle.names.specs.Rows.{Entry, Child, isNone, childOf}
-use Rattle.names.specs.Findings.{same, linkFor, hasLink}
-use Rattle.names.specs.Sweeps.{Asks, nothing, room, more, gives, mends, differs, outgrows, lacks, asks}
+use Rattle.names.specs.Findings.{linkFor, hasLink}
+use Rattle.names.specs.Sweeps.{nothing, room, more, gives, mends, differs, outgrows, lacks, asks}
 
 module _ (seen : MdtFid → Bool) (cs : List Child) (e : Entry) where
   pub gives-none : gives seen cs e ≡ true → isNone (childOf cs e .self) ≡ true
@@ -17,10 +17,6 @@ module _ (seen : MdtFid → Bool) (cs : List Child) (e : Entry) where
   pub mends-seen : mends seen cs e ≡ true → seen (e .parent) ≡ true
   unfolding mends
   mends-seen h = and-first (seen (e .parent)) (not (isNone (childOf cs e .self))) h
-
-  pub mends-self : mends seen cs e ≡ true → isNone (childOf cs e .self) ≡ false
-  unfolding mends
-  mends-self h = not-true (isNone (childOf cs e .self)) (and-second (seen (e .parent)) (not (isNone (childOf cs e .self))) h)
 
   pub lacks-mends : lacks seen cs e ≡ true → mends seen cs e ≡ true
   unfolding lacks
@@ -47,13 +43,13 @@ module _ (seen : MdtFid → Bool) (cs : List Child) (e : Entry) where
       go true false h = cc
       go false o h = refl
 
--- all that is read of a child's self FID: two tables with the same one ask the same
+-- these read no more of a child than its self FID
 module _ (seen : MdtFid → Bool) (cs ds : List Child) (e : Entry) (h : childOf ds e .self ≡ childOf cs e .self) where
   pub gives-same : gives seen ds e ≡ gives seen cs e
   unfolding gives
   gives-same = rw h
 
-  pub mends-same : mends seen ds e ≡ mends seen cs e
+  mends-same : mends seen ds e ≡ mends seen cs e
   unfolding mends
   mends-same = rw h
 
@@ -61,7 +57,7 @@ module _ (seen : MdtFid → Bool) (cs ds : List Child) (e : Entry) (h : childOf 
   unfolding differs mends
   differs-same = rw h
 
-  -- and where the record stays, what lacked none lacks none
+  -- and this its records: where the entry's stays, what lacked none lacks none
   pub lacks-same : (hasLink (linkFor e) (childOf cs e) ≡ true → hasLink (linkFor e) (childOf ds e) ≡ true) → lacks seen cs e ≡ false →
       lacks seen ds e ≡ false
   unfolding lacks

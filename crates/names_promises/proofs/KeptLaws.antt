@@ -74,7 +74,7 @@ module _ (seen : MdtFid → Bool) (es : List Entry) (r : ℕ) where
       go true false b h f = h
       go false n b h f = refl
 
-  pub kept-again : (l before less : List Link) → ((x : Link) → any (sameLink x) before ≡ false → any (sameLink x) less ≡ false) →
+  kept-again : (l before less : List Link) → ((x : Link) → any (sameLink x) before ≡ false → any (sameLink x) less ≡ false) →
       kept seen es r less (kept seen es r before l) ≡ kept seen es r before l
   unfolding kept
   kept-again [] before less f = refl
@@ -82,8 +82,10 @@ module _ (seen : MdtFid → Bool) (es : List Entry) (r : ℕ) where
     where
       wide : (y : Link) → any (sameLink y) (before ++ (x ∷ [])) ≡ false → any (sameLink y) less ≡ false
       wide y h = f y (last-first y before x h)
+
       both : (y : Link) → any (sameLink y) (before ++ (x ∷ [])) ≡ false → any (sameLink y) (less ++ (x ∷ [])) ≡ false
       both y h = rw (any-append (sameLink y) less (x ∷ []), f y (last-first y before x h)) (last-last y before x h)
+
       go : (b : Bool) → goes seen es r before x ≡ b →
           ((m : List Link) → ((y : Link) → any (sameLink y) (before ++ (x ∷ [])) ≡ false → any (sameLink y) m ≡ false) →
           kept seen es r m (kept seen es r (before ++ (x ∷ [])) xs) ≡ kept seen es r (before ++ (x ∷ [])) xs) →
@@ -108,7 +110,16 @@ module _ (seen : MdtFid → Bool) (es : List Entry) (r : ℕ) where
 
 -- ## Of a child
 
-pub pruned-still : (seen : MdtFid → Bool) (es : List Entry) (r : ℕ) (c : Child) → gone seen es r c ≡ 0 → pruned seen es r c ≡ c
+-- none goes where all stay
+pub gone-none : (seen : MdtFid → Bool) (es : List Entry) (r : ℕ) (c : Child) → linksOf c ≡ leftLinks seen es r c → gone seen es r c ≡ 0
+unfolding gone
+gone-none seen es r c h = rw (← h) (go (isNone (c .self)) (length (linksOf c)))
+  where
+    go : (b : Bool) (n : ℕ) → cond b 0 (n - n) ≡ 0
+    go true n = refl
+    go false n = omega arith
+
+pruned-still : (seen : MdtFid → Bool) (es : List Entry) (r : ℕ) (c : Child) → gone seen es r c ≡ 0 → pruned seen es r c ≡ c
 unfolding pruned
 pruned-still seen es r c h = rw h
 
@@ -118,12 +129,7 @@ module _ (seen : MdtFid → Bool) (es : List Entry) (r : ℕ) (c : Child) where
   left-again = kept-again seen es r (linksOf c) [] [] (λ x h. h)
 
   shorter-none : gone seen es r (shorter seen es r c) ≡ 0
-  unfolding gone
-  shorter-none = rw (left-again, shorter-links seen es r c) (go (isNone (shorter seen es r c .self)) (length (leftLinks seen es r c)))
-    where
-      go : (b : Bool) (n : ℕ) → cond b 0 (n - n) ≡ 0
-      go true n = refl
-      go false n = omega arith
+  shorter-none = gone-none seen es r (shorter seen es r c) (shorter-links seen es r c ∙ sym left-again)
 
   pub pruned-none : gone seen es r (pruned seen es r c) ≡ 0
   pruned-none = pruned-either seen es r c (λ d. gone seen es r d ≡ 0) (λ g. g) (λ g. shorter-none)

@@ -31,7 +31,9 @@ grown-keeps x c e h = rw (grown-links c e, any-append (sameLink x) (linksOf c) (
 
 pub grown-has : (c : Child) (e : Entry) → hasLink (linkFor e) (grown c e) ≡ true
 unfolding hasLink any
-grown-has c e = rw (grown-links c e, any-append (sameLink (linkFor e)) (linksOf c) (linkFor e ∷ []), link-self (linkFor e)) (or-true (any (sameLink (linkFor e)) (linksOf c)))
+grown-has c e =
+    rw (grown-links c e, any-append (sameLink (linkFor e)) (linksOf c) (linkFor e ∷ []), link-self (linkFor e))
+    (or-true (any (sameLink (linkFor e)) (linksOf c)))
 
 pub sweep3-links : (seen : MdtFid → Bool) (es : List Entry) (cs : List Child) (n i r : ℕ) (x : Link) → hasLink x (childAt cs r) ≡ true →
     hasLink x (childAt (sweep3 seen es cs n i .children) r) ≡ true

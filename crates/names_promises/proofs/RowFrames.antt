@@ -1,4 +1,4 @@
--- How the children's rows change over a sweep, from how one row changes in a step. Assumes nothing.
+-- How the children's rows change over a sweep and over a mending, from how one row changes in a step. Assumes nothing.
 use Prim.Native.Nat.{ℕ, zero, suc, _+_, _<_}
 use mathlib.Core.Path.{_≡_, refl, sym, ap}
 use mathlib.Core.Bool.{Bool, true, false, cond}
@@ -14,8 +14,9 @@ use Rattle.fid.specs.declared.MdtFid.{MdtFid}
 use Rattle.names.specs.Rows.{Entry, Child, isNone, mdtFid, decodeChild, noChild, childAt, childOf, withSelf, withLinkEA}
 use Rattle.names.specs.Findings.{linkFor, hasLink}
 use Rattle.names.specs.Sweeps.{Asks, nothing, room, more, gives, taking, sweep1, grownLink, appending, lacks, asks, onward, sweep3, startOf, leftLinks, gone, pruned, sweep4}
+use Rattle.names.specs.Mend.{first, second, third, finish, mended}
 use Rattle.names_promises.proofs.AskLaws.{gives-none, mends-seen, lacks-mends, lacks-link, asks-room}
-use Rattle.names_promises.proofs.EachLaws.{Each}
+use Rattle.names_promises.proofs.EachLaws.{Each, each-every}
 
 -- the child with the record that an entry asks
 unfoldable pub grown : Child → Entry → Child
@@ -107,3 +108,28 @@ unfolding sweep4 childAt
 sweep4-at seen es [] k r j h = sym (none-pruned seen es j)
 sweep4-at seen es (c ∷ cs) k zero j h = ap (λ (i : ℕ). pruned seen es i c) (omega arith)
 sweep4-at seen es (c ∷ cs) k (suc r) j h = sweep4-at seen es cs (suc k) r j (omega arith)
+
+-- ## The mending
+
+module _ (seen : MdtFid → Bool) (R : ℕ → Child → Child → Type 0) (same : (r : ℕ) (c : Child) → R r c c)
+    (join : (r : ℕ) (a b c : Child) → R r a b → R r b c → R r a c)
+    (one : (r : ℕ) (c : Child) (f : MdtFid) → isNone (c .self) ≡ true → R r c (withSelf c f))
+    (three : (c : Child) (e : Entry) → seen (e .parent) ≡ true → R (e .child) c (grown c e))
+    (four : (es : List Entry) (r : ℕ) (c : Child) → R r c (pruned seen es r c)) (es : List Entry) (cs : List Child) (r : ℕ) where
+  third-rows : R r (childAt cs r) (childAt (third seen es cs .children) r)
+  unfolding third first
+  third-rows =
+      join r (childAt cs r) (childAt (first seen es cs) r) (childAt (third seen es cs .children) r) (sweep1-rows seen R same join one es cs r)
+      (sweep3-rows seen R same join (λ e. Unit {0}) (λ c e p s l. three c e s) (second seen es cs)
+      (each-every (λ e. Unit {0}) (λ e. tt) (second seen es cs)) (first seen es cs) 0 0 r)
+
+  pub mended-rows : R r (childAt cs r) (childAt (mended seen es cs .children) r)
+  unfolding mended finish
+  mended-rows = go (third seen es cs .full)
+    where
+      go : (b : Bool) → R r (childAt cs r) (childAt (finish seen es cs b .children) r)
+      go true = third-rows
+      go false =
+          join r (childAt cs r) (childAt (third seen es cs .children) r) (childAt (finish seen es cs false .children) r) third-rows
+          (rw (sweep4-at seen (second seen es cs) (third seen es cs .children) 0 r r (omega arith))
+          (four (second seen es cs) r (childAt (third seen es cs .children) r)))

@@ -4,7 +4,7 @@ use mathlib.Core.Path.{_≡_, refl, _∙_}
 use mathlib.Core.Bool.{Bool, true, false, true≢false}
 use mathlib.Core.List.{List}
 use Rattle.fid.specs.declared.MdtFid.{MdtFid}
-use Rattle.names.specs.Rows.{Entry, Child, isNone, childAt, withSelf, withLinkEA}
+use Rattle.names.specs.Rows.{Entry, Child, isNone, childAt, withLinkEA}
 use Rattle.names.specs.Sweeps.{sweep1, sweep3, pruned, sweep4}
 use Rattle.names.specs.Mend.{first, second, third, finish, mended}
 use Rattle.names_promises.proofs.EachLaws.{each-every}
@@ -23,7 +23,7 @@ sweep3-self seen es cs n i r =
     sweep3-rows seen (λ i c d. d .self ≡ c .self) (λ i c. refl) (λ i a b c p q. q ∙ p) (λ e. Unit {0}) (λ c e p s l. refl) es
     (each-every (λ e. Unit {0}) (λ e. tt) es) cs n i r
 
-pub pruned-self : (seen : MdtFid → Bool) (es : List Entry) (r : ℕ) (c : Child) → pruned seen es r c .self ≡ c .self
+pruned-self : (seen : MdtFid → Bool) (es : List Entry) (r : ℕ) (c : Child) → pruned seen es r c .self ≡ c .self
 unfolding shorter withLinkEA
 pruned-self seen es r c = pruned-either seen es r c (λ d. d .self ≡ c .self) (λ g. refl) (λ g. refl)
 
@@ -32,7 +32,7 @@ sweep4-self seen es cs k r = rw (sweep4-at seen es cs k r (k + r) refl) (pruned-
 
 module _ (seen : MdtFid → Bool) (es : List Entry) (cs : List Child) (r : ℕ) where
   -- after sweep 1 none changes
-  pub first-self : childAt (mended seen es cs .children) r .self ≡ childAt (first seen es cs) r .self
+  first-self : childAt (mended seen es cs .children) r .self ≡ childAt (first seen es cs) r .self
   unfolding mended finish third
   first-self = go (third seen es cs .full)
     where

@@ -1,7 +1,7 @@
 -- After a finished mending no entry gives, differs or lacks. Assumes nothing.
 use Prim.Native.Nat.{ℕ, zero, suc, _<_}
 use mathlib.Core.Path.{_≡_, refl, sym, subst₂, _∙_}
-use mathlib.Core.Bool.{Bool, true, false, cond, _&&_, _||_, or-true}
+use mathlib.Core.Bool.{Bool, true, false, _&&_, or-true}
 use mathlib.Core.List.{List, [], _∷_}
 use native.Mathlib.Omega.{arith}
 use borrow.Author.Tests.{eq-eqb}
@@ -10,7 +10,7 @@ use lib.Dec.{eqb}
 use Rattle.fid.specs.declared.MdtFid.{MdtFid}
 use Rattle.names.specs.Rows.{Entry, Child, childOf}
 use Rattle.names.specs.Findings.{any, sameLink, linkFor}
-use Rattle.names.specs.Sweeps.{gives, mends, written, sweep2, differs, lacks, named, sweep4}
+use Rattle.names.specs.Sweeps.{gives, written, sweep2, differs, lacks, named, sweep4}
 use Rattle.names.specs.Mend.{first, second, third, finish, mended}
 use Rattle.names.specs.Promises.{entryAt, Belong}
 use Rattle.names_promises.proofs.AskLaws.{gives-same, differs-same, lacks-same}
@@ -99,3 +99,18 @@ module _ (seen : MdtFid → Bool) (es : List Entry) (cs : List Child) (b : Belon
         (each-with (λ e. gives seen (first seen es cs) e ≡ false) (λ e. differs seen (first seen es cs) e ≡ false)
         (λ e. (gives seen (first seen es cs) e ≡ false) × (differs seen (first seen es cs) e ≡ false)) (λ e g d. (g, d)) (second seen es cs) gifts differences)
         lacks-last
+
+-- ## Of the mending
+
+module _ (seen : MdtFid → Bool) (es : List Entry) (cs : List Child) where
+  pub finished : mended seen es cs .answer ≡ 0 → third seen es cs .full ≡ false
+  unfolding mended finish
+  finished = go (third seen es cs .full)
+    where
+      go : (b : Bool) → finish seen es cs b .answer ≡ 0 → b ≡ false
+      go true h = absurd (omega arith)
+      go false h = refl
+
+  pub still : Belong es cs → mended seen es cs .answer ≡ 0 → Each (Still seen (mended seen es cs .children)) (mended seen es cs .entries)
+  unfolding mended finish
+  still b h = rw (finished h) (still-last seen es cs b (finished h))

@@ -1,7 +1,7 @@
 -- After a sweep 3 that is not stopped no entry lacks its record. Assumes nothing.
 use Prim.Native.Nat.{ℕ, suc, _<_}
 use mathlib.Core.Path.{_≡_, refl, sym, subst}
-use mathlib.Core.Bool.{Bool, true, false, and-false, true≢false}
+use mathlib.Core.Bool.{Bool, false, and-false, true≢false}
 use mathlib.Core.List.{List, [], _∷_}
 use lib.ListN.{length}
 use Rattle.fid.specs.declared.MdtFid.{MdtFid}
