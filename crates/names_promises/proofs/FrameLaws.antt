@@ -1,5 +1,5 @@
 -- What a mending leaves as it was: entries but for the FID-in-dirent, entries of hidden directories, and the numbers of rows. Assumes nothing.
-use mathlib.Core.Path.{_≡_, refl, ap, _∙_}
+use mathlib.Core.Path.{_≡_, refl, ap, ap₂, _∙_}
 use mathlib.Core.Bool.{Bool, true, false, cond}
 use mathlib.Core.List.{List, [], _∷_, map}
 use Prim.Native.Nat.{ℕ, zero, suc}
@@ -14,7 +14,7 @@ use Rattle.names.specs.Promises.{noEntry, entryAt, SameEntry}
 module _ (seen : MdtFid → Bool) where
   -- ## Entries
 
-  same-written : (cs : List Child) (e : Entry) → SameEntry e (written seen cs e)
+  pub same-written : (cs : List Child) (e : Entry) → SameEntry e (written seen cs e)
   unfolding written withFid
   same-written cs e = go (mends seen cs e)
     where
@@ -36,6 +36,34 @@ module _ (seen : MdtFid → Bool) where
   hidden-at cs [] i h = refl
   hidden-at cs (e ∷ es) zero h = hidden-written cs e h
   hidden-at cs (e ∷ es) (suc i) h = hidden-at cs es i h
+
+  -- after sweep 2 each field but the FID-in-dirent is as it was
+  module _ (cs : List Child) where
+    field-written : {A : Type 0} (f : Entry → A) → ((e : Entry) (g : MdtFid) → f (withFid e g) ≡ f e) → (e : Entry) → f (written seen cs e) ≡ f e
+    unfolding written
+    field-written {A} f h e = go (mends seen cs e)
+      where
+        go : (b : Bool) → f (cond b (withFid e (childOf cs e .self)) e) ≡ f e
+        go true = h e (childOf cs e .self)
+        go false = refl
+
+    field-second : {A : Type 0} (f : Entry → A) → ((e : Entry) (g : MdtFid) → f (withFid e g) ≡ f e) → (es : List Entry) →
+        map f (sweep2 seen cs es) ≡ map f es
+    unfolding sweep2
+    field-second f h [] = refl
+    field-second {A} f h (e ∷ es) = ap₂ (λ (x : A) (xs : List A). x ∷ xs) (field-written f h e) (field-second f h es)
+
+    pub second-parents : (es : List Entry) → map (λ (e : Entry). e .parent) (sweep2 seen cs es) ≡ map (λ (e : Entry). e .parent) es
+    unfolding withFid
+    second-parents es = field-second (λ e. e .parent) (λ e g. refl) es
+
+    pub second-childs : (es : List Entry) → map (λ (e : Entry). e .child) (sweep2 seen cs es) ≡ map (λ (e : Entry). e .child) es
+    unfolding withFid
+    second-childs es = field-second (λ e. e .child) (λ e g. refl) es
+
+    pub second-names : (es : List Entry) → map (λ (e : Entry). e .name) (sweep2 seen cs es) ≡ map (λ (e : Entry). e .name) es
+    unfolding withFid
+    second-names es = field-second (λ e. e .name) (λ e g. refl) es
 
   module _ (es : List Entry) (cs : List Child) where
     entries-are : mended seen es cs .entries ≡ map (written seen (first seen es cs)) es
@@ -59,7 +87,7 @@ module _ (seen : MdtFid → Bool) where
 
   -- ## Children
 
-  taking-many : (cs : List Child) (e : Entry) → length (taking seen cs e) ≡ length cs
+  pub taking-many : (cs : List Child) (e : Entry) → length (taking seen cs e) ≡ length cs
   unfolding taking
   taking-many cs e = go (gives seen cs e)
     where
@@ -67,21 +95,21 @@ module _ (seen : MdtFid → Bool) where
       go true = length-set cs (e .child) (withSelf (childOf cs e) (e .fid))
       go false = refl
 
-  sweep1-many : (es : List Entry) (cs : List Child) → length (sweep1 seen es cs) ≡ length cs
+  pub sweep1-many : (es : List Entry) (cs : List Child) → length (sweep1 seen es cs) ≡ length cs
   unfolding sweep1
   sweep1-many [] cs = refl
   sweep1-many (e ∷ es) cs = sweep1-many es (taking seen cs e) ∙ taking-many cs e
 
-  sweep4-many : (es : List Entry) (cs : List Child) (r : ℕ) → length (sweep4 seen es cs r) ≡ length cs
+  pub sweep4-many : (es : List Entry) (cs : List Child) (r : ℕ) → length (sweep4 seen es cs r) ≡ length cs
   unfolding sweep4
   sweep4-many es [] r = refl
   sweep4-many es (c ∷ cs) r = ap suc (sweep4-many es cs (suc r))
 
-  appending-many : (cs : List Child) (e : Entry) → length (appending cs e) ≡ length cs
+  pub appending-many : (cs : List Child) (e : Entry) → length (appending cs e) ≡ length cs
   unfolding appending
   appending-many cs e = length-set cs (e .child) (withLinkEA (childOf cs e) (grownLink (childOf cs e) (linkFor e)))
 
-  sweep3-many : (es : List Entry) (cs : List Child) (n i : ℕ) → length (sweep3 seen es cs n i .children) ≡ length cs
+  pub sweep3-many : (es : List Entry) (cs : List Child) (n i : ℕ) → length (sweep3 seen es cs n i .children) ≡ length cs
   unfolding sweep3 onward
   sweep3-many [] cs n i = refl
   sweep3-many (e ∷ es) cs n i = go (asks seen cs e) (λ ds m. sweep3-many es ds m (suc i))
