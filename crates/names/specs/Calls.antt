@@ -68,20 +68,15 @@ reportSize = 5
 unfoldable pub reportNumbers : Report → List ℕ
 reportNumbers r = r .taken ∷ r .written ∷ r .appended ∷ r .removed ∷ r .reached ∷ []
 
+-- an answer, with what is left in entries, children, marks and report
+unfoldable pub left : ℕ → List ℕ → List ℕ → List ℕ → List ℕ → Left
+left n entries children marks report = record { answer = n; entries = entries; children = children; marks = marks; out = report }
+
 -- a mending of the bytes: tables and report are written, with 38 too
 unfoldable pub mendedBytes : (MdtFid → Bool) → List ℕ → List ℕ → List ℕ → List ℕ → Left
 mendedBytes seen entries children marks report =
     let m : Mended = mended seen (parseEntries entries) (parseChildren children) in
-    record {
-      answer = m .answer;
-      entries = renderEntries (m .entries);
-      children = renderChildren (m .children);
-      marks = marks;
-      out = sets report 0 (reportNumbers (m .report));
-    }
-
-unfoldable pub refusedCall : ℕ → List ℕ → List ℕ → List ℕ → List ℕ → Left
-refusedCall n entries children marks report = record { answer = n; entries = entries; children = children; marks = marks; out = report }
+    left (m .answer) (renderEntries (m .entries)) (renderChildren (m .children)) marks (sets report 0 (reportNumbers (m .report)))
 
 module _ (entries children index room marks report : List ℕ) where
   unfoldable pub mendTests : List Test
@@ -94,7 +89,7 @@ module _ (entries children index room marks report : List ℕ) where
   mendCall =
       let n : ℕ = firstFailing mendTests in
       cond (eqb n 0) (mendedBytes (seenBy marks (parseChildren children)) entries children marks report)
-      (refusedCall n entries children marks report)
+      (left n entries children marks report)
 
   -- ## lfsck_names_pass: "judge, then mend under its marks"
 
@@ -110,4 +105,4 @@ module _ (entries children index room marks report : List ℕ) where
       let n : ℕ = firstFailing passTests in
       let js : List ℕ = judged maxLevels (parseChildren children) in
       cond (eqb n 0) (mendedBytes (seenBy js (parseChildren children)) entries children (sets marks 0 js) report)
-      (refusedCall n entries children marks report)
+      (left n entries children marks report)
