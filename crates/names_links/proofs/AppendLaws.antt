@@ -2,7 +2,7 @@
 use mathlib.Core.Path.{_≡_, refl, sym, ap, _∙_}
 use mathlib.Core.Bool.{true, false}
 use mathlib.Core.List.{List, [], _∷_, _++_, append-nil}
-use Prim.Native.Nat.{ℕ, _+_, _≤_, _<_}
+use Prim.Native.Nat.{ℕ, _+_, _≤_}
 use native.Mathlib.Omega.{arith}
 use borrow.Author.Tests.{ltb-false}
 use lib.Dec.{ltb}
@@ -31,7 +31,7 @@ use Rattle.names_links.proofs.RoomLaws.{Standing, stands, total-is, enc
 
 -- ## Its size
 
-pub grown-total : (e : LinkEA) (x : Link) → headerOf (appended e x) .total ≡ headerOf e .total + (nameAt + length (x .name))
+grown-total : (e : LinkEA) (x : Link) → headerOf (appended e x) .total ≡ headerOf e .total + (nameAt + length (x .name))
 unfolding grown
 grown-total e x = ap (λ (h : LinkHeader). h .total) (appended-header e x) ∙ rw (length-link x)
 

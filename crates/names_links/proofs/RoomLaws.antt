@@ -1,11 +1,11 @@
 -- The linkEA of a child in its row: what stands there, and what the row says after its header is written anew. Assumes nothing.
 use mathlib.Core.Path.{_≡_, refl, sym, ap, _∙_}
-use mathlib.Core.Bool.{Bool, true, false, cond, not, _&&_, _||_}
+use mathlib.Core.Bool.{Bool, true, false, _||_}
 use mathlib.Core.List.{List, [], _∷_, _++_, append-assoc, append-nil, map}
-use Prim.Native.Nat.{ℕ, suc, _+_, _-_, _≤_, _<_, _^_}
+use Prim.Native.Nat.{ℕ, _+_, _-_, _≤_, _<_, _^_}
 use native.Mathlib.Omega.{arith}
 use borrow.Author.Tests.{eq-eqb, ne-eqb, eqb-true, eqb-false, le-leb}
-use lib.Dec.{eqb, leb}
+use lib.Dec.{eqb}
 use lib.ListN.{length, take, drop, set, replicate, length-append, length-drop, length-replicate, take-append-drop, replicate-append-replicate, drop-of-length-le}
 use lib.Seq.{sets, sets-eq, length-sets, length-take-le, take-add, take-at, drop-at, drop-drop, drop-append-le, take-append-add}
 use borrow.Rule.Slice.PartMut.{putMid}
@@ -14,15 +14,14 @@ use Rattle.wire.proofs.Splice.{sets-at, sets-whole, put-sets}
 use Rattle.wire.proofs.NumberLaws.{Bytes, field, bytes-drop, bytes-take, length-bytes, le-small-at}
 use Rattle.wire.proofs.OrderLaws.{le-front}
 use Rattle.fid.specs.Fid.{fidSize, idAt, versionAt, decodeFid}
-use Rattle.fid.specs.declared.Fid.{Fid}
-use Rattle.linkea.specs.Link.{Link, LinkEA, linkHeader, nameAt, linkLength as recordLength, timeAt, paddingAt, encodeLink, encodeLinks, lengthAt, shortRecord, decodeLink, linkAt, places, decodeLinkHeader, encodeLinkHeader, headerOf, decodeLinkEA, encodeLinkEA}
+use Rattle.linkea.specs.Link.{Link, LinkEA, linkHeader, nameAt, linkLength as recordLength, timeAt, paddingAt, encodeLinks, lengthAt, shortRecord, decodeLink, linkAt, places, decodeLinkHeader, encodeLinkHeader, headerOf, decodeLinkEA, encodeLinkEA}
 use Rattle.linkea.specs.Conditions.{some, pastEnd, badName, badRecord, refusedLink}
 use Rattle.linkea.specs.declared.LinkHeader.{LinkHeader}
 use Rattle.linkea.proofs.PlaceLaws.{or-first, or-second, places-from, AllGood, good-record}
 use Rattle.linkea.proofs.RecordLaws.{good-link}
 use Rattle.linkea_write.proofs.LinkLaws.{FitLink, FitHeader, length-link, link-fits, link-small, length-link-header}
-use Rattle.linkea_write.proofs.StandLaws.{FitLinks, header-read, written-again, links-back, header-of-back, length-encoded, encoded-accepted}
-use Rattle.names.specs.Rows.{Child, linked, childSize, upAt, linkLengthAt, linkRoomAt, linkRoom, mdtFid, linkLength, linkBytes, decodeLinked, decodeChild, withLinkEA}
+use Rattle.linkea_write.proofs.StandLaws.{FitLinks, header-read, written-again, links-back, header-of-back, encoded-accepted}
+use Rattle.names.specs.Rows.{linked, childSize, upAt, linkLengthAt, linkRoomAt, linkRoom, mdtFid, linkLength, linkBytes, decodeLinked, decodeChild, withLinkEA}
 use Rattle.names.specs.Check.{goodLinkEA}
 use Rattle.names.specs.Sweeps.{startOf}
 use Rattle.names.proofs.BackLaws.{link-room, link-accepted, link-length}
@@ -42,7 +41,6 @@ module _ (l : List ℕ) (at : ℕ) where
   pub zeroed-next : (i : ℕ) (x : List ℕ) → at ≤ i → x ≡ zeroed l at i → set x i 0 ≡ zeroed l at (i + 1)
   unfolding zeroed
   zeroed-next i x h e =
-      let k : ℕ = i - at in
       let z : i + 1 - at ≡ i - at + 1 = omega arith in
       let y : at + (i - at) ≡ i = omega arith in
       let s : set (sets l at (replicate (i - at) 0)) i 0 ≡ sets l at (replicate (i - at) 0 ++ (0 ∷ [])) =
@@ -108,7 +106,7 @@ module _ (l : List ℕ) (b : Bytes l) where
   fit-all [] h = tt
   fit-all (p ∷ ps) h = (fit-at p (or-first (badRecord l p) (some (badRecord l) ps) h), fit-all ps (or-second (badRecord l p) (some (badRecord l) ps) h))
 
-  pub read-fit : refusedLink l ≡ false → FitLinks (decodeLinkEA l .links)
+  read-fit : refusedLink l ≡ false → FitLinks (decodeLinkEA l .links)
   unfolding decodeLinkEA AllGood
   read-fit a = fit-all (places l) (rw (places-from l) (good-link l a .records))
 
@@ -127,7 +125,7 @@ pub record Standing (row : List ℕ) (e : LinkEA) : Type 0 where
   pub room : headerOf e .total ≤ linkRoom
   pub stand : take (length (encodeLinks (e .links))) (drop (linkRoomAt + linkHeader) row) ≡ encodeLinks (e .links)
 
-pub new-is : (row : List ℕ) → linkLength row ≡ 0 → startOf (decodeChild row .link) ≡ record { time = 0; padding = 0; links = [] }
+new-is : (row : List ℕ) → linkLength row ≡ 0 → startOf (decodeChild row .link) ≡ record { time = 0; padding = 0; links = [] }
 unfolding startOf decodeChild decodeLinked
 new-is row n = rw (eq-eqb (linkLength row) 0 n)
 
@@ -148,7 +146,7 @@ module _ (row : List ℕ) (b : Bytes row) (h : length row ≡ childSize) (g : go
     long : length (linkBytes row) ≡ linkLength row
     long = link-length row h (link-room row g)
 
-    pub old-is : startOf (decodeChild row .link) ≡ decodeLinkEA (linkBytes row)
+    old-is : startOf (decodeChild row .link) ≡ decodeLinkEA (linkBytes row)
     unfolding startOf decodeChild decodeLinked
     old-is = rw (ne-eqb (linkLength row) 0 n)
 
@@ -194,7 +192,7 @@ module _ (row : List ℕ) (b : Bytes row) (h : length row ≡ childSize) (g : go
 
 -- ## A linkEA that fits the room
 
-pub links-few : (xs : List Link) → length xs ≤ length (encodeLinks xs)
+links-few : (xs : List Link) → length xs ≤ length (encodeLinks xs)
 unfolding encodeLinks
 links-few [] = omega arith
 links-few (x ∷ xs) = rw (length-append, length-link x) (omega (arith, links-few xs))
@@ -203,7 +201,7 @@ pub few : (e : LinkEA) (h : LinkHeader) → h ≡ headerOf e → h .count ≤ h 
 unfolding headerOf
 few e h q = rw q (omega (arith, links-few (e .links)))
 
-pub fit-header : (e : LinkEA) → e .time < 2 ^ 32 → e .padding < 2 ^ 32 → headerOf e .total ≤ linkRoom → FitHeader (headerOf e)
+fit-header : (e : LinkEA) → e .time < 2 ^ 32 → e .padding < 2 ^ 32 → headerOf e .total ≤ linkRoom → FitHeader (headerOf e)
 unfolding headerOf
 fit-header e t p r = record { count = omega (arith, links-few (e .links), r); total = omega (arith, r); time = t; padding = p }
 
@@ -299,6 +297,7 @@ module _ (row : List ℕ) (e : LinkEA) (n : length row ≡ childSize) (f : FitLi
     where
       self-kept : decodeFid (rowWith row e) ≡ decodeFid row
       self-kept = fid-kept 0 row (bytes 2 (headerOf e .total) ++ (encodeLinkEA e ++ replicate (linkRoom - headerOf e .total) 0)) (omega arith) n
+
       up-kept : decodeFid (drop upAt (rowWith row e)) ≡ decodeFid (drop upAt row)
       up-kept = fid-kept upAt row (bytes 2 (headerOf e .total) ++ (encodeLinkEA e ++ replicate (linkRoom - headerOf e .total) 0)) (omega arith) n
 

@@ -1,7 +1,6 @@
 use mathlib.Core.Path.{_≡_, refl}
 use Prim.Native.Nat.{_-_, _≤_}
 use native.Mathlib.Omega.{arith}
-use denote.Ref.{now}
 use lib.ListN.{length}
 use Rattle.names_links.proofs.RoomLaws.{zeroed, zeroed-none, zeroed-next, zeroed-length, zeroed-all}
 use Rattle.names_links.proofs.room.zero_from.Statement.{statement}
