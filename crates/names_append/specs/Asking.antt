@@ -1,5 +1,4 @@
 -- What the code of sweep 3 says, as the definitions say it.
-use Prim.Native.Nat.{ℕ}
 use mathlib.Core.List.{List}
 use Rattle.names.specs.Rows.{Entry, Child}
 use Rattle.names.specs.Sweeps.{Asks, nothing, room, more, appending, Appends}

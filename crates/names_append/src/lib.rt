@@ -51,12 +51,14 @@ fn append_at(entries: &[u8], children: &mut [u8], notes: &[u8], i: usize) -> Ask
         return Asked::Nothing;
     }
     let name = rows::name_of(row);
-    if append::outgrows_room(child, name.len()) {
+    let n = name.len();
+    if append::outgrows_room(child, n) {
         return Asked::More;
     }
     let a = CHILD_SIZE * r;
     let e = a + CHILD_SIZE;
-    append::append_link(&mut children[a..e], rows::parent_of(row), name);
+    let parent = rows::parent_of(row);
+    append::append_link(&mut children[a..e], parent, name);
     Asked::Room
 }
 
