@@ -92,6 +92,9 @@ module _ (e c : List ℕ) (h : SoundNames e c) (i : ℕ) (k : i < length e / ent
         subst (λ (t : List ℕ). SoundNames t c) (sym b) (entry-sound e c h i k fid-row fid-long g (omega (arith, fid-child row f w, child-at e c h i k))),
       )
 
+pub fid-wins : (e : List ℕ) (i : ℕ) (x : Entry) (f g : MdtFid) → f ≡ g → set (parseEntries e) i (withFid x f) ≡ set (parseEntries e) i (withFid x g)
+fid-wins e i x f g p = ap (λ (y : MdtFid). set (parseEntries e) i (withFid x y)) p
+
 -- ## The sweep
 
 module _ (w : Entry → Entry) where

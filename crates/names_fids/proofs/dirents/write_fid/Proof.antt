@@ -1,127 +1,115 @@
+use mathlib.Core.Path.{_≡_, sym, ap, ap₂, _∙_}
+use native.Mathlib.Omega.{arith}
 use borrow.Author.Needs.{needs}
+use denote.Ref.{now}
+use lib.ListN.{length, set}
+use Rattle.fid.specs.declared.MdtFid.{MdtFid}
+use Rattle.tables.proofs.AllLaws.{row-fits}
+use Rattle.names.specs.Rows.{Child, entrySize, childSize, isNone, parseEntries, parseChildren}
+use Rattle.names.specs.Findings.{same}
+use Rattle.names.specs.Sweeps.{written}
+use Rattle.names_check.specs.Asked.{entryAt}
+use Rattle.names_check.proofs.FindingLaws.{child-in}
+use Rattle.names_fids.proofs.NotedLaws.{hidden-note, visible-note}
+use Rattle.names_fids.proofs.SelvesLaws.{its-fid, its-child}
+use Rattle.names_fids.proofs.DirentLaws.{not-visible, no-self, agrees, wins, entry-stays, fid-stored, fid-wins}
 use Rattle.names_fids.proofs.dirents.write_fid.Statement.{statement}
 use Rattle.names_fids.proofs.dirents.write_fid.Tie as tie
-use Rattle.names_fids.proofs.dirents.write_fid.Reads as reads
-use Rattle.names_fids.proofs.dirents.write_fid.Lts as lts
-use Rattle.fid.proofs.same_mdt.Reads as same-mdt-reads
-use Rattle.names.proofs.rows.child_of.Reads as child-of-reads
-use Rattle.names.proofs.rows.fid_of.Reads as fid-of-reads
-use Rattle.names.proofs.rows.is_none.Reads as is-none-reads
-use Rattle.names.proofs.rows.put_fid.Reads as put-fid-reads
-use Rattle.names.proofs.rows.self_of.Reads as self-of-reads
-use Rattle.tables.proofs.rows.row_at.Reads as row-at-reads
 
--- src/dirents.rt:24:8
-shared-slice-read-if1 : tie.Need-shared-slice-read-if1
-shared-slice-read-if1 c = search needs
-
--- src/dirents.rt:25:9
 returns : tie.Need-returns
-returns c = ?
+returns c =
+    let s = c .before .before .before .before .before in
+    let a = s .args in
+    let cs = parseChildren (now (a .children)) in
+    let x = entryAt (now (a .entries)) (a .i) in
+    (omega arith, s .pre .0, λ seen q.
+      let v = not-visible seen cs x (hidden-note seen x _ (c .if1 .taken) q) in
+      (entry-stays (now (a .entries)) (a .i) (written seen cs x) (s .pre .1) (v .0), v .1))
 
--- src/dirents.rt:27:9
-row-at-requires : tie.Need-row-at-requires
-row-at-requires c κs = search needs
-
--- src/dirents.rt:28:13
-child-of-requires : tie.Need-child-of-requires
-child-of-requires c κs = search needs
-
--- src/dirents.rt:28:13
-cast-r : tie.Need-cast-r
-cast-r c = search needs
-
--- src/dirents.rt:29:29
 row-at-requires-2 : tie.Need-row-at-requires-2
-row-at-requires-2 c κs = ?
+row-at-requires-2 c κs =
+    let s = c .before .before .before .before .before .before .before .before in
+    let a = s .args in
+    row-fits childSize _ (length (now (a .children))) (omega arith)
+    (child-in (now (a .entries)) (now (a .children)) (s .pre .0) (a .i) (s .pre .1) _ (c .before .row-at .ensures .0) _ (c .child-of .ensures))
 
--- src/dirents.rt:29:9
-self-of-requires : tie.Need-self-of-requires
-self-of-requires c κs = search needs
-
--- src/dirents.rt:30:8
-is-none-requires : tie.Need-is-none-requires
-is-none-requires c κs = search needs
-
--- src/dirents.rt:31:9
-same-length : tie.Need-same-length
-same-length c = search needs
-
--- src/dirents.rt:31:9
 returns-2 : tie.Need-returns-2
-returns-2 c = ?
+returns-2 c =
+    let s = c .before .before .before .before .before .before .before .before .before .before .before .before in
+    let a = s .args in
+    let cs = parseChildren (now (a .children)) in
+    let x = entryAt (now (a .entries)) (a .i) in
+    let w = c .before .before .before .before .before .row-at .ensures .0 in
+    let o = c .before .before .before .before .child-of .ensures in
+    let k = child-in (now (a .entries)) (now (a .children)) (s .pre .0) (a .i) (s .pre .1) _ w _ o in
+    let d = its-child (now (a .entries)) (now (a .children)) (a .i) _ w _ _ o k (c .before .before .before .row-at2 .ensures .0) in
+    let h = ap (λ (y : Child). isNone (y .self)) (sym d) ∙ ap isNone (sym (c .before .before .self-of .ensures)) ∙ sym (c .before .is-none .ensures) ∙ c .if2 .taken in
+    (omega arith, s .pre .0, λ seen q.
+      let v = no-self seen cs x h in
+      (entry-stays (now (a .entries)) (a .i) (written seen cs x) (s .pre .1) (v .0), v .1))
 
--- src/dirents.rt:33:22
-fid-of-requires : tie.Need-fid-of-requires
-fid-of-requires c κs = search needs
-
--- src/dirents.rt:33:8
-same-mdt-requires : tie.Need-same-mdt-requires
-same-mdt-requires c κs = search needs
-
--- src/dirents.rt:34:9
-same-length-2 : tie.Need-same-length-2
-same-length-2 c = search needs
-
--- src/dirents.rt:34:9
 returns-3 : tie.Need-returns-3
-returns-3 c = ?
+unfolding same
+returns-3 c =
+    let s = c .before .before .before .before .before .before .before .before .before .before .before .before .before .before .before in
+    let a = s .args in
+    let cs = parseChildren (now (a .children)) in
+    let x = entryAt (now (a .entries)) (a .i) in
+    let w = c .before .before .before .before .before .before .before .before .row-at .ensures .0 in
+    let o = c .before .before .before .before .before .before .before .child-of .ensures in
+    let k = child-in (now (a .entries)) (now (a .children)) (s .pre .0) (a .i) (s .pre .1) _ w _ o in
+    let d = its-child (now (a .entries)) (now (a .children)) (a .i) _ w _ _ o k (c .before .before .before .before .before .before .row-at2 .ensures .0) in
+    let g = c .before .before .before .before .before .self-of .ensures ∙ ap (λ (y : Child). y .self) d in
+    let f = its-fid (now (a .entries)) (now (a .children)) (a .i) _ w _ (c .before .before .fid-of .ensures) in
+    let h = ap₂ same (sym f) (sym g) ∙ sym (c .before .same-mdt .ensures) ∙ c .if3 .taken in
+    (omega arith, s .pre .0, λ seen q.
+      let v = agrees seen cs x h in
+      (entry-stays (now (a .entries)) (a .i) (written seen cs x) (s .pre .1) (v .0), v .1))
 
--- src/dirents.rt:36:13
-mul-a : tie.Need-mul-a
-mul-a c = search needs
-
--- src/dirents.rt:37:13
-add-e : tie.Need-add-e
-add-e c = search needs
-
--- src/dirents.rt:38:19
-sub-put-fid : tie.Need-sub-put-fid
-sub-put-fid c = search needs
-
--- src/dirents.rt:38:19
-part-put-fid-start : tie.Need-part-put-fid-start
-part-put-fid-start c = search needs
-
--- src/dirents.rt:38:19
-part-put-fid-end : tie.Need-part-put-fid-end
-part-put-fid-end c = search needs
-
--- src/dirents.rt:38:5
-put-fid-requires : tie.Need-put-fid-requires
-put-fid-requires c κs = search needs
-
--- src/dirents.rt:17:1
-same-length-3 : tie.Need-same-length-3
-same-length-3 c = search needs
-
--- src/dirents.rt:17:1
 returns-4 : tie.Need-returns-4
-returns-4 c = ?
+unfolding same
+returns-4 c =
+    let s = c .before .before .before .before .before .before .before .before .before .before .before .before .before .before .before .before .before .before .before in
+    let a = s .args in
+    let cs = parseChildren (now (a .children)) in
+    let x = entryAt (now (a .entries)) (a .i) in
+    let w = c .before .before .before .before .before .before .before .before .before .before .before .before .row-at .ensures .0 in
+    let o = c .before .before .before .before .before .before .before .before .before .before .before .child-of .ensures in
+    let k = child-in (now (a .entries)) (now (a .children)) (s .pre .0) (a .i) (s .pre .1) _ w _ o in
+    let d = its-child (now (a .entries)) (now (a .children)) (a .i) _ w _ _ o k (c .before .before .before .before .before .before .before .before .before .before .row-at2 .ensures .0) in
+    let g = c .before .before .before .before .before .before .before .before .before .self-of .ensures ∙ ap (λ (y : Child). y .self) d in
+    let f = its-fid (now (a .entries)) (now (a .children)) (a .i) _ w _ (c .before .before .before .before .before .before .fid-of .ensures) in
+    let n = ap isNone (sym g) ∙ sym (c .before .before .before .before .before .before .before .before .is-none .ensures) ∙ c .before .before .before .before .before .before .before .if2 .left in
+    let h = ap₂ same (sym f) (sym g) ∙ sym (c .before .before .before .before .before .same-mdt .ensures) ∙ c .before .before .before .before .if3 .left in
+    let r = c .before .before .before .before .before .before .before .before .before .self-of .ok in
+    let t = fid-stored (now (a .entries)) (now (a .children)) (s .pre .0) (a .i) (s .pre .1) (c .before .before .before .before .before .before .before .before .before .self-of .result) (record { seq = omega (arith, r); oid = omega (arith, r); ver = omega (arith, r) }) _ (c .before .before .put-fid .ensures) in
+    (omega arith, t .1, λ seen q.
+      let v = wins seen cs x (visible-note seen x _ (c .before .before .before .before .before .before .before .before .before .before .before .before .before .before .if1 .left) q) n h in
+      (t .0 ∙ fid-wins (now (a .entries)) (a .i) x _ _ g ∙ ap (set (parseEntries (now (a .entries))) (a .i)) (v .0), v .1))
 
 pub write-fid-spec : {M : Type 1} → statement M
 write-fid-spec =
     tie.close
     (tie.spec
-    shared-slice-read-if1
+    (λ c. search needs)
     returns
-    row-at-requires
-    child-of-requires
-    cast-r
+    (λ c κs. search needs)
+    (λ c κs. search needs)
+    (λ c. search needs)
     row-at-requires-2
-    self-of-requires
-    is-none-requires
-    same-length
+    (λ c κs. search needs)
+    (λ c κs. search needs)
+    (λ c. search needs)
     returns-2
-    fid-of-requires
-    same-mdt-requires
-    same-length-2
+    (λ c κs. search needs)
+    (λ c κs. search needs)
+    (λ c. search needs)
     returns-3
-    mul-a
-    add-e
-    sub-put-fid
-    part-put-fid-start
-    part-put-fid-end
-    put-fid-requires
-    same-length-3
+    (λ c. search needs)
+    (λ c. search needs)
+    (λ c. search needs)
+    (λ c. search needs)
+    (λ c. search needs)
+    (λ c κs. search needs)
+    (λ c. search needs)
     returns-4)

@@ -10,25 +10,7 @@ use Rattle.names_fids.proofs.NotedLaws.{note-visible, note-hidden}
 use borrow.Author.Needs.{needs}
 use Rattle.names_fids.proofs.notes.note_of.Statement.{statement}
 use Rattle.names_fids.proofs.notes.note_of.Tie as tie
-use Rattle.names_fids.proofs.notes.note_of.Reads as reads
-use Rattle.names_fids.proofs.notes.note_of.Lts as lts
-use Rattle.names.proofs.rows.parent_of.Reads as parent-of-reads
-use Rattle.names_marks.proofs.marked.seen.Reads as seen-reads
-use Rattle.tables.proofs.rows.row_at.Reads as row-at-reads
 
--- src/notes.rt:26:9
-row-at-requires : tie.Need-row-at-requires
-row-at-requires c κs = search needs
-
--- src/notes.rt:27:48
-parent-of-requires : tie.Need-parent-of-requires
-parent-of-requires c κs = search needs
-
--- src/notes.rt:27:8
-seen-requires : tie.Need-seen-requires
-seen-requires c κs = search needs
-
--- src/notes.rt:28:9
 returns : tie.Need-returns
 unfolding entryAt
 returns c =
@@ -37,7 +19,6 @@ returns c =
     let p = c .before .before .parent-of .ensures ∙ ap (λ (l : List ℕ). decodeEntry l .parent) (c .before .before .before .row-at .ensures .0) in
     note-visible v (entryAt (now (a .entries)) (a .i)) 0 (ap v (sym p) ∙ sym (c .before .seen .ensures) ∙ c .if1 .taken)
 
--- src/notes.rt:15:1
 returns-2 : tie.Need-returns-2
 unfolding entryAt
 returns-2 c =
@@ -48,4 +29,4 @@ returns-2 c =
 
 pub note-of-spec : {M : Type 1} → statement M
 note-of-spec =
-    tie.close (tie.spec row-at-requires parent-of-requires seen-requires returns returns-2)
+    tie.close (tie.spec (λ c κs. search needs) (λ c κs. search needs) (λ c κs. search needs) returns returns-2)

@@ -12,39 +12,13 @@ use Rattle.names_fids.proofs.NotedLaws.{hidden-note, visible-note}
 use Rattle.names_fids.proofs.SelvesLaws.{not-visible, no-fid, has-self, takes, its-fid, its-row, its-child, self-stored, self-of-entry}
 use Rattle.names_fids.proofs.selves.take_self.Statement.{statement}
 use Rattle.names_fids.proofs.selves.take_self.Tie as tie
-use Rattle.names_fids.proofs.selves.take_self.Reads as reads
-use Rattle.names_fids.proofs.selves.take_self.Lts as lts
-use Rattle.names.proofs.rows.child_of.Reads as child-of-reads
-use Rattle.names.proofs.rows.fid_of.Reads as fid-of-reads
-use Rattle.names.proofs.rows.is_none.Reads as is-none-reads
-use Rattle.names.proofs.rows.put_self.Reads as put-self-reads
-use Rattle.names.proofs.rows.self_of.Reads as self-of-reads
-use Rattle.tables.proofs.rows.row_at.Reads as row-at-reads
 
--- src/selves.rt:24:8
-shared-slice-read-if1 : tie.Need-shared-slice-read-if1
-shared-slice-read-if1 c = search needs
-
--- src/selves.rt:25:9
 returns : tie.Need-returns
 returns c =
     let s = c .before .before .before .before .before in
     let a = s .args in
     (omega arith, s .pre .0, λ seen q. not-visible seen (parseChildren (now (a .children))) (entryAt (now (a .entries)) (a .i)) (hidden-note seen (entryAt (now (a .entries)) (a .i)) _ (c .if1 .taken) q))
 
--- src/selves.rt:27:9
-row-at-requires : tie.Need-row-at-requires
-row-at-requires c κs = search needs
-
--- src/selves.rt:28:9
-fid-of-requires : tie.Need-fid-of-requires
-fid-of-requires c κs = search needs
-
--- src/selves.rt:29:8
-is-none-requires : tie.Need-is-none-requires
-is-none-requires c κs = search needs
-
--- src/selves.rt:30:9
 returns-2 : tie.Need-returns-2
 returns-2 c =
     let s = c .before .before .before .before .before .before .before .before .before in
@@ -52,15 +26,6 @@ returns-2 c =
     let f = its-fid (now (a .entries)) (now (a .children)) (a .i) _ (c .before .before .before .row-at .ensures .0) _ (c .before .before .fid-of .ensures) in
     (omega arith, s .pre .0, λ seen q. no-fid seen (parseChildren (now (a .children))) (entryAt (now (a .entries)) (a .i)) (ap isNone (sym f) ∙ sym (c .before .is-none .ensures) ∙ c .if2 .taken))
 
--- src/selves.rt:32:13
-child-of-requires : tie.Need-child-of-requires
-child-of-requires c κs = search needs
-
--- src/selves.rt:32:13
-cast-r : tie.Need-cast-r
-cast-r c = search needs
-
--- src/selves.rt:33:9
 row-at-requires-2 : tie.Need-row-at-requires-2
 row-at-requires-2 c κs =
     let s = c .before .before .before .before .before .before .before .before .before .before .before in
@@ -68,19 +33,6 @@ row-at-requires-2 c κs =
     row-fits childSize _ (length (now (a .children))) (omega arith)
     (child-in (now (a .entries)) (now (a .children)) (s .pre .0) (a .i) (s .pre .1) _ (c .before .before .before .before .before .row-at .ensures .0) _ (c .before .child-of .ensures))
 
--- src/selves.rt:34:23
-self-of-requires : tie.Need-self-of-requires
-self-of-requires c κs = search needs
-
--- src/selves.rt:34:9
-is-none-requires-2 : tie.Need-is-none-requires-2
-is-none-requires-2 c κs = search needs
-
--- src/selves.rt:35:9
-same-length : tie.Need-same-length
-same-length c = search needs
-
--- src/selves.rt:35:9
 returns-3 : tie.Need-returns-3
 returns-3 c =
     let s = c .before .before .before .before .before .before .before .before .before .before .before .before .before .before .before in
@@ -91,23 +43,6 @@ returns-3 c =
     let h = ap (λ (x : Child). isNone (x .self)) (sym d) ∙ ap isNone (sym (c .before .before .self-of .ensures)) ∙ sym (c .before .is-none2 .ensures) ∙ not-true _ (c .if3 .taken) in
     (omega arith, s .pre .0, λ seen q. has-self seen (parseChildren (now (a .children))) (entryAt (now (a .entries)) (a .i)) h)
 
--- src/selves.rt:37:13
-mul-a : tie.Need-mul-a
-mul-a c = search needs
-
--- src/selves.rt:38:13
-add-e : tie.Need-add-e
-add-e c = search needs
-
--- src/selves.rt:39:20
-sub-put-self : tie.Need-sub-put-self
-sub-put-self c = search needs
-
--- src/selves.rt:39:20
-part-put-self-start : tie.Need-part-put-self-start
-part-put-self-start c = search needs
-
--- src/selves.rt:39:20
 part-put-self-end : tie.Need-part-put-self-end
 part-put-self-end c =
     let s = c .before .before .before .before .before .before .before .before .before .before .before .before .before .before .before in
@@ -115,15 +50,6 @@ part-put-self-end c =
     row-fits childSize _ (length (now (a .children))) (omega arith)
     (child-in (now (a .entries)) (now (a .children)) (s .pre .0) (a .i) (s .pre .1) _ (c .before .before .before .before .before .before .before .before .before .row-at .ensures .0) _ (c .before .before .before .before .before .child-of .ensures))
 
--- src/selves.rt:39:5
-put-self-requires : tie.Need-put-self-requires
-put-self-requires c κs = search needs
-
--- src/selves.rt:17:1
-same-length-2 : tie.Need-same-length-2
-same-length-2 c = search needs
-
--- src/selves.rt:17:1
 returns-4 : tie.Need-returns-4
 returns-4 c =
     let s = c .before .before .before .before .before .before .before .before .before .before .before .before .before .before .before .before .before .before .before in
@@ -146,24 +72,24 @@ pub take-self-spec : {M : Type 1} → statement M
 take-self-spec =
     tie.close
     (tie.spec
-    shared-slice-read-if1
+    (λ c. search needs)
     returns
-    row-at-requires
-    fid-of-requires
-    is-none-requires
+    (λ c κs. search needs)
+    (λ c κs. search needs)
+    (λ c κs. search needs)
     returns-2
-    child-of-requires
-    cast-r
+    (λ c κs. search needs)
+    (λ c. search needs)
     row-at-requires-2
-    self-of-requires
-    is-none-requires-2
-    same-length
+    (λ c κs. search needs)
+    (λ c κs. search needs)
+    (λ c. search needs)
     returns-3
-    mul-a
-    add-e
-    sub-put-self
-    part-put-self-start
+    (λ c. search needs)
+    (λ c. search needs)
+    (λ c. search needs)
+    (λ c. search needs)
     part-put-self-end
-    put-self-requires
-    same-length-2
+    (λ c κs. search needs)
+    (λ c. search needs)
     returns-4)

@@ -13,9 +13,6 @@ use Rattle.names_fids.proofs.NotedLaws.{note-at}
 use Rattle.names_fids.proofs.SelvesLaws.{sweptFrom, takenFrom, swept-start, swept-next, swept-end}
 use Rattle.names_fids.proofs.selves.take_selves.Statement.{statement}
 use Rattle.names_fids.proofs.selves.take_selves.Tie as tie
-use Rattle.names_fids.proofs.selves.take_selves.Reads as reads
-use Rattle.names_fids.proofs.selves.take_selves.Lts as lts
-use Rattle.names_fids.proofs.selves.take_self.Reads as take-self-reads
 
 abbrev Inv-loop : tie.InvT-loop
 Inv-loop entries children₀ notes count n₀ i₀ children n i = (i ≤ count) × (n ≤ i) × (length children ≡ length children₀) × SoundNames entries children
@@ -26,30 +23,15 @@ Inv-loop entries children₀ notes count n₀ i₀ children n i = (i ≤ count) 
 abbrev μ-loop : tie.MeasureT-loop
 μ-loop entries children₀ notes count n₀ i₀ children n i = count - i
 
--- src/selves.rt:53:5
 loop-holds : tie.Need-loop-holds Inv-loop μ-loop
 loop-holds c =
     let s = c .before .before .before in
     let a = s .args in
     (omega arith, omega arith, omega arith, s .pre .0, λ seen q. swept-start seen (now (a .entries)) (parseChildren (now (a .children))))
 
--- src/selves.rt:54:17
 take-self-requires : tie.Need-take-self-requires Inv-loop μ-loop
 take-self-requires c κs = (c .before .before .loop .inv .3, omega arith, omega arith)
 
--- src/selves.rt:54:13
-add-n : tie.Need-add-n Inv-loop μ-loop
-add-n c = omega arith
-
--- src/selves.rt:53:9
-add-i : tie.Need-add-i Inv-loop μ-loop
-add-i c = omega arith
-
--- src/selves.rt:53:5
-loop-less : tie.Need-loop-less Inv-loop μ-loop
-loop-less c = omega arith
-
--- src/selves.rt:53:5
 loop-again : tie.Need-loop-again Inv-loop μ-loop
 loop-again c =
     let l = c .before .before .before .before .before in
@@ -61,11 +43,6 @@ loop-again c =
       (t .2 seen (note-at seen (now (a .entries)) (now (a .notes)) (l .loop .i) (omega arith) q)) in
       (i .0 ∙ k .0, i .1 ∙ k .1))
 
--- src/selves.rt:44:1
-same-length : tie.Need-same-length Inv-loop μ-loop
-same-length c = omega arith
-
--- src/selves.rt:44:1
 returns : tie.Need-returns Inv-loop μ-loop
 returns c =
     let l = c .before in
@@ -83,9 +60,9 @@ take-selves-spec =
     μ-loop
     loop-holds
     take-self-requires
-    add-n
-    add-i
-    loop-less
+    (λ c. omega arith)
+    (λ c. omega arith)
+    (λ c. omega arith)
     loop-again
-    same-length
+    (λ c. omega arith)
     returns)
