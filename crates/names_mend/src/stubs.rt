@@ -11,22 +11,6 @@ ghost use Rattle.names.specs.Sweeps.{sweep3, sweep4, removals};
 ghost use Rattle.names_marks.specs.Directories.{IndexedUnder};
 ghost use Rattle.names_store.specs.Notes.{Noted};
 ghost use Rattle.names_mend.specs.ByChild.{ByChild};
-ghost use Rattle.names_mend.specs.Stubs.{appendsOf};
-
-pub struct Swept {
-    pub count: usize,
-    pub reached: usize,
-    pub full: bool,
-}
-
-pub fn append_all(entries: &[u8], children: &mut [u8], notes: &[u8]) -> Swept
-    requires { ⌜ SoundNames (now entries) (now children) × (length (now entries) / entrySize ≤ length (now notes)) ⌝ }
-    ensures { λ x. ⌜ SoundNames (now (entries .entry)) (now (children .exit))
-        × ((seen : MdtFid → Bool) → Noted seen (now (entries .entry)) (now (notes .entry)) →
-        appendsOf (parseChildren (now (children .exit))) x ≡ sweep3 seen (parseEntries (now (entries .entry))) (parseChildren (now (children .entry))) 0 0) ⌝ }
-{
-    Swept { count: 0, reached: 0, full: false }
-}
 
 pub fn index_entries(entries: &[u8], index: &mut [u8], room: &mut [u8])
     requires { ⌜ (length (now entries) / entrySize ≤ maxRows) × (placeSize * (length (now entries) / entrySize) ≤ length (now index)) × (placeSize * (length (now entries) / entrySize) ≤ length (now room)) ⌝ }

@@ -1,7 +1,6 @@
 // The sweeps one after the other.
 use super::Mending;
 use super::ready;
-use super::stubs::append_all;
 use super::stubs::prune;
 use names_fids::dirents;
 use names_fids::selves;
@@ -64,7 +63,7 @@ fn sweep(
 {
     let taken = selves::take_selves(entries, children, notes);
     let written = dirents::write_fids(entries, children, notes);
-    let swept = append_all(entries, children, notes);
+    let swept = names_append::append_all(entries, children, notes);
     let removed = remove(swept.full, entries, children, marks, index, n, notes);
     Mending {
         taken: taken,

@@ -1,7 +1,7 @@
 use mathlib.Core.Path.{_≡_, sym, ap, subst, _∙_}
 use native.Mathlib.Omega.{arith}
 use denote.Ref.{now}
-use Rattle.names_mend.specs.Stubs.{appendsOf}
+use Rattle.names_append.specs.Asking.{appendsOf}
 use Rattle.names_mend.proofs.SweepLaws.{third-ready, all-swept}
 use borrow.Author.Needs.{needs}
 use Rattle.names_mend.proofs.sweeps.sweep.Statement.{statement}
@@ -10,7 +10,6 @@ use Rattle.names_mend.proofs.sweeps.sweep.Reads as reads
 use Rattle.names_mend.proofs.sweeps.sweep.Lts as lts
 use Rattle.names_fids.proofs.dirents.write_fids.Reads as write-fids-reads
 use Rattle.names_fids.proofs.selves.take_selves.Reads as take-selves-reads
-use Rattle.names_mend.proofs.stubs.append_all.Reads as append-all-reads
 use Rattle.names_mend.proofs.sweeps.remove.Reads as remove-reads
 
 -- src/sweeps.rt:65:9
