@@ -17,7 +17,7 @@ use Rattle.names_store.specs.Notes.{Noted}
 use Rattle.names_mend.specs.Ready.{Ready}
 use Rattle.names_mend.specs.declared.Mending.{Mending}
 use Rattle.names_mend.specs.Mending.{answerOf, reportBy, mendedBy}
-use Rattle.names_mend.proofs.MarksKept.{SelvesStay, stays-keeps}
+use Rattle.names_marks.proofs.MarksKept.{SelvesStay, stays-keeps}
 use Rattle.names_mend.proofs.ReadyLaws.{noted-kept, same-seen, ready-kept}
 
 -- the self FIDs after sweep 3

@@ -1,7 +1,7 @@
 use native.Mathlib.Omega.{arith}
 use denote.Ref.{now}
 use Rattle.names.specs.Rows.{parseChildren}
-use Rattle.names_mend.proofs.MarksKept.{marks-many}
+use Rattle.names_marks.proofs.MarksKept.{marks-many}
 use borrow.Author.Needs.{needs}
 use Rattle.names_mend.proofs.sweeps.mend.Statement.{statement}
 use Rattle.names_mend.proofs.sweeps.mend.Tie as tie

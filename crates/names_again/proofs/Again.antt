@@ -1,0 +1,1 @@
+-- A mending of tables that pass leaves tables that pass. Assumes nothing.

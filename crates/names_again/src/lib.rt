@@ -1,0 +1,1 @@
+// No code: tables that were accepted are accepted again after a mending, and the proof.
