@@ -1,3 +1,4 @@
 pub mod ByChild
 pub mod Ready
 pub mod Mending
+pub mod Refusals
