@@ -1,1 +1,3 @@
 pub mod ByChildLaws
+pub mod RecordLaws
+pub mod FlagLaws
