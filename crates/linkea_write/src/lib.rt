@@ -137,7 +137,7 @@ pub fn refused_given(h: LinkHeader, numbers: &[u64], names: &[u8]) -> bool
 }
 
 // Writes a header over the first bytes.
-fn write_header(dest: &mut [u8], h: LinkHeader)
+pub fn write_header(dest: &mut [u8], h: LinkHeader)
     requires { ⌜ linkHeader ≤ length (now dest) ⌝ }
     ensures { λ _. ⌜ now (dest .exit) ≡ sets (now (dest .entry)) 0 (encodeLinkHeader h) ⌝ }
 {

@@ -4,7 +4,7 @@ use mathlib.Core.Bool.{cond}
 use mathlib.Core.List.{List, [], _∷_, _++_}
 use lib.Dec.{eqb}
 use Rattle.linkea.specs.Link.{Link, LinkEA}
-use Rattle.names.specs.Rows.{Child, linksOf}
+use Rattle.names.specs.Rows.{Child}
 use Rattle.names.specs.Sweeps.{startOf}
 
 -- the flag of a record that stays
