@@ -19,8 +19,7 @@ use Rattle.linkea.specs.Link.{Link}
 use Rattle.tables.specs.Check.{all}
 use Rattle.tables.proofs.AllLaws.{all-at}
 use Rattle.index.specs.Entries.{placeSize, valueRange, entries, number, wide, sorted}
-use Rattle.index.specs.Search.{Ordered, lowestOf, key, keyOf, numbersOf, listed, isKey, firstWith}
-use Rattle.index.specs.declared.Found.{Found}
+use Rattle.index.specs.Search.{Ordered, lowestOf, keyOf, numbersOf, listed, isKey, firstWith}
 use Rattle.index.specs.declared.Found.the-variants.{Nothing, Value}
 use Rattle.index.proofs.EntryLaws.{moved, wide-fits}
 use Rattle.index.proofs.OrderLaws.{sorted-ordered}

@@ -1,9 +1,15 @@
 -- What the sweep is lent: tables that pass the check, both indexes and the notes.
-use Prim.Native.Nat.{ℕ}
+use Prim.Native.Nat.{ℕ, _*_, _≤_, _<_}
+use mathlib.Core.Path.{_≡_}
+use mathlib.Core.Bool.{Bool}
 use mathlib.Core.List.{List}
-use Rattle.names.specs.Rows.{parseChildren}
+use lib.ListN.{length, take, drop}
+use Rattle.fid.specs.declared.MdtFid.{MdtFid}
+use Rattle.names.specs.Rows.{Entry, childSize, linkLength, linksOf, decodeChild, parseChildren}
 use Rattle.names.specs.Check.{SoundNames}
 use Rattle.names.specs.Visible.{seenBy}
+use Rattle.names.specs.Sweeps.{leftLinks}
+use Rattle.names_links.specs.Kept.{keptBy}
 use Rattle.names_marks.specs.Directories.{IndexedUnder}
 use Rattle.names_store.specs.Notes.{Noted}
 use Rattle.names_prune.specs.ByChild.{ByChild}
@@ -17,3 +23,13 @@ pub record Ready (entries children marks index : List ℕ) (n : ℕ) (places not
 -- places for the flags of a linkEA: one for each record, and more than fit in the room
 abbrev pub flagRoom : ℕ
 flagRoom = 256
+
+-- the bytes of child row r
+unfoldable pub childBytes : List ℕ → ℕ → List ℕ
+childBytes children r = take childSize (drop (childSize * r) children)
+
+-- flags that say of each record of child row r whether it stays
+pub record Flags (seen : MdtFid → Bool) (es : List Entry) (r : ℕ) (row flags : List ℕ) : Type 0 where
+  pub linked : 0 < linkLength row
+  pub stay : keptBy flags (linksOf (decodeChild row)) ≡ leftLinks seen es r (decodeChild row)
+  pub few : length (linksOf (decodeChild row)) ≤ flagRoom

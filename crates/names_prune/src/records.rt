@@ -88,7 +88,18 @@ fn flag_of(
     let a = p + NAME_AT;
     let e = p + size;
     if must_go(
-        entries, children, marks, index, n, places, notes, r, l, k, parent, &l[a..e],
+        entries,
+        children,
+        marks,
+        index,
+        n,
+        places,
+        notes,
+        r,
+        l,
+        k,
+        parent,
+        &l[a..e],
     ) {
         return 0;
     }
@@ -117,7 +128,19 @@ pub fn flag(
     let mut k = 0usize;
     let mut gone = 0usize;
     while at < l.len() {
-        let stays = flag_of(entries, children, marks, index, n, places, notes, r, l, at, k);
+        let stays = flag_of(
+            entries,
+            children,
+            marks,
+            index,
+            n,
+            places,
+            notes,
+            r,
+            l,
+            at,
+            k,
+        );
         flags[k] = stays;
         gone += 1 - stays as usize;
         k += 1;

@@ -1,10 +1,7 @@
-use mathlib.Core.Path.{sym, ap, _∙_}
-use mathlib.Core.List.{List}
-use Prim.Native.Nat.{ℕ}
+use mathlib.Core.Path.{sym, _∙_}
 use native.Mathlib.Omega.{arith}
 use borrow.Author.Tests.{not-true, not-false}
 use denote.Ref.{now}
-use Rattle.names.specs.Rows.{decodeEntry}
 use Rattle.names_check.specs.Asked.{asked}
 use Rattle.names_prune.proofs.ByChildLaws.{row-name, named-past, named-elsewhere, named-there-by}
 use borrow.Author.Needs.{needs}

@@ -1,8 +1,8 @@
 use mathlib.Core.Path.{_≡_, ap, _∙_}
-use Prim.Native.Nat.{ℕ, _+_, _-_, _<_}
+use Prim.Native.Nat.{ℕ, _+_, _-_}
 use native.Mathlib.Omega.{arith}
 use denote.Ref.{now}
-use lib.ListN.{length, take, length-set}
+use lib.ListN.{length, length-set}
 use Rattle.linkea.specs.Link.{decodeLinkEA, linkAt}
 use Rattle.linkea.proofs.PlaceLaws.{GoodRecord, good-record, good-here}
 use Rattle.linkea.proofs.RecordLaws.{length-read}
