@@ -19,7 +19,7 @@ use Rattle.names.specs.Sweeps.{startOf, kept, leftLinks, gone, pruned, sweep4, 
 use Rattle.names.proofs.SoundLaws.{parsed-child, link-at}
 use Rattle.names_links.specs.Kept.{keptBy, linkedBy}
 use Rattle.names_store.specs.Notes.{Noted}
-use Rattle.names_prune.specs.Ready.{Ready, flagRoom, childBytes, Flags}
+use Rattle.names_prune.specs.Ready.{Ready, flagRoom, Told, childBytes, Flags}
 use Rattle.names_prune.proofs.StoredLaws.{row-size, row-back, child-stored, sound-stored, seen-stays, indexed-stays}
 
 -- ## The records of a row
@@ -62,15 +62,14 @@ module _ (seen : MdtFid → Bool) (es : List Entry) (r : ℕ) (row flags : List 
     links-are : linksOf (decodeChild row) ≡ decodeLinkEA l .links
     links-are = some-links row k ∙ ap (λ (x : List ℕ). decodeLinkEA x .links) (sym p)
 
-    pub some-flagged : keptBy flags (decodeLinkEA l .links) ≡ kept seen es r [] (decodeLinkEA l .links) →
-        g ≡ length (decodeLinkEA l .links) - length (kept seen es r [] (decodeLinkEA l .links)) → length (decodeLinkEA l .links) ≤ flagRoom →
+    pub some-flagged : Told seen es r (decodeLinkEA l .links) flags g →
         (g ≡ gone seen es r (decodeChild row)) × (g ≤ flagRoom) × (0 < g → Flags seen es r row flags)
     unfolding gone leftLinks
-    some-flagged a b d =
-        let z : g ≡ length (linksOf (decodeChild row)) - length (kept seen es r [] (linksOf (decodeChild row))) = rw links-are b in (
+    some-flagged t =
+        let z : g ≡ length (linksOf (decodeChild row)) - length (kept seen es r [] (linksOf (decodeChild row))) = rw links-are (t .count) in (
           rw h z,
-          omega arith,
-          λ q. record { linked = omega (arith, k); stay = rw links-are a; few = rw links-are d },
+          omega (arith, t .count, t .few),
+          λ q. record { linked = omega (arith, k); stay = rw links-are (t .stay); few = rw links-are (t .few) },
         )
 
 -- ## One child

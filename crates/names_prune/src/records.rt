@@ -9,18 +9,16 @@ use names_check::links;
 use names_marks::marked;
 ghost use mathlib.Core.Path.{_≡_};
 ghost use mathlib.Core.Bool.{not, false};
-ghost use mathlib.Core.List.{[]};
-ghost use Prim.Native.Nat.{_-_, _≤_, _<_};
+ghost use Prim.Native.Nat.{_≤_, _<_};
 ghost use lib.ListN.{length, take};
 ghost use Rattle.linkea.specs.Link.{decodeLinkEA, linkAt};
 ghost use Rattle.linkea.specs.Conditions.{badRecord, refusedLink};
 ghost use Rattle.names.specs.Rows.{linkRoom, parseEntries, parseChildren};
 ghost use Rattle.names.specs.Findings.{any, sameLink};
 ghost use Rattle.names.specs.Visible.{seenBy};
-ghost use Rattle.names.specs.Sweeps.{one, goes, kept};
+ghost use Rattle.names.specs.Sweeps.{one, goes};
 ghost use Rattle.names_check.specs.Asked.{asked};
-ghost use Rattle.names_links.specs.Kept.{keptBy};
-ghost use Rattle.names_prune.specs.Ready.{Ready, flagRoom};
+ghost use Rattle.names_prune.specs.Ready.{Ready, flagRoom, Told};
 
 // Whether one of the first k records of a linkEA has a directory and a name.
 fn stands_before(l: &[u8], k: usize, parent: MdtFid, name: &[u8]) -> bool
@@ -120,9 +118,7 @@ pub fn flag(
     flags: &mut [u8],
 ) -> usize
     requires { ⌜ Ready (now entries) (now children) (now marks) (now index) n (now places) (now notes) × (refusedLink (now l) ≡ false) × (length (now l) ≤ linkRoom) × (flagRoom ≤ length (now flags)) ⌝ }
-    ensures { λ g. ⌜ (keptBy (now (flags .exit)) (decodeLinkEA (now (l .entry)) .links) ≡ kept (seenBy (now (marks .entry)) (parseChildren (now (children .entry)))) (parseEntries (now (entries .entry))) r [] (decodeLinkEA (now (l .entry)) .links))
-        × (g ≡ length (decodeLinkEA (now (l .entry)) .links) - length (kept (seenBy (now (marks .entry)) (parseChildren (now (children .entry)))) (parseEntries (now (entries .entry))) r [] (decodeLinkEA (now (l .entry)) .links)))
-        × (length (decodeLinkEA (now (l .entry)) .links) ≤ flagRoom) ⌝ }
+    ensures { λ g. ⌜ Told (seenBy (now (marks .entry)) (parseChildren (now (children .entry)))) (parseEntries (now (entries .entry))) r (decodeLinkEA (now (l .entry)) .links) (now (flags .exit)) g ⌝ }
 {
     let mut at = LINK_HEADER;
     let mut k = 0usize;

@@ -66,7 +66,7 @@ returns-3 c =
     some-flagged (seenBy (now (a .marks)) (parseChildren (now (a .children)))) (parseEntries (now (a .entries))) (a .r) (childBytes (now (a .children)) (a .r)) _
     (ap (λ (l : List ℕ). isNone (decodeChild l .self)) (sym (row d)) ∙ ap isNone (sym (i .before .before .before .before .self-of .ensures))
     ∙ sym (i .before .before .before .is-none .ensures) ∙ i .before .before .if1 .left)
-    (λ e. i .if2 .left (i .before .link-len .ensures ∙ ap linkLength (row d) ∙ e)) _ (g .link-of .ensures .0 ∙ ap linkBytes (row d)) _ (f .ensures .0) (f .ensures .1) (f .ensures .2)
+    (λ e. i .if2 .left (i .before .link-len .ensures ∙ ap linkLength (row d) ∙ e)) _ (g .link-of .ensures .0 ∙ ap linkBytes (row d)) _ (f .ensures)
 
 pub flag-child-spec : {M : Type 1} → statement M
 flag-child-spec =

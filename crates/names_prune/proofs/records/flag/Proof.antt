@@ -92,7 +92,7 @@ returns c =
     let e = walked-end l (w .loop .k) (w .loop .at) (w .loop .inv .0) (omega arith) in
     let f = flagged-end (seenBy (now (a .marks)) (parseChildren (now (a .children)))) (parseEntries (now (a .entries))) (a .r) (decodeLinkEA l .links) (w .loop .k) (w .loop .gone)
     (w .loop .flags) e (w .loop .inv .1) in
-    (f .0, f .1, omega (arith, e, w .loop .inv .0))
+    record { stay = f .0; count = f .1; few = omega (arith, e, w .loop .inv .0) }
 
 pub flag-spec : {M : Type 1} → statement M
 flag-spec =
