@@ -28,7 +28,7 @@ pub fn same_name(a: &[u8], b: &[u8]) -> bool
 }
 
 // Whether the good record at a place has a directory and a name.
-fn is_link(l: &[u8], p: usize, parent: MdtFid, name: &[u8]) -> bool
+pub fn is_link(l: &[u8], p: usize, parent: MdtFid, name: &[u8]) -> bool
     requires { ⌜ (p < length (now l)) × (badRecord (now l) p ≡ false) ⌝ }
     ensures { λ r. ⌜ r ≡ sameLink (asked parent (now (name .entry))) (linkAt (now (l .entry)) p) ⌝ }
 {

@@ -19,7 +19,7 @@ use Rattle.names_marks.specs.Directories.{IndexedUnder, Keeps}
 use Rattle.names_marks.proofs.KeepLaws.{numbers-same, seen-same}
 use Rattle.names_judge.specs.Listed.{childNumbers}
 use Rattle.names_store.specs.Notes.{noteOf, Noted}
-use Rattle.names_mend.specs.ByChild.{entryKey, entryNumbers, ByChild}
+use Rattle.names_prune.specs.ByChild.{entryKey, entryNumbers, ByChild}
 use Rattle.names_mend.specs.Ready.{entriesAt, Ready}
 
 -- a list whose front and rest are written anew, one after the other

@@ -1,4 +1,3 @@
-pub mod ByChild
 pub mod Ready
 pub mod Mending
 pub mod Refusals

@@ -6,7 +6,7 @@ use Rattle.index.specs.Entries.{placeSize}
 use Rattle.names.specs.Rows.{entrySize, childSize, parseChildren}
 use Rattle.names.specs.Visible.{seenBy}
 use Rattle.names_marks.specs.Directories.{IndexedUnder}
-use Rattle.names_mend.specs.ByChild.{ByChild}
+use Rattle.names_prune.specs.ByChild.{ByChild}
 use Rattle.names_store.specs.Notes.{Noted}
 
 -- where the index of the entries begins: behind a place for each child row

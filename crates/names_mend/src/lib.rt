@@ -1,7 +1,6 @@
 // The mending under marks, and the pass: judging, then mending under its marks.
 pub mod calls;
 pub mod ready;
-pub mod stubs;
 pub mod sweeps;
 
 // What a mending did: self FIDs taken, FID-in-dirents written, records appended, records removed, the entry it stopped in front of or the

@@ -1,9 +1,9 @@
 // What a mending makes ready in the lent room: the index of directories, the index of entries behind it, and the notes.
-use super::stubs::index_entries;
 use index::PLACE_SIZE;
 use names::rows::CHILD_SIZE;
 use names_fids::notes;
 use names_marks::marked;
+use names_prune::by_child;
 ghost use mathlib.Core.Path.{_≡_};
 ghost use Prim.Native.Nat.{_+_, _*_, _/_, _≤_};
 ghost use lib.ListN.{length, take, drop};
@@ -11,7 +11,7 @@ ghost use Rattle.index.specs.Entries.{placeSize};
 ghost use Rattle.names.specs.Rows.{entrySize, childSize, parseChildren};
 ghost use Rattle.names.specs.Check.{SoundNames};
 ghost use Rattle.names_marks.specs.Directories.{IndexedUnder};
-ghost use Rattle.names_mend.specs.ByChild.{ByChild};
+ghost use Rattle.names_prune.specs.ByChild.{ByChild};
 ghost use Rattle.names_mend.specs.Ready.{entriesAt, Ready};
 
 // Where the index of the entries begins: behind a place for each child row.
@@ -37,7 +37,7 @@ fn index_both(
 {
     let at = entries_at(children);
     let n = marked::index_marked(children, marks, &mut index[..at], room);
-    index_entries(entries, &mut index[at..], room);
+    by_child::index_entries(entries, &mut index[at..], room);
     n
 }
 

@@ -1,9 +1,9 @@
 // The sweeps one after the other.
 use super::Mending;
 use super::ready;
-use super::stubs::prune;
 use names_fids::dirents;
 use names_fids::selves;
+use names_prune::prune;
 ghost use mathlib.Core.Path.{_≡_};
 ghost use mathlib.Core.Bool.{true, cond};
 ghost use Prim.Native.Nat.{_+_, _*_, _/_, _≤_};
@@ -36,7 +36,7 @@ fn remove(
         return 0;
     }
     let at = ready::entries_at(children);
-    prune(
+    prune::prune(
         entries,
         children,
         marks,

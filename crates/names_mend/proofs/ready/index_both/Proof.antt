@@ -7,7 +7,7 @@ use lib.ListN.{length, take, drop}
 use lib.Seq.{length-take-le}
 use Rattle.names.proofs.SoundLaws.{names-facts}
 use Rattle.names_marks.specs.Directories.{IndexedUnder}
-use Rattle.names_mend.specs.ByChild.{ByChild}
+use Rattle.names_prune.specs.ByChild.{ByChild}
 use Rattle.names_mend.specs.Ready.{entriesAt}
 use Rattle.names_mend.proofs.ReadyLaws.{front-fits, rest-long, both-made}
 use borrow.Author.Needs.{needs}
@@ -17,7 +17,6 @@ use Rattle.names_mend.proofs.ready.index_both.Reads as reads
 use Rattle.names_mend.proofs.ready.index_both.Lts as lts
 use Rattle.names_marks.proofs.marked.index_marked.Reads as index-marked-reads
 use Rattle.names_mend.proofs.ready.entries_at.Reads as entries-at-reads
-use Rattle.names_mend.proofs.stubs.index_entries.Reads as index-entries-reads
 
 -- src/ready.rt:38:9
 entries-at-requires : tie.Need-entries-at-requires

@@ -7,14 +7,13 @@ use lib.ListN.{length, take, drop}
 use lib.Seq.{length-take-le}
 use Rattle.wire.proofs.Splice.{drop-take-all}
 use Rattle.names_marks.specs.Directories.{IndexedUnder}
-use Rattle.names_mend.specs.ByChild.{ByChild}
+use Rattle.names_prune.specs.ByChild.{ByChild}
 use borrow.Author.Needs.{needs}
 use Rattle.names_mend.proofs.sweeps.remove.Statement.{statement}
 use Rattle.names_mend.proofs.sweeps.remove.Tie as tie
 use Rattle.names_mend.proofs.sweeps.remove.Reads as reads
 use Rattle.names_mend.proofs.sweeps.remove.Lts as lts
 use Rattle.names_mend.proofs.ready.entries_at.Reads as entries-at-reads
-use Rattle.names_mend.proofs.stubs.prune.Reads as prune-reads
 
 -- src/sweeps.rt:37:9
 returns : tie.Need-returns

@@ -1,0 +1,2 @@
+pub mod ByChild
+pub mod Ready
