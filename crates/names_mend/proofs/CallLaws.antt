@@ -6,7 +6,7 @@ use Prim.Native.Nat.{ℕ, _+_, _*_, _/_, _≤_, _<_}
 use native.Mathlib.Omega.{arith}
 use borrow.Author.Tests.{leb-true, lt-leb, le-leb, ne-eqb}
 use lib.Dec.{leb, eqb}
-use lib.ListN.{length, take}
+use lib.ListN.{length, take, length-map}
 use lib.Seq.{sets, take-at}
 use Rattle.wire.specs.Numbers.{Bytes}
 use Rattle.wire.proofs.Both.{and-first, and-second}
@@ -16,15 +16,21 @@ use Rattle.index.specs.Entries.{placeSize}
 use Rattle.fid.specs.declared.MdtFid.{MdtFid}
 use Rattle.names.specs.Rows.{Entry, Child, entrySize, childSize, childRows, parseEntries, parseChildren, renderEntries, renderChildren}
 use Rattle.names.specs.Check.{namesWhole, childrenThere, namesGood, namesTests, namesNumber, SoundNames}
-use Rattle.names.specs.Visible.{maxLevels, tooLong, judged, seenBy, goodMarks}
+use Rattle.names.specs.Visible.{maxLevels, tooLong, markOf, judged, seenBy, goodMarks}
 use Rattle.names.specs.Mend.{Mended, mended}
 use Rattle.names.specs.Calls.{Left, roomy, reportSize, reportNumbers, left, mendedBytes, mendTests, mendCall, passTests, passCall}
 use Rattle.names.proofs.SoundLaws.{children-many, parsed-children}
+use Rattle.names_check.proofs.CallLaws.{names-refused, names-accepted}
 use Rattle.names_judge.proofs.CallLaws.{room-is}
 use Rattle.names_marks.proofs.MarksKept.{judged-good}
+use Rattle.names_store.proofs.RenderBack.{entries-back, children-back}
 use Rattle.names_mend.specs.declared.Mending.{Mending}
 use Rattle.names_mend.specs.Mending.{answerOf, reportBy, mendedBy}
 use Rattle.names_mend.specs.Refusals.{placesTests}
+
+and-true : (b : Bool) → (b && true) ≡ b
+and-true true = refl
+and-true false = refl
 
 -- ## Four tests in turn
 
@@ -137,6 +143,10 @@ module _ (e c index room marks report : List ℕ) where
 
 -- ## The pass
 
+judged-many : (levels : ℕ) (c : List ℕ) → length (judged levels (parseChildren c)) ≡ length c / childSize
+unfolding judged
+judged-many levels c = length-map (parseChildren c) (markOf levels (parseChildren c)) ∙ parsed-children c
+
 module _ (e c index room marks report : List ℕ) where
   module _ (n : ℕ) (p : n ≡ namesNumber e c) where
     pub pass-tables : (n ≡ 0 → ⊥) → n ≡ firstFailing (placesTests e c index room marks report)
@@ -227,8 +237,10 @@ module _ (e c index room marks report : List ℕ) where
         marks-are = let l : tooLong maxLevels (parseChildren c) ≡ false = long-is true h in rw l at w
 
         pub judged-front : length c / childSize ≤ length marks → take (length c / childSize) new ≡ judged maxLevels (parseChildren c)
-        unfolding judged
-        judged-front k = ?
+        judged-front k =
+            let n : length (judged maxLevels (parseChildren c)) ≡ length c / childSize = judged-many maxLevels c in
+            rw (marks-are, sets-front (judged maxLevels (parseChildren c)) marks (omega arith))
+            (take-at (judged maxLevels (parseChildren c)) _ (length c / childSize) n)
 
         pub pass-done : mendedBytes (seenBy (judged maxLevels (parseChildren c)) (parseChildren c)) e c new report ≡ passCall e c index room marks report
         unfolding passCall

@@ -1,143 +1,97 @@
+use mathlib.Core.Path.{_≡_, sym, ap, subst, _∙_}
+use mathlib.Core.Bool.{true}
+use mathlib.Core.List.{List}
+use Prim.Native.Nat.{ℕ}
+use native.Mathlib.Omega.{arith}
+use borrow.Author.Tests.{not-true, not-false}
+use denote.Ref.{now}
+use lib.Seq.{length-take-le}
+use Rattle.names.specs.Rows.{parseChildren}
+use Rattle.names.specs.Visible.{maxLevels, seenBy, goodMarks}
+use Rattle.names.specs.Calls.{left, mendedBytes}
+use Rattle.names.proofs.SoundLaws.{names-facts}
+use Rattle.names_marks.proofs.MarksKept.{judged-good}
+use Rattle.names_mend.proofs.CallLaws.{pass-facts, pass-refused, pass-long, judged-front, pass-done}
 use borrow.Author.Needs.{needs}
 use Rattle.names_mend.proofs.calls.pass.Statement.{statement}
 use Rattle.names_mend.proofs.calls.pass.Tie as tie
-use Rattle.names_mend.proofs.calls.pass.Reads as reads
-use Rattle.names_mend.proofs.calls.pass.Lts as lts
-use Rattle.names_judge.proofs.judge.judge_rows.Reads as judge-rows-reads
-use Rattle.names_mend.proofs.calls.mend_told.Reads as mend-told-reads
-use Rattle.names_mend.proofs.calls.pass_number.Reads as pass-number-reads
 
--- src/calls.rt:167:9
-pass-number-requires : tie.Need-pass-number-requires
-pass-number-requires c κs = search needs
-
--- src/calls.rt:169:9
-same-length : tie.Need-same-length
-same-length c = search needs
-
--- src/calls.rt:169:9
-same-length-2 : tie.Need-same-length-2
-same-length-2 c = search needs
-
--- src/calls.rt:169:9
-same-length-3 : tie.Need-same-length-3
-same-length-3 c = search needs
-
--- src/calls.rt:169:9
-same-length-4 : tie.Need-same-length-4
-same-length-4 c = search needs
-
--- src/calls.rt:169:9
-same-length-5 : tie.Need-same-length-5
-same-length-5 c = search needs
-
--- src/calls.rt:169:9
-same-length-6 : tie.Need-same-length-6
-same-length-6 c = search needs
-
--- src/calls.rt:169:9
 returns : tie.Need-returns
-returns c = ?
+returns c =
+    let a = c .before .before .before .before .before .before .before .before .before .before .before .before .before .before .args in pass-refused (now (a .entries)) (now (a .children)) (now (a .index)) (now (a .room)) (now (a .marks)) (now (a .report)) _ (c .before .pass-number .ensures) (c .if1 .taken)
 
--- src/calls.rt:171:9
 judge-rows-requires : tie.Need-judge-rows-requires
-judge-rows-requires c κs = ?
+judge-rows-requires c κs =
+    let a = c .before .before .before .before .before .before .before .before .before .before .before .before .before .before .before .before .before .before .args in
+    let f = pass-facts (now (a .entries)) (now (a .children)) (now (a .index)) (now (a .room)) (now (a .marks)) (now (a .report)) (sym (c .before .before .before .before .before .pass-number .ensures) ∙ c .before .before .before .before .if1 .left) in
+    (names-facts (now (a .entries)) (now (a .children)) (f .sound) .children-whole .few, omega (arith, f .index-long), omega (arith, f .room-long), f .marks-long)
 
--- src/calls.rt:172:9
-same-length-7 : tie.Need-same-length-7
-same-length-7 c = search needs
-
--- src/calls.rt:172:9
-same-length-8 : tie.Need-same-length-8
-same-length-8 c = search needs
-
--- src/calls.rt:172:9
-same-length-9 : tie.Need-same-length-9
-same-length-9 c = search needs
-
--- src/calls.rt:172:9
-same-length-10 : tie.Need-same-length-10
-same-length-10 c = search needs
-
--- src/calls.rt:172:9
-same-length-11 : tie.Need-same-length-11
-same-length-11 c = search needs
-
--- src/calls.rt:172:9
-same-length-12 : tie.Need-same-length-12
-same-length-12 c = search needs
-
--- src/calls.rt:172:9
 returns-2 : tie.Need-returns-2
-returns-2 c = ?
+returns-2 c =
+    let a = c .before .before .before .before .before .before .before .before .before .before .before .before .before .before .before .before .before .before .before .before .before .before .before .before .before .before .args in
+    let k = c .before .before .before .before .before .before .before .judge-rows in
+    pass-long (now (a .entries)) (now (a .children)) (now (a .index)) (now (a .room)) (now (a .marks)) (now (a .report)) _ (c .before .before .before .before .before .before .before .before .before .before .before .before .before .pass-number .ensures) (c .before .before .before .before .before .before .before .before .before .before .before .before .if1 .left) _ _ (k .ensures .0) (k .ensures .1) (not-true _ (c .if2 .taken))
 
--- src/calls.rt:178:9
 slice-reshare-prefix-mend-told : tie.Need-slice-reshare-prefix-mend-told
-slice-reshare-prefix-mend-told c = ?
+slice-reshare-prefix-mend-told c =
+    let a = c .before .before .before .before .before .before .before .before .before .before .before .before .before .before .before .before .before .before .before .before .before .before .before .before .before .before .before .before .args in
+    let f = pass-facts (now (a .entries)) (now (a .children)) (now (a .index)) (now (a .room)) (now (a .marks)) (now (a .report)) (sym (c .before .before .before .before .before .before .before .before .before .before .before .before .before .before .before .pass-number .ensures) ∙ c .before .before .before .before .before .before .before .before .before .before .before .before .before .before .if1 .left) in
+    omega (arith, f .marks-long, c .before .before .before .before .before .before .before .before .before .judge-rows .kept .1 .1 .1 .0)
 
--- src/calls.rt:178:9
 slice-aggregate-mend-told : tie.Need-slice-aggregate-mend-told
-slice-aggregate-mend-told c = ?
+slice-aggregate-mend-told c =
+    let a = c .before .before .before .before .before .before .before .before .before .before .before .before .before .before .before .before .before .before .before .before .before .before .before .before .before .before .before .before .before .args in
+    let f = pass-facts (now (a .entries)) (now (a .children)) (now (a .index)) (now (a .room)) (now (a .marks)) (now (a .report)) (sym (c .before .before .before .before .before .before .before .before .before .before .before .before .before .before .before .before .pass-number .ensures) ∙ c .before .before .before .before .before .before .before .before .before .before .before .before .before .before .before .if1 .left) in
+    let k = c .before .before .before .before .before .before .before .before .before .before .judge-rows in
+    sym (length-take-le _ (k .last .1 .1 .1 .0) (omega (arith, f .marks-long, k .kept .1 .1 .1 .0)))
 
--- src/calls.rt:175:5
 mend-told-requires : tie.Need-mend-told-requires
-mend-told-requires c κs = ?
+mend-told-requires c κs =
+    let a = c .before .before .before .before .before .before .before .before .before .before .before .before .before .before .before .before .before .before .before .before .before .before .before .before .before .before .before .before .before .before .before .before .args in
+    let f = pass-facts (now (a .entries)) (now (a .children)) (now (a .index)) (now (a .room)) (now (a .marks)) (now (a .report)) (sym (c .before .before .before .before .before .before .before .before .before .before .before .before .before .before .before .before .before .before .before .pass-number .ensures) ∙ c .before .before .before .before .before .before .before .before .before .before .before .before .before .before .before .before .before .before .if1 .left) in
+    let k = c .before .before .before .before .before .before .before .before .before .before .before .before .before .judge-rows in
+    let m = judged-front (now (a .entries)) (now (a .children)) (now (a .index)) (now (a .room)) (now (a .marks)) (now (a .report)) _ (c .before .before .before .before .before .before .before .before .before .before .before .before .before .before .before .before .before .before .before .pass-number .ensures) (c .before .before .before .before .before .before .before .before .before .before .before .before .before .before .before .before .before .before .if1 .left) _ _ (k .ensures .0) (k .ensures .1) (not-false _ (c .before .before .before .before .before .before .if2 .left)) (f .marks-long) in
+    let cs = parseChildren (now (a .children)) in
+    (f .sound, subst (λ (l : List ℕ). goodMarks l cs ≡ true) (sym m) (judged-good maxLevels cs), omega (arith, f .index-long, k .kept .1 .0), omega (arith, f .room-long, k .kept .1 .1 .0), f .report-long)
 
--- src/calls.rt:156:1
-same-length-13 : tie.Need-same-length-13
-same-length-13 c = search needs
-
--- src/calls.rt:156:1
-same-length-14 : tie.Need-same-length-14
-same-length-14 c = search needs
-
--- src/calls.rt:156:1
-same-length-15 : tie.Need-same-length-15
-same-length-15 c = search needs
-
--- src/calls.rt:156:1
-same-length-16 : tie.Need-same-length-16
-same-length-16 c = search needs
-
--- src/calls.rt:156:1
-same-length-17 : tie.Need-same-length-17
-same-length-17 c = search needs
-
--- src/calls.rt:156:1
-same-length-18 : tie.Need-same-length-18
-same-length-18 c = search needs
-
--- src/calls.rt:156:1
 returns-3 : tie.Need-returns-3
-returns-3 c = ?
+returns-3 c =
+    let a = c .before .before .before .before .before .before .before .before .before .before .before .before .before .before .before .before .before .before .before .before .before .before .before .before .before .before .before .before .before .before .before .before .before .before .before .before .before .before .before .before .before .before .before .args in
+    let f = pass-facts (now (a .entries)) (now (a .children)) (now (a .index)) (now (a .room)) (now (a .marks)) (now (a .report)) (sym (c .before .before .before .before .before .before .before .before .before .before .before .before .before .before .before .before .before .before .before .before .before .before .before .before .before .before .before .before .before .before .pass-number .ensures) ∙ c .before .before .before .before .before .before .before .before .before .before .before .before .before .before .before .before .before .before .before .before .before .before .before .before .before .before .before .before .before .if1 .left) in
+    let k = c .before .before .before .before .before .before .before .before .before .before .before .before .before .before .before .before .before .before .before .before .before .before .before .before .judge-rows in
+    let m = judged-front (now (a .entries)) (now (a .children)) (now (a .index)) (now (a .room)) (now (a .marks)) (now (a .report)) _ (c .before .before .before .before .before .before .before .before .before .before .before .before .before .before .before .before .before .before .before .before .before .before .before .before .before .before .before .before .before .before .pass-number .ensures) (c .before .before .before .before .before .before .before .before .before .before .before .before .before .before .before .before .before .before .before .before .before .before .before .before .before .before .before .before .before .if1 .left) _ _ (k .ensures .0) (k .ensures .1) (not-false _ (c .before .before .before .before .before .before .before .before .before .before .before .before .before .before .before .before .before .if2 .left)) (f .marks-long) in
+    let cs = parseChildren (now (a .children)) in
+    c .before .before .before .before .before .before .before .before .before .before .mend-told .ensures (k .last .1 .1 .1 .0)
+    ∙ ap (λ (l : List ℕ). mendedBytes (seenBy l cs) (now (a .entries)) (now (a .children)) (k .last .1 .1 .1 .0) (now (a .report))) m
+    ∙ pass-done (now (a .entries)) (now (a .children)) (now (a .index)) (now (a .room)) (now (a .marks)) (now (a .report)) _ (c .before .before .before .before .before .before .before .before .before .before .before .before .before .before .before .before .before .before .before .before .before .before .before .before .before .before .before .before .before .before .pass-number .ensures) (c .before .before .before .before .before .before .before .before .before .before .before .before .before .before .before .before .before .before .before .before .before .before .before .before .before .before .before .before .before .if1 .left) _ _ (k .ensures .0) (k .ensures .1) (not-false _ (c .before .before .before .before .before .before .before .before .before .before .before .before .before .before .before .before .before .if2 .left))
 
 pub pass-spec : {M : Type 1} → statement M
 pass-spec =
     tie.close
     (tie.spec
-    pass-number-requires
-    same-length
-    same-length-2
-    same-length-3
-    same-length-4
-    same-length-5
-    same-length-6
+    (λ c κs. search needs)
+    (λ c. search needs)
+    (λ c. search needs)
+    (λ c. search needs)
+    (λ c. search needs)
+    (λ c. search needs)
+    (λ c. search needs)
     returns
     judge-rows-requires
-    same-length-7
-    same-length-8
-    same-length-9
-    same-length-10
-    same-length-11
-    same-length-12
+    (λ c. search needs)
+    (λ c. search needs)
+    (λ c. search needs)
+    (λ c. search needs)
+    (λ c. search needs)
+    (λ c. search needs)
     returns-2
     slice-reshare-prefix-mend-told
     slice-aggregate-mend-told
     mend-told-requires
-    same-length-13
-    same-length-14
-    same-length-15
-    same-length-16
-    same-length-17
-    same-length-18
+    (λ c. search needs)
+    (λ c. search needs)
+    (λ c. search needs)
+    (λ c. search needs)
+    (λ c. search needs)
+    (λ c. search needs)
     returns-3)

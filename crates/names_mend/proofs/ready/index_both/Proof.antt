@@ -13,28 +13,17 @@ use Rattle.names_mend.proofs.ReadyLaws.{front-fits, rest-long, both-mad
 use borrow.Author.Needs.{needs}
 use Rattle.names_mend.proofs.ready.index_both.Statement.{statement}
 use Rattle.names_mend.proofs.ready.index_both.Tie as tie
-use Rattle.names_mend.proofs.ready.index_both.Reads as reads
-use Rattle.names_mend.proofs.ready.index_both.Lts as lts
-use Rattle.names_marks.proofs.marked.index_marked.Reads as index-marked-reads
-use Rattle.names_mend.proofs.ready.entries_at.Reads as entries-at-reads
 
--- src/ready.rt:38:9
-entries-at-requires : tie.Need-entries-at-requires
-entries-at-requires c κs = search needs
-
--- src/ready.rt:39:51
 slice-relend-prefix-index-marked : tie.Need-slice-relend-prefix-index-marked
 unfolding entriesAt
 slice-relend-prefix-index-marked c =
     let a = c .before .before .before .before .before .before .args in omega (arith, c .entries-at .ensures)
 
--- src/ready.rt:39:51
 slice-aggregate-index-marked : tie.Need-slice-aggregate-index-marked
 unfolding entriesAt
 slice-aggregate-index-marked c =
     let a = c .before .before .before .before .before .before .before .args in sym (length-take-le (c .before .entries-at .result) (now (a .index)) (omega (arith, c .before .entries-at .ensures)))
 
--- src/ready.rt:39:9
 index-marked-requires : tie.Need-index-marked-requires
 unfolding entriesAt
 index-marked-requires c κs =
@@ -43,7 +32,6 @@ index-marked-requires c κs =
     let f = names-facts (now (a .entries)) (now (a .children)) (s .pre .0) in
     (f .children-whole .few, s .pre .1, omega (arith, c .before .before .entries-at .ensures, length-take-le (c .before .before .entries-at .result) (now (a .index)) (omega (arith, c .before .before .entries-at .ensures))), omega arith)
 
--- src/ready.rt:40:28
 sub-index-entries : tie.Need-sub-index-entries
 unfolding entriesAt
 sub-index-entries c =
@@ -52,7 +40,6 @@ sub-index-entries c =
     let k = c .before .before .before .before .index-marked in
     front-fits (n .result) (now (a .index)) (k .last .1 .1 .0) (k .kept .1 .1 .0 ∙ length-take-le (n .result) (now (a .index)) (omega (arith, n .ensures)))
 
--- src/ready.rt:40:28
 part-index-entries-start : tie.Need-part-index-entries-start
 unfolding entriesAt
 part-index-entries-start c =
@@ -61,11 +48,6 @@ part-index-entries-start c =
     let k = c .before .before .before .before .index-marked in
     front-fits (n .result) (now (a .index)) (k .last .1 .1 .0) (k .kept .1 .1 .0 ∙ length-take-le (n .result) (now (a .index)) (omega (arith, n .ensures)))
 
--- src/ready.rt:40:28
-part-index-entries-end : tie.Need-part-index-entries-end
-part-index-entries-end c = search needs
-
--- src/ready.rt:40:5
 index-entries-requires : tie.Need-index-entries-requires
 unfolding entriesAt
 index-entries-requires c κs =
@@ -76,15 +58,6 @@ index-entries-requires c κs =
     let k = c .before .before .before .before .before .before .index-marked in
     (f .entries-whole .few, omega (arith, n .ensures, rest-long (n .result) (now (a .index)) (k .last .1 .1 .0) (k .kept .1 .1 .0 ∙ length-take-le (n .result) (now (a .index)) (omega (arith, n .ensures)))), omega (arith, k .kept .1 .1 .1 .0))
 
--- src/ready.rt:25:1
-same-length : tie.Need-same-length
-same-length c = search needs
-
--- src/ready.rt:25:1
-same-length-2 : tie.Need-same-length-2
-same-length-2 c = search needs
-
--- src/ready.rt:25:1
 returns : tie.Need-returns
 unfolding entriesAt
 returns c =
@@ -100,14 +73,14 @@ pub index-both-spec : {M : Type 1} → statement M
 index-both-spec =
     tie.close
     (tie.spec
-    entries-at-requires
+    (λ c κs. search needs)
     slice-relend-prefix-index-marked
     slice-aggregate-index-marked
     index-marked-requires
     sub-index-entries
     part-index-entries-start
-    part-index-entries-end
+    (λ c. search needs)
     index-entries-requires
-    same-length
-    same-length-2
+    (λ c. search needs)
+    (λ c. search needs)
     returns)

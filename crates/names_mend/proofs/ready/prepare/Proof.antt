@@ -10,48 +10,23 @@ use Rattle.names_mend.specs.Ready.{entriesAt}
 use borrow.Author.Needs.{needs}
 use Rattle.names_mend.proofs.ready.prepare.Statement.{statement}
 use Rattle.names_mend.proofs.ready.prepare.Tie as tie
-use Rattle.names_mend.proofs.ready.prepare.Reads as reads
-use Rattle.names_mend.proofs.ready.prepare.Lts as lts
-use Rattle.names_fids.proofs.notes.note.Reads as note-reads
-use Rattle.names_mend.proofs.ready.entries_at.Reads as entries-at-reads
-use Rattle.names_mend.proofs.ready.index_both.Reads as index-both-reads
 
--- src/ready.rt:57:9
-index-both-requires : tie.Need-index-both-requires
-index-both-requires c κs = search needs
-
--- src/ready.rt:58:9
-entries-at-requires : tie.Need-entries-at-requires
-entries-at-requires c κs = search needs
-
--- src/ready.rt:59:43
 slice-reshare-prefix-note : tie.Need-slice-reshare-prefix-note
 unfolding entriesAt
 slice-reshare-prefix-note c =
     omega (arith, c .entries-at .ensures, c .before .before .before .before .before .index-both .kept .1 .1 .1 .0)
 
--- src/ready.rt:59:43
 slice-aggregate-note : tie.Need-slice-aggregate-note
 unfolding entriesAt
 slice-aggregate-note c =
     sym (length-take-le (c .before .entries-at .result) _ (omega (arith, c .before .entries-at .ensures, c .before .before .before .before .before .before .index-both .kept .1 .1 .1 .0)))
 
--- src/ready.rt:59:5
 note-requires : tie.Need-note-requires
 note-requires c κs =
     let k = c .before .before .before .before .before .before .before .index-both in
     let a = c .before .before .before .before .before .before .before .before .before .before .before .before .before .before .before .args in
     (subst (λ (i : ℕ). IndexedUnder (now (a .children)) (now (a .marks)) (take i (k .last .1 .1 .1 .0)) (k .result)) (sym (c .before .before .entries-at .ensures)) (k .ensures .0), omega (arith, k .kept .1 .1 .1 .1 .0))
 
--- src/ready.rt:45:1
-same-length : tie.Need-same-length
-same-length c = search needs
-
--- src/ready.rt:45:1
-same-length-2 : tie.Need-same-length-2
-same-length-2 c = search needs
-
--- src/ready.rt:45:1
 returns : tie.Need-returns
 unfolding entriesAt
 returns c =
@@ -62,11 +37,11 @@ pub prepare-spec : {M : Type 1} → statement M
 prepare-spec =
     tie.close
     (tie.spec
-    index-both-requires
-    entries-at-requires
+    (λ c κs. search needs)
+    (λ c κs. search needs)
     slice-reshare-prefix-note
     slice-aggregate-note
     note-requires
-    same-length
-    same-length-2
+    (λ c. search needs)
+    (λ c. search needs)
     returns)

@@ -11,39 +11,23 @@ use Rattle.names_prune.specs.ByChild.{ByChild}
 use borrow.Author.Needs.{needs}
 use Rattle.names_mend.proofs.sweeps.remove.Statement.{statement}
 use Rattle.names_mend.proofs.sweeps.remove.Tie as tie
-use Rattle.names_mend.proofs.sweeps.remove.Reads as reads
-use Rattle.names_mend.proofs.sweeps.remove.Lts as lts
-use Rattle.names_mend.proofs.ready.entries_at.Reads as entries-at-reads
 
--- src/sweeps.rt:37:9
 returns : tie.Need-returns
 returns c =
     let b = c .before .before .before .before .before .before in (rw (c .if1 .taken), rw (c .if1 .taken), b .pre .0)
 
--- src/sweeps.rt:39:9
-entries-at-requires : tie.Need-entries-at-requires
-entries-at-requires c κs = search needs
-
--- src/sweeps.rt:44:9
 slice-aggregate-prune : tie.Need-slice-aggregate-prune
 slice-aggregate-prune c =
     let b = c .before .before .before .before .before .before .before .before .before .before in sym (length-take-le (c .before .before .entries-at .result) (now (b .args .index)) (omega (arith, c .before .before .entries-at .ensures, b .pre .1 .index-long)))
 
--- src/sweeps.rt:46:9
 sub-prune : tie.Need-sub-prune
 sub-prune c =
     let b = c .before .before .before .before .before .before .before .before .before .before in omega (arith, c .before .before .entries-at .ensures, b .pre .1 .index-long)
 
--- src/sweeps.rt:46:9
 part-prune-start : tie.Need-part-prune-start
 part-prune-start c =
     let b = c .before .before .before .before .before .before .before .before .before .before in omega (arith, c .before .before .entries-at .ensures, b .pre .1 .index-long)
 
--- src/sweeps.rt:46:9
-part-prune-end : tie.Need-part-prune-end
-part-prune-end c = search needs
-
--- src/sweeps.rt:40:5
 prune-requires : tie.Need-prune-requires
 prune-requires c κs =
     let b = c .before .before .before .before .before .before .before .before .before .before .before in
@@ -53,11 +37,6 @@ prune-requires c κs =
     (b .pre .0, subst (λ (i : ℕ). IndexedUnder (now (a .children)) (now (a .marks)) (take i (now (a .index))) (a .n)) e (b .pre .1 .directories),
       subst (ByChild (now (a .entries))) (ap (λ (i : ℕ). drop i (now (a .index))) e ∙ sym d) (b .pre .1 .by-child), b .pre .1 .noted)
 
--- src/sweeps.rt:22:1
-same-length : tie.Need-same-length
-same-length c = search needs
-
--- src/sweeps.rt:22:1
 returns-2 : tie.Need-returns-2
 returns-2 c =
     let e = c .before .before .prune .ensures in let h = c .before .before .before .before .before .before .before .before .if1 .left in (rw h (e .0), rw h (e .1), e .2)
@@ -67,11 +46,11 @@ remove-spec =
     tie.close
     (tie.spec
     returns
-    entries-at-requires
+    (λ c κs. search needs)
     slice-aggregate-prune
     sub-prune
     part-prune-start
-    part-prune-end
+    (λ c. search needs)
     prune-requires
-    same-length
+    (λ c. search needs)
     returns-2)

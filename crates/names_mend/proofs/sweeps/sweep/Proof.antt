@@ -6,28 +6,19 @@ use Rattle.names_mend.proofs.SweepLaws.{third-ready, all-swept}
 use borrow.Author.Needs.{needs}
 use Rattle.names_mend.proofs.sweeps.sweep.Statement.{statement}
 use Rattle.names_mend.proofs.sweeps.sweep.Tie as tie
-use Rattle.names_mend.proofs.sweeps.sweep.Reads as reads
-use Rattle.names_mend.proofs.sweeps.sweep.Lts as lts
-use Rattle.names_fids.proofs.dirents.write_fids.Reads as write-fids-reads
-use Rattle.names_fids.proofs.selves.take_selves.Reads as take-selves-reads
-use Rattle.names_mend.proofs.sweeps.remove.Reads as remove-reads
 
--- src/sweeps.rt:65:9
 take-selves-requires : tie.Need-take-selves-requires
 take-selves-requires c κs =
     let b = c .before .before .before .before .before .before .before in (b .pre .0, b .pre .2 .notes-long)
 
--- src/sweeps.rt:66:9
 write-fids-requires : tie.Need-write-fids-requires
 write-fids-requires c κs =
     let b = c .before .before .before .before .before .before .before .before .before .before .before .before in (c .before .before .before .before .take-selves .ensures .0, b .pre .2 .notes-long)
 
--- src/sweeps.rt:67:9
 append-all-requires : tie.Need-append-all-requires
 append-all-requires c κs =
     let b = c .before .before .before .before .before .before .before .before .before .before .before .before .before .before .before .before .before in (c .before .before .before .before .write-fids .ensures .0, omega (arith, b .pre .2 .notes-long, c .before .before .before .before .write-fids .kept .0))
 
--- src/sweeps.rt:68:9
 remove-requires : tie.Need-remove-requires
 unfolding appendsOf
 remove-requires c κs =
@@ -39,15 +30,6 @@ remove-requires c κs =
     (c .before .before .before .before .append-all .ensures .0, third-ready (now (v .entries)) (now (v .children)) (now (v .marks)) (now (v .index)) (now (v .notes)) (v .n) (b .pre .1) (b .pre .2) (t .last .1 .0) (w .last .0) (u .last .1 .0)
     (t .kept .1 .0) (w .kept .0) (u .kept .1 .0) _ _ _ _ _ (t .ensures .1) (w .ensures .1) (u .ensures .1))
 
--- src/sweeps.rt:52:1
-same-length : tie.Need-same-length
-same-length c = search needs
-
--- src/sweeps.rt:52:1
-same-length-2 : tie.Need-same-length-2
-same-length-2 c = search needs
-
--- src/sweeps.rt:52:1
 returns : tie.Need-returns
 unfolding appendsOf
 returns c =
@@ -68,6 +50,6 @@ sweep-spec =
     write-fids-requires
     append-all-requires
     remove-requires
-    same-length
-    same-length-2
+    (λ c. search needs)
+    (λ c. search needs)
     returns)
