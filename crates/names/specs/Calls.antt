@@ -11,7 +11,7 @@ use Rattle.index.specs.Entries.{placeSize}
 use Rattle.names.specs.Rows.{entryRows, childRows, parseEntries, parseChildren, renderEntries, renderChildren}
 use Rattle.names.specs.Check.{namesWhole, childrenThere, namesGood}
 use Rattle.names.specs.Findings.{findings}
-use Rattle.names.specs.Visible.{maxLevels, tooLong, judged, seenBy, goodMarks}
+use Rattle.names.specs.Visible.{maxLevels, longClimb, tooLong, judged, seenBy, goodMarks}
 use Rattle.names.specs.Mend.{Mended, Report, mended}
 
 -- what each call leaves in what it is lent; index and room hold nothing after
@@ -36,7 +36,7 @@ module _ (entries children index room marks : List ℕ) where
   judgeTests =
       test 11 (namesWhole entries children) ∷ test 16 (childrenThere entries children) ∷ test 31 (namesGood entries children)
       ∷ test 17 (roomy entries children index && roomy entries children room && leb (length (childRows children)) (length marks))
-      ∷ test 39 (not (tooLong maxLevels (parseChildren children))) ∷ []
+      ∷ test longClimb (not (tooLong maxLevels (parseChildren children))) ∷ []
 
   unfoldable pub judgeNumber : ℕ
   judgeNumber = firstFailing judgeTests
@@ -91,14 +91,14 @@ module _ (entries children index room marks report : List ℕ) where
       cond (eqb n 0) (mendedBytes (seenBy marks (parseChildren children)) entries children marks report)
       (left n entries children marks report)
 
-  -- ## lfsck_names_pass: "judge, then mend under its marks"
+  -- ## lfsck_names_pass: judging, then mending under its marks
 
   unfoldable pub passTests : List Test
   passTests =
       test 11 (namesWhole entries children) ∷ test 16 (childrenThere entries children) ∷ test 31 (namesGood entries children)
       ∷ test 17 (roomy entries children index && roomy entries children room && leb (length (childRows children)) (length marks)
       && leb reportSize (length report))
-      ∷ test 39 (not (tooLong maxLevels (parseChildren children))) ∷ []
+      ∷ test longClimb (not (tooLong maxLevels (parseChildren children))) ∷ []
 
   unfoldable pub passCall : Left
   passCall =

@@ -53,7 +53,7 @@ sameLink x y = same (x .parent) (y .parent) && sameName (x .name) (y .name)
 unfoldable pub linkFor : Entry → Link
 linkFor e = record { parent = e .parent; name = e .name }
 
--- "A record is its entry's if parent FID and name are equal"
+-- whether a child has a record: one with the same directory and the same name
 unfoldable pub hasLink : Link → Child → Bool
 hasLink x c = any (sameLink x) (linksOf c)
 

@@ -7,8 +7,8 @@ use Rattle.names.specs.Rows.{Entry, Child}
 use Rattle.names.specs.Sweeps.{Appends, sweep1, taken, sweep2, writes, sweep3, sweep4, removals}
 
 -- "with 38"
-abbrev pub noRoom : ℕ
-noRoom = 38
+abbrev pub linkFull : ℕ
+linkFull = 38
 
 -- the numbers of a report: self FIDs taken, FID-in-dirents written, records appended, records removed, the entry it stopped in front of, else
 -- the number of entries
@@ -49,7 +49,7 @@ module _ (seen : MdtFid → Bool) (es : List Entry) (cs : List Child) where
 
   -- sweep 4, but where the pass stops: then sweeps 1 and 2 and the appends before it stand
   unfoldable pub finish : Bool → Mended
-  finish true = record { answer = noRoom; entries = second; children = third .children; report = reportOf 0 }
+  finish true = record { answer = linkFull; entries = second; children = third .children; report = reportOf 0 }
   finish false =
       record {
         answer = 0;

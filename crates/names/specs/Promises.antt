@@ -12,7 +12,7 @@ use Rattle.names.specs.Check.{SoundNames}
 use Rattle.names.specs.Findings.{same, hasLink, linkFor, fidFinding, linkFinding}
 use Rattle.names.specs.Visible.{seenBy, goodMarks}
 use Rattle.names.specs.Sweeps.{sweep3}
-use Rattle.names.specs.Mend.{Mended, Report, noRoom, mended, first, second}
+use Rattle.names.specs.Mend.{Mended, Report, linkFull, mended, first, second}
 use Rattle.names.specs.Calls.{Left, mendedBytes}
 use Rattle.names.specs.declared.FidFinding.{FidFinding}
 use Rattle.names.specs.declared.FidFinding.the-variants.{FidAgrees, NoDirentFid, FidDiffers, NoSelfFid, NeitherFid}
@@ -97,7 +97,7 @@ pub record EveryMending (seen : MdtFid → Bool) (es : List Entry) (cs : List Ch
   pub entries-length : length (m .entries) ≡ length es
   pub children-length : length (m .children) ≡ length cs
   -- with 38 exactly the sweeps and appends before it stand: sweep 3 over the entries before it is finished, and leaves the same
-  pub stopped : m .answer ≡ noRoom →
+  pub stopped : m .answer ≡ linkFull →
       (m .entries ≡ second seen es cs)
       × (sweep3 seen (take (m .report .reached) (m .entries)) (first seen es cs) 0 0
       ≡ record { children = m .children; count = m .report .appended; reached = m .report .reached; full = false })

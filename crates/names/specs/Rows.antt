@@ -161,7 +161,7 @@ noChild = decodeChild []
 unfoldable pub childAt : List Child → ℕ → Child
 childAt cs r = getD cs r noChild
 
--- "An entry belongs to the child of its row number"
+-- the child of an entry, by its row number
 unfoldable pub childOf : List Child → Entry → Child
 childOf cs e = childAt cs (e .child)
 

@@ -56,6 +56,9 @@ abbrev pub maxLevels : ℕ
 maxLevels = 4096
 
 -- "for any directory a longer or circular climb is 39"
+abbrev pub longClimb : ℕ
+longClimb = 39
+
 unfoldable pub isTooLong : Climbed → Bool
 isTooLong TooLong = true
 isTooLong Hidden = false

@@ -12,14 +12,7 @@ ghost use Rattle.names_marks.specs.Directories.{IndexedUnder};
 ghost use Rattle.names_store.specs.Notes.{noteOf, Noted};
 
 // The note of entry i.
-fn note_of(
-    entries: &[u8],
-    children: &[u8],
-    marks: &[u64],
-    index: &[u8],
-    n: usize,
-    i: usize,
-) -> u8
+fn note_of(entries: &[u8], children: &[u8], marks: &[u64], index: &[u8], n: usize, i: usize) -> u8
     requires { ⌜ IndexedUnder (now children) (now marks) (now index) n × (i < length (now entries) / entrySize) ⌝ }
     ensures { λ b. ⌜ b ≡ noteOf (seenBy (now (marks .entry)) (parseChildren (now (children .entry)))) (entryAt (now (entries .entry)) i) ⌝ }
 {

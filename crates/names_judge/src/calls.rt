@@ -12,6 +12,9 @@ ghost use Rattle.names.specs.Rows.{childRows};
 ghost use lib.Dec.{leb};
 ghost use Rattle.names.specs.Calls.{roomy, judgeNumber, judgeMarks};
 
+// The answer where a climb is too long or circular.
+pub const LONG_CLIMB: u32 = 39;
+
 // Whether a lent room has a place for each row of both tables that pass the check.
 pub fn has_room(entries: &[u8], children: &[u8], room: &[u8]) -> bool
     requires { ⌜ SoundNames (now entries) (now children) ⌝ }
@@ -55,7 +58,7 @@ pub fn judge(
         return 17;
     }
     if !judge::judge_rows(children, index, room, marks) {
-        return 39;
+        return LONG_CLIMB;
     }
     0
 }

@@ -231,7 +231,7 @@ pub links-are : (row : List ℕ) → 0 < linkLength row → linksOf (decodeChild
 unfolding linksOf linksIn decodeChild decodeLinked
 links-are row h = rw (ne-eqb (linkLength row) 0 (λ z. omega arith))
 
-links-start : (c : Child) → linksOf c ≡ startOf (c .link) .links
+pub links-start : (c : Child) → linksOf c ≡ startOf (c .link) .links
 unfolding linksOf linksIn startOf
 links-start c = go (c .link)
   where

@@ -62,8 +62,10 @@ marks-kept [] (c ∷ cs) ds g l s = clash g
 marks-kept (m ∷ ms) [] ds g l s = clash g
 marks-kept (m ∷ ms) (c ∷ cs) [] g l s = absurd (omega arith)
 marks-kept (m ∷ ms) (c ∷ cs) (d ∷ ds) g l s =
-    rw (mark-kept m c d (s 0) (and-first (goodMark m c) (goodMarks ms cs) g),
-      marks-kept ms cs ds (and-second (goodMark m c) (goodMarks ms cs) g) (omega arith) (λ r. s (suc r)))
+    rw (
+      mark-kept m c d (s 0) (and-first (goodMark m c) (goodMarks ms cs) g),
+      marks-kept ms cs ds (and-second (goodMark m c) (goodMarks ms cs) g) (omega arith) (λ r. s (suc r)),
+    )
 
 good-many : (ms : List ℕ) (cs : List Child) → goodMarks ms cs ≡ true → length ms ≡ length cs
 unfolding goodMarks

@@ -8,7 +8,7 @@ use Rattle.fid.specs.declared.MdtFid.{MdtFid}
 use Rattle.names.specs.Rows.{Entry, Child, parseEntries, parseChildren}
 use Rattle.names.specs.Visible.{seenBy, goodMarks}
 use Rattle.names.specs.Sweeps.{Appends, sweep1, taken, sweep2, writes, sweep3, sweep4, removals}
-use Rattle.names.specs.Mend.{noRoom, first, second, third, reportOf, finish, mended}
+use Rattle.names.specs.Mend.{linkFull, first, second, third, reportOf, finish, mended}
 use Rattle.names.proofs.SoundLaws.{parsed-children}
 use Rattle.names_promises.proofs.FrameLaws.{second-parents, second-childs}
 use Rattle.names_promises.proofs.SelfLaws.{sweep1-self, sweep3-self}
@@ -60,7 +60,7 @@ module _ (seen : MdtFid → Bool) (es fs : List Entry) (cs bs ds gs : List Child
         mendedBy x fs gs ≡ finish seen es cs b
     unfolding mendedBy answerOf finish
     finish-is true e v m =
-        let a : answerOf (x .full) ≡ noRoom = ap answerOf e in
+        let a : answerOf (x .full) ≡ linkFull = ap answerOf e in
         let c : gs ≡ third seen es cs .children = v ∙ children-are in
         let r = report-is 0 m in
         λ i. record { answer = a i; entries = second-is i; children = c i; report = r i }

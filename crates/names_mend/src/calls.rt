@@ -24,12 +24,15 @@ ghost use Rattle.names_mend.specs.Refusals.{placesTests};
 // The numbers of a report.
 pub const REPORT_SIZE: usize = 5;
 
+// The answer where a record outgrows the room for its child's linkEA.
+pub const LINK_FULL: u32 = 38;
+
 // The answer of a mending: 38 where it stopped.
 fn answer_of(full: bool) -> u32
     ensures { λ n. ⌜ n ≡ answerOf full ⌝ }
 {
     if full {
-        return 38;
+        return LINK_FULL;
     }
     0
 }
@@ -169,15 +172,8 @@ pub fn pass(
         return refused;
     }
     if !judge::judge_rows(children, index, room, marks) {
-        return 39;
+        return calls::LONG_CLIMB;
     }
     let count = children.len() / CHILD_SIZE;
-    mend_told(
-        entries,
-        children,
-        &marks[..count],
-        index,
-        room,
-        report,
-    )
+    mend_told(entries, children, &marks[..count], index, room, report)
 }

@@ -8,7 +8,7 @@ use lib.ListN.{take}
 use Rattle.fid.specs.declared.MdtFid.{MdtFid}
 use Rattle.names.specs.Rows.{Entry, Child}
 use Rattle.names.specs.Sweeps.{Asks, nothing, room, more, Appends, appending, asks, onward, sweep3}
-use Rattle.names.specs.Mend.{noRoom, first, second, third, reportOf, finish, mended}
+use Rattle.names.specs.Mend.{linkFull, first, second, third, reportOf, finish, mended}
 
 -- the same, not stopped
 unstopped : Appends → Appends
@@ -32,11 +32,11 @@ module _ (seen : MdtFid → Bool) where
       go more a f rec = (0, omega arith, refl)
 
   module _ (es : List Entry) (cs : List Child) where
-    full-stopped : mended seen es cs .answer ≡ noRoom → third seen es cs .full ≡ true
+    full-stopped : mended seen es cs .answer ≡ linkFull → third seen es cs .full ≡ true
     unfolding mended finish
     full-stopped = go (third seen es cs .full)
       where
-        go : (b : Bool) → finish seen es cs b .answer ≡ noRoom → b ≡ true
+        go : (b : Bool) → finish seen es cs b .answer ≡ linkFull → b ≡ true
         go true h = refl
         go false h = absurd (omega arith)
 
@@ -50,7 +50,7 @@ module _ (seen : MdtFid → Bool) where
         (λ (j : ℕ). sweep3 seen (take j (second seen es cs)) (first seen es cs) 0 0 ≡ unstopped (sweep3 seen (second seen es cs) (first seen es cs) 0 0))
         k (w .2)
 
-    pub mended-stopped : mended seen es cs .answer ≡ noRoom →
+    pub mended-stopped : mended seen es cs .answer ≡ linkFull →
         (mended seen es cs .entries ≡ second seen es cs)
         × (sweep3 seen (take (mended seen es cs .report .reached) (mended seen es cs .entries)) (first seen es cs) 0 0
         ≡ record { children = mended seen es cs .children; count = mended seen es cs .report .appended; reached = mended seen es cs .report .reached; full = false })

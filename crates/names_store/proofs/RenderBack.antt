@@ -1,7 +1,7 @@
 -- Tables that pass the check are written back as the same bytes. Assumes nothing.
 use mathlib.Core.Path.{_≡_, sym}
 use mathlib.Core.List.{List}
-use Prim.Native.Nat.{ℕ, _*_, _/_, _<_}
+use Prim.Native.Nat.{ℕ, _*_, _/_}
 use native.Mathlib.Omega.{arith}
 use lib.ListN.{length, take, drop}
 use Rattle.wire.proofs.NumberLaws.{Bytes, bytes-drop, bytes-take}

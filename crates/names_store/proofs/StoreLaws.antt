@@ -54,7 +54,7 @@ unfolding wholeRows
 whole-of size most l w = rw (eq-eqb (size * (length l / size)) (length l) (w .exact), le-leb (length l / size) most (w .few))
 
 -- what is known of both tables makes them pass
-facts-sound : (e c : List ℕ) → NamesFacts e c → SoundNames e c
+pub facts-sound : (e c : List ℕ) → NamesFacts e c → SoundNames e c
 unfolding SoundNames namesNumber namesTests firstFailing namesWhole namesGood
 facts-sound e c f =
     rw (whole-of entrySize maxRows e (f .entries-whole), whole-of childSize maxRows c (f .children-whole), f .there, f .names, f .links)

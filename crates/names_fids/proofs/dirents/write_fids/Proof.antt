@@ -37,22 +37,29 @@ loop-again c =
     let l = c .before .before .before .before .before in
     let a = l .before .before .before .before .args in
     let cs = parseChildren (now (a .children)) in
-    let t = c .before .before .write-fid .ensures in
-    (omega arith, omega (arith, t .0), omega arith, t .1, λ seen q.
-      let i = l .loop .inv .4 seen q in
-      let m = done-at seen cs (now (a .entries)) (l .loop .i) (l .loop .entries) (omega arith) (l .loop .inv .2) (i .0) in
-      let k = done-next seen cs (now (a .entries)) (l .loop .i) (l .loop .entries) _ _ (l .loop .n) (omega arith) (l .loop .inv .2) (i .0)
-      (t .2 seen (note-at seen (now (a .entries)) (now (a .notes)) (l .loop .i) (omega arith) q ∙ ap (noteOf seen) (sym m))) in
-      (k .0, i .1 ∙ k .1))
+    let t = c .before .before .write-fid .ensures in (
+      omega arith,
+      omega (arith, t .0),
+      omega arith,
+      t .1,
+      λ seen q.
+          let i = l .loop .inv .4 seen q in
+          let m = done-at seen cs (now (a .entries)) (l .loop .i) (l .loop .entries) (omega arith) (l .loop .inv .2) (i .0) in
+          let k = done-next seen cs (now (a .entries)) (l .loop .i) (l .loop .entries) _ _ (l .loop .n) (omega arith) (l .loop .inv .2) (i .0)
+          (t .2 seen (note-at seen (now (a .entries)) (now (a .notes)) (l .loop .i) (omega arith) q ∙ ap (noteOf seen) (sym m))) in
+          (k .0, i .1 ∙ k .1),
+    )
 
 returns : tie.Need-returns Inv-loop μ-loop
 returns c =
     let l = c .before in
-    let a = l .before .before .before .before .args in
-    (l .loop .inv .3, λ seen q.
-      let i = l .loop .inv .4 seen q in
-      let k = done-all seen (parseChildren (now (a .children))) (now (a .entries)) (l .loop .i) (l .loop .entries) (l .loop .n) (omega arith) (i .0) in
-      (k .0, sym (i .1 ∙ k .1)))
+    let a = l .before .before .before .before .args in (
+      l .loop .inv .3,
+      λ seen q.
+          let i = l .loop .inv .4 seen q in
+          let k = done-all seen (parseChildren (now (a .children))) (now (a .entries)) (l .loop .i) (l .loop .entries) (l .loop .n) (omega arith) (i .0) in
+          (k .0, sym (i .1 ∙ k .1)),
+    )
 
 pub write-fids-spec : {M : Type 1} → statement M
 write-fids-spec =

@@ -26,9 +26,11 @@ note-of-requires c κs = (c .before .before .before .before .before .before .bef
 loop-again : tie.Need-loop-again Inv-loop μ-loop
 loop-again c =
     let l = c .before .before in
-    let a = l .before .before .before .before .before .before .args in
-    (omega arith, omega (arith, length-set (l .loop .notes) (l .loop .i) (c .note-of .result)),
-      noted-next (seenBy (now (a .marks)) (parseChildren (now (a .children)))) (now (a .entries)) (l .loop .i) (l .loop .notes) _ (omega arith) (omega arith) (l .loop .inv .2) (c .note-of .ensures))
+    let a = l .before .before .before .before .before .before .args in (
+      omega arith,
+      omega (arith, length-set (l .loop .notes) (l .loop .i) (c .note-of .result)),
+      noted-next (seenBy (now (a .marks)) (parseChildren (now (a .children)))) (now (a .entries)) (l .loop .i) (l .loop .notes) _ (omega arith) (omega arith) (l .loop .inv .2) (c .note-of .ensures),
+    )
 
 returns : tie.Need-returns Inv-loop μ-loop
 returns c =

@@ -63,10 +63,13 @@ returns-4 c =
     let f = its-fid (now (a .entries)) (now (a .children)) (a .i) _ w _ (c .before .before .before .before .before .before .before .before .before .before .before .before .fid-of .ensures) in
     let n = ap isNone (sym f) ∙ sym (c .before .before .before .before .before .before .before .before .before .before .before .is-none .ensures) ∙ c .before .before .before .before .before .before .before .before .before .before .if2 .left in
     let h = ap (λ (y : Child). isNone (y .self)) (sym d) ∙ ap isNone (sym (c .before .before .before .before .before .before .self-of .ensures)) ∙ sym (c .before .before .before .before .before .is-none2 .ensures) ∙ not-false _ (c .before .before .before .before .if3 .left) in
-    let t = self-stored (now (a .entries)) (now (a .children)) (s .pre .0) _ k (c .before .before .before .before .before .before .before .before .before .before .before .before .fid-of .result) (record { seq = omega (arith, c .before .before .before .before .before .before .before .before .before .before .before .before .fid-of .ok); oid = omega (arith, c .before .before .before .before .before .before .before .before .before .before .before .before .fid-of .ok); ver = omega (arith, c .before .before .before .before .before .before .before .before .before .before .before .before .fid-of .ok) }) _ (c .before .before .put-self .ensures) in
-    (omega arith, t .1, λ seen q.
-      let v = takes seen cs x (visible-note seen x _ (c .before .before .before .before .before .before .before .before .before .before .before .before .before .before .if1 .left) q) n h in
-      (t .0 ∙ self-of-entry cs x _ _ (its-row (now (a .entries)) (now (a .children)) (a .i) _ w _ o) f ∙ v .0, v .1))
+    let t = self-stored (now (a .entries)) (now (a .children)) (s .pre .0) _ k (c .before .before .before .before .before .before .before .before .before .before .before .before .fid-of .result) (record { seq = omega (arith, c .before .before .before .before .before .before .before .before .before .before .before .before .fid-of .ok); oid = omega (arith, c .before .before .before .before .before .before .before .before .before .before .before .before .fid-of .ok); ver = omega (arith, c .before .before .before .before .before .before .before .before .before .before .before .before .fid-of .ok) }) _ (c .before .before .put-self .ensures) in (
+      omega arith,
+      t .1,
+      λ seen q.
+          let v = takes seen cs x (visible-note seen x _ (c .before .before .before .before .before .before .before .before .before .before .before .before .before .before .if1 .left) q) n h in
+          (t .0 ∙ self-of-entry cs x _ _ (its-row (now (a .entries)) (now (a .children)) (a .i) _ w _ o) f ∙ v .0, v .1),
+    )
 
 pub take-self-spec : {M : Type 1} → statement M
 take-self-spec =

@@ -36,21 +36,28 @@ loop-again : tie.Need-loop-again Inv-loop μ-loop
 loop-again c =
     let l = c .before .before .before .before .before in
     let a = l .before .before .before .before .args in
-    let t = c .before .before .take-self .ensures in
-    (omega arith, omega (arith, t .0), omega arith, t .1, λ seen q.
-      let i = l .loop .inv .4 seen q in
-      let k = swept-next seen (now (a .entries)) (l .loop .i) (parseChildren (l .loop .children)) _ _ (l .loop .n) (omega arith)
-      (t .2 seen (note-at seen (now (a .entries)) (now (a .notes)) (l .loop .i) (omega arith) q)) in
-      (i .0 ∙ k .0, i .1 ∙ k .1))
+    let t = c .before .before .take-self .ensures in (
+      omega arith,
+      omega (arith, t .0),
+      omega arith,
+      t .1,
+      λ seen q.
+          let i = l .loop .inv .4 seen q in
+          let k = swept-next seen (now (a .entries)) (l .loop .i) (parseChildren (l .loop .children)) _ _ (l .loop .n) (omega arith)
+          (t .2 seen (note-at seen (now (a .entries)) (now (a .notes)) (l .loop .i) (omega arith) q)) in
+          (i .0 ∙ k .0, i .1 ∙ k .1),
+    )
 
 returns : tie.Need-returns Inv-loop μ-loop
 returns c =
     let l = c .before in
-    let a = l .before .before .before .before .args in
-    (l .loop .inv .3, λ seen q.
-      let i = l .loop .inv .4 seen q in
-      let k = swept-end seen (now (a .entries)) (l .loop .i) (parseChildren (l .loop .children)) (l .loop .n) (omega arith) in
-      (sym (i .0 ∙ k .0), sym (i .1 ∙ k .1)))
+    let a = l .before .before .before .before .args in (
+      l .loop .inv .3,
+      λ seen q.
+          let i = l .loop .inv .4 seen q in
+          let k = swept-end seen (now (a .entries)) (l .loop .i) (parseChildren (l .loop .children)) (l .loop .n) (omega arith) in
+          (sym (i .0 ∙ k .0), sym (i .1 ∙ k .1)),
+    )
 
 pub take-selves-spec : {M : Type 1} → statement M
 take-selves-spec =

@@ -33,9 +33,12 @@ prune-requires c κs =
     let b = c .before .before .before .before .before .before .before .before .before .before .before in
     let a = b .args in
     let e = sym (c .before .before .before .entries-at .ensures) in
-    let d = drop-take-all (c .before .before .before .entries-at .result) (now (a .index)) in
-    (b .pre .0, subst (λ (i : ℕ). IndexedUnder (now (a .children)) (now (a .marks)) (take i (now (a .index))) (a .n)) e (b .pre .1 .directories),
-      subst (ByChild (now (a .entries))) (ap (λ (i : ℕ). drop i (now (a .index))) e ∙ sym d) (b .pre .1 .by-child), b .pre .1 .noted)
+    let d = drop-take-all (c .before .before .before .entries-at .result) (now (a .index)) in (
+      b .pre .0,
+      subst (λ (i : ℕ). IndexedUnder (now (a .children)) (now (a .marks)) (take i (now (a .index))) (a .n)) e (b .pre .1 .directories),
+      subst (ByChild (now (a .entries))) (ap (λ (i : ℕ). drop i (now (a .index))) e ∙ sym d) (b .pre .1 .by-child),
+      b .pre .1 .noted,
+    )
 
 returns-2 : tie.Need-returns-2
 returns-2 c =

@@ -26,9 +26,11 @@ remove-requires c κs =
     let v = b .args in
     let t = c .before .before .before .before .before .before .before .before .before .before .before .before .before .before .take-selves in
     let w = c .before .before .before .before .before .before .before .before .before .write-fids in
-    let u = c .before .before .before .before .append-all in
-    (c .before .before .before .before .append-all .ensures .0, third-ready (now (v .entries)) (now (v .children)) (now (v .marks)) (now (v .index)) (now (v .notes)) (v .n) (b .pre .1) (b .pre .2) (t .last .1 .0) (w .last .0) (u .last .1 .0)
-    (t .kept .1 .0) (w .kept .0) (u .kept .1 .0) _ _ _ _ _ (t .ensures .1) (w .ensures .1) (u .ensures .1))
+    let u = c .before .before .before .before .append-all in (
+      c .before .before .before .before .append-all .ensures .0,
+      third-ready (now (v .entries)) (now (v .children)) (now (v .marks)) (now (v .index)) (now (v .notes)) (v .n) (b .pre .1) (b .pre .2) (t .last .1 .0) (w .last .0) (u .last .1 .0)
+          (t .kept .1 .0) (w .kept .0) (u .kept .1 .0) _ _ _ _ _ (t .ensures .1) (w .ensures .1) (u .ensures .1),
+    )
 
 returns : tie.Need-returns
 unfolding appendsOf
@@ -38,9 +40,11 @@ returns c =
     let t = c .before .before .before .before .before .before .before .before .before .before .before .before .before .before .before .before .before .take-selves in
     let w = c .before .before .before .before .before .before .before .before .before .before .before .before .write-fids in
     let u = c .before .before .before .before .before .before .before .append-all in
-    let m = c .before .before .remove in
-    (m .ensures .2, all-swept (now (v .entries)) (now (v .children)) (now (v .marks)) (now (v .index)) (now (v .notes)) (v .n) (b .pre .1) (b .pre .2) (t .last .1 .0) (w .last .0) (u .last .1 .0)
-    (t .kept .1 .0) (w .kept .0) (u .kept .1 .0) _ _ _ _ _ (t .ensures .1) (w .ensures .1) (u .ensures .1) _ _ (m .ensures .0) (m .ensures .1))
+    let m = c .before .before .remove in (
+      m .ensures .2,
+      all-swept (now (v .entries)) (now (v .children)) (now (v .marks)) (now (v .index)) (now (v .notes)) (v .n) (b .pre .1) (b .pre .2) (t .last .1 .0) (w .last .0) (u .last .1 .0)
+          (t .kept .1 .0) (w .kept .0) (u .kept .1 .0) _ _ _ _ _ (t .ensures .1) (w .ensures .1) (u .ensures .1) _ _ (m .ensures .0) (m .ensures .1),
+    )
 
 pub sweep-spec : {M : Type 1} → statement M
 sweep-spec =
