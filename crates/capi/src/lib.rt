@@ -5,4 +5,5 @@ pub mod intakes;
 pub mod keepers;
 pub mod layouts;
 pub mod links;
+pub mod namespaces;
 pub mod runs;
