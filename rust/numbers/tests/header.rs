@@ -87,6 +87,13 @@ fn what_calls_are_handed() {
         ("LFSCK_MARK_HIDDEN", names::HIDDEN),
         ("LFSCK_MARK_VISIBLE", names::VISIBLE),
         ("LFSCK_MARK_NO_FID", names::NO_FID),
+        ("LFSCK_FID_CONSISTENT", names::FID_CONSISTENT),
+        ("LFSCK_FID_NO_DIRENT", names::FID_NO_DIRENT),
+        ("LFSCK_FID_DIFFERS", names::FID_DIFFERS),
+        ("LFSCK_FID_NO_SELF", names::FID_NO_SELF),
+        ("LFSCK_FID_NEITHER", names::FID_NEITHER),
+        ("LFSCK_RECORD_CONSISTENT", names::RECORD_CONSISTENT),
+        ("LFSCK_RECORD_MISSING", names::RECORD_MISSING),
     ] {
         assert_eq!(number, number_of(name), "{name}");
     }

@@ -16,6 +16,8 @@ mod json;
 mod limits;
 mod link;
 mod logs;
+mod names;
+mod namespace;
 mod oracle;
 mod refusals;
 mod resume;
