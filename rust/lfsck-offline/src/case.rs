@@ -397,6 +397,9 @@ mod tests {
     use super::*;
     use crate::save::JOURNAL;
 
+    const ENTRIES: &str = "entries.tbl";
+    const CHILDREN: &str = "children.tbl";
+
     const RUN: Run = Run {
         answer: 0,
         position: [3, 0, 0],
@@ -440,6 +443,59 @@ mod tests {
             .expect("a save");
         assert_eq!(case.tables().expect("the tables"), new);
         assert_eq!(case.position().expect("the position"), Some(saved));
+        fs::remove_dir_all(&directory).expect("the directory");
+    }
+
+    #[test]
+    fn names_that_somebody_changed_meanwhile_are_not_overwritten() {
+        let (case, _, directory) = case("names-meanwhile");
+        let old = Names {
+            entries: vec![0; 293],
+            children: vec![0; 4130],
+        };
+        let mut new = old.clone();
+        new.children[0] = 1;
+        let mended = Mended::new(0, [1, 0, 0, 0, 1]);
+        for table in Table::NAMES {
+            fs::write(directory.join(ENTRIES), &old.entries).expect("the file");
+            fs::write(directory.join(CHILDREN), &old.children).expect("the file");
+            let path = directory.join(table.file());
+            fs::write(&path, b"other").expect("the file");
+            let failure = case
+                .save_mending(&old, &new, mended)
+                .expect_err("a refusal");
+            assert!(failure.message.contains(table.file()), "{failure:?}");
+            assert!(failure.message.contains("nothing is saved"), "{failure:?}");
+            assert_eq!(fs::read(&path).expect("the file"), b"other");
+            assert!(!case.disk.has(JOURNAL) && !case.disk.has(LOG));
+        }
+        fs::write(directory.join(CHILDREN), &old.children).expect("the file");
+        case.save_mending(&old, &new, mended).expect("a save");
+        assert_eq!(case.names().expect("the names"), Some(new));
+        fs::remove_dir_all(&directory).expect("the directory");
+    }
+
+    /// A log that would be too long to be read again is not written.
+    #[test]
+    fn a_log_without_room_for_a_mending_is_left() {
+        let (case, _, directory) = case("names-log-room");
+        let old = Names {
+            entries: vec![0; 293],
+            children: vec![0; 4130],
+        };
+        let mut new = old.clone();
+        new.children[0] = 1;
+        fs::write(directory.join(ENTRIES), &old.entries).expect("the file");
+        fs::write(directory.join(CHILDREN), &old.children).expect("the file");
+        let log = fs::File::create(directory.join(LOG)).expect("the file");
+        log.set_len(MOST_LOG as u64 - 100).expect("the length");
+        let mended = Mended::new(0, [1, 0, 0, 0, 1]);
+        let failure = case
+            .save_mending(&old, &new, mended)
+            .expect_err("a refusal");
+        assert!(failure.message.contains(LOG), "{failure:?}");
+        assert!(failure.message.ends_with("nothing is saved"), "{failure:?}");
+        assert_eq!(case.names().expect("the names"), Some(old));
         fs::remove_dir_all(&directory).expect("the directory");
     }
 

@@ -17,6 +17,7 @@ mod limits;
 mod link;
 mod logs;
 mod names;
+mod names_saves;
 mod namespace;
 mod oracle;
 mod refusals;
