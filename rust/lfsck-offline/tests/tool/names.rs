@@ -258,6 +258,43 @@ fn a_summary_leaves_the_changes_out() {
     assert_eq!(json.get("changes"), &Value::Null);
 }
 
+/// The example in docs/RULES.md.
+#[test]
+fn the_example_of_the_rules_is_true() {
+    let (directory, file, other) = (fid(0x100), fid(1), fid(7));
+    let names = Namespace {
+        entries: vec![
+            entry(ROOT, 0, Some(directory), b"d"),
+            entry(directory, 1, None, b"a"),
+            entry(directory, 1, Some(other), b"b"),
+            entry(directory, 2, Some(other), b"f"),
+        ],
+        children: vec![
+            linked(Some(directory), &[(ROOT, b"d")]),
+            bare(None, None),
+            linked(
+                Some(file),
+                &[(directory, b"old"), (directory, b"f"), (directory, b"f")],
+            ),
+        ],
+    };
+    let case = case_of("names-example", &names);
+    let told = case.json(&["names"], 0);
+    let findings = told.list("findings").iter();
+    let words: Vec<[&str; 2]> = findings
+        .map(|it| [it.text("fid_finding"), it.text("link_finding")])
+        .collect();
+    let expected = [
+        ["neither", "missing record"],
+        ["no self FID", "missing record"],
+        ["differs", "consistent"],
+    ];
+    assert_eq!(words, expected);
+    let report = case.json(&MEND, 0);
+    assert_eq!(SWEEPS.map(|sweep| report.number(sweep)), [1, 2, 2, 2]);
+    assert_eq!(case.read(CHILDREN)[4130 + 32..4130 + 34], [62, 0]);
+}
+
 /// A child whose linkEA has room for no second name, with entries before and behind it.
 fn full() -> Namespace {
     let long = vec![b'n'; 4096 - 24 - 18 - 19];
