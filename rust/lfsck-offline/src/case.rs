@@ -253,15 +253,21 @@ impl Case {
     /// Saves what a mending has changed of the names, with an entry in the log, all or none.
     pub fn save_mending(&self, old: &Names, new: &Names, mended: Mended) -> Result<(), Failure> {
         let line = Entry::new(Deed::Mending(mended), old, new).line();
-        let length = self.disk.length(LOG)?.unwrap_or(0);
-        if length + line.len() as u64 > MOST_LOG as u64 {
-            let path = self.disk.path(LOG);
-            return Err(Failure::files(format!(
-                "{}: with this mending it would be longer than {MOST_LOG} bytes; nothing is saved",
-                path.display()
-            )));
-        }
+        self.require_log_room(&line)?;
         self.save(old, new, None, Some(line))
+    }
+
+    /// The log can still be read with another line.
+    fn require_log_room(&self, line: &str) -> Result<(), Failure> {
+        let length = self.disk.length(LOG)?.unwrap_or(0);
+        if length + line.len() as u64 <= MOST_LOG as u64 {
+            return Ok(());
+        }
+        let path = self.disk.path(LOG);
+        Err(Failure::files(format!(
+            "{}: with this it would be longer than {MOST_LOG} bytes; nothing is saved",
+            path.display()
+        )))
     }
 
     /// Saves tables that an undo has made of these; of a run, with the position from before it.
@@ -275,12 +281,15 @@ impl Case {
             undoes: undone.when.clone(),
             of: undone.group(),
         };
+        let line = Entry::new(deed, old, new).line();
         let position = match &undone.deed {
             Deed::Run { saved, .. } => self.position_change(saved.as_deref())?,
-            Deed::Mending(_) => None,
+            Deed::Mending(_) => {
+                self.require_log_room(&line)?;
+                None
+            }
             Deed::Undo { .. } => return Ok(()),
         };
-        let line = Entry::new(deed, old, new).line();
         self.save(old, new, position, Some(line))
     }
 
@@ -325,8 +334,9 @@ impl Case {
     /// The tables are still those that were read; who may read what tells of all tables of the
     /// case.
     fn require_unchanged<Of: Together>(&self, tables: &Of) -> Result<Access, Failure> {
-        let permissions = |table: Table| match save::stand(&self.disk, table.file())? {
-            Some(stand) if stand.digest == Digest::of(tables.of(table)) => Ok(stand.permissions),
+        let find = |table: Table| self.disk.find(table.file(), table.most_bytes());
+        let permissions = |table: Table| match find(table)? {
+            Some(found) if found.bytes == tables.of(table) => Ok(found.permissions),
             _ => {
                 let path = self.disk.path(table.file());
                 let message = format!("{}: changed meanwhile; nothing is saved", path.display());

@@ -324,9 +324,8 @@ mod tests {
             let back = name_changes(&after, &before, true);
             back.iter().for_each(|change| make(change, &mut made));
             assert_eq!(unordered(made), unordered(rows(&before)));
-            for change in list {
-                *met.entry(change.what.kind()).or_insert(0) += 1;
-            }
+            let kinds = list.iter().map(|change| change.what.kind());
+            kinds.for_each(|kind| *met.entry(kind).or_insert(0) += 1);
         }
         assert!(
             met.len() == 4 && met.values().all(|&count| count > 100),

@@ -138,7 +138,19 @@ mod tests {
     use difftest::Random;
     use difftest::names::{random_names, to_bytes};
 
-    /// The records are those that the library reads, one by one.
+    /// The records of a row are those that the library reads; how many.
+    fn expect_records(row: &[u8]) -> usize {
+        let child = Child::read(row).expect("a sound row");
+        let Some(bytes) = child.link else { return 0 };
+        let link = Link::read(bytes, &Bar::none()).expect("a linkEA");
+        let read = link.records.iter().map(|record| Name {
+            directory: record.parent,
+            name: record.name.to_vec(),
+        });
+        assert_eq!(child.records(), read.collect::<Vec<Name>>());
+        link.records.len()
+    }
+
     #[test]
     fn records_are_those_of_the_library() {
         let mut random = Random::for_test("records");
@@ -146,17 +158,10 @@ mod tests {
         for _ in 0..2_000 {
             let (entries, children) = to_bytes(&random_names(&mut random), &mut random);
             let names = Names { entries, children };
-            for row in names.rows(Table::Children) {
-                let child = Child::read(row).expect("a sound row");
-                let Some(bytes) = child.link else { continue };
-                let link = Link::read(bytes, &Bar::none()).expect("a linkEA");
-                let read = link.records.iter().map(|record| Name {
-                    directory: record.parent,
-                    name: record.name.to_vec(),
-                });
-                assert_eq!(child.records(), read.collect::<Vec<Name>>());
-                met += link.records.len();
-            }
+            met += names
+                .rows(Table::Children)
+                .map(expect_records)
+                .sum::<usize>();
         }
         assert!(met > 2_000, "{met} records");
     }

@@ -202,8 +202,8 @@ fn known(disk: &Disk, change: &Change) -> Result<Option<Permissions>, Failure> {
     if !ours || matches!(change.edit, Edit::Append { .. }) != (name == LOG) {
         return Err(changed());
     }
-    let after = match &change.edit {
-        Edit::Put(bytes) => Some(Digest::of(bytes)),
+    let put = match &change.edit {
+        Edit::Put(bytes) => Some(bytes),
         Edit::Remove => None,
         Edit::Append { from, more } => {
             return known_log(disk, change.before, *from, more)?.ok_or_else(changed);
@@ -211,7 +211,7 @@ fn known(disk: &Disk, change: &Change) -> Result<Option<Permissions>, Failure> {
     };
     let stand = stand(disk, name)?;
     let digest = stand.as_ref().map(|stand| stand.digest);
-    if digest != change.before && digest != after {
+    if digest != change.before && digest != put.map(|bytes| Digest::of(bytes)) {
         return Err(changed());
     }
     Ok(stand.map(|stand| stand.permissions))

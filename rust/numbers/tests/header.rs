@@ -87,6 +87,14 @@ fn what_calls_are_handed() {
         ("LFSCK_MARK_HIDDEN", names::HIDDEN),
         ("LFSCK_MARK_VISIBLE", names::VISIBLE),
         ("LFSCK_MARK_NO_FID", names::NO_FID),
+    ] {
+        assert_eq!(number, number_of(name), "{name}");
+    }
+}
+
+#[test]
+fn what_is_found_of_names() {
+    for (name, number) in [
         ("LFSCK_FID_CONSISTENT", names::FID_CONSISTENT),
         ("LFSCK_FID_NO_DIRENT", names::FID_NO_DIRENT),
         ("LFSCK_FID_DIFFERS", names::FID_DIFFERS),

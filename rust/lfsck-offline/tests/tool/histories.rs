@@ -214,6 +214,21 @@ impl History {
         }
     }
 
+    /// Something happens, and the case is as the model says.
+    fn go_on(&mut self, random: &mut Random) -> &'static str {
+        let what = match random.below(14) {
+            0 | 1 => self.meddle(random),
+            2 => self.refuse(),
+            3 | 4 => self.crash(random),
+            5 | 6 => self.undo(random),
+            7 | 8 => self.mend(),
+            9 => self.crash_mending(random),
+            _ => self.run(random),
+        };
+        assert!(self.model.is_in(&self.case), "after {what}");
+        what
+    }
+
     fn run(&mut self, random: &mut Random) -> &'static str {
         let asked = Asked::random(random);
         let (resumed, run, after) = self.model.after(&asked);
@@ -370,50 +385,38 @@ impl History {
     }
 }
 
+/// What may happen to a case.
+const HAPPENS: [&str; 21] = [
+    "a run that goes on",
+    "a run from the start, as asked",
+    "a run that must not go on",
+    "a run without saved position",
+    "a crash after the save",
+    "a crash before the save",
+    "no crash",
+    "another owner",
+    "another reserve",
+    "older tables",
+    "a refusal",
+    "an undo",
+    "an undo that is refused",
+    "an undo that is cut off",
+    "an undo of a mending",
+    "a mending",
+    "a mending that changes nothing",
+    "a mending that stops",
+    "a mending that is cut off before the save",
+    "a mending that is cut off after the save",
+    "another FID-in-dirent",
+];
+
 #[test]
 fn a_case_is_always_as_its_history_says() {
     let mut random = Random::for_test("histories");
-    let mut met = Coverage::of(
-        "histories",
-        [
-            "a run that goes on",
-            "a run from the start, as asked",
-            "a run that must not go on",
-            "a run without saved position",
-            "a crash after the save",
-            "a crash before the save",
-            "no crash",
-            "another owner",
-            "another reserve",
-            "older tables",
-            "a refusal",
-            "an undo",
-            "an undo that is refused",
-            "an undo that is cut off",
-            "an undo of a mending",
-            "a mending",
-            "a mending that changes nothing",
-            "a mending that stops",
-            "a mending that is cut off before the save",
-            "a mending that is cut off after the save",
-            "another FID-in-dirent",
-        ],
-    );
+    let mut met = Coverage::of("histories", HAPPENS);
     for round in 0..40 {
         let mut history = History::new(&format!("history-{round}"), &mut random);
-        for _ in 0..20 {
-            let what = match random.below(14) {
-                0 | 1 => history.meddle(&mut random),
-                2 => history.refuse(),
-                3 | 4 => history.crash(&mut random),
-                5 | 6 => history.undo(&mut random),
-                7 | 8 => history.mend(),
-                9 => history.crash_mending(&mut random),
-                _ => history.run(&mut random),
-            };
-            met.met(what);
-            assert!(history.model.is_in(&history.case), "after {what}");
-        }
+        (0..20).for_each(|_| met.met(history.go_on(&mut random)));
     }
     met.require(5);
 }

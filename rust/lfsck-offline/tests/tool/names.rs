@@ -36,12 +36,11 @@ fn the_sample_has_every_finding() {
     let case = Case::sample("names-sample");
     let told = case.json(&["names"], 0);
     let summary = told.get("summary");
-    for name in OF_FID {
-        assert!(summary.get("fid").number(name) > 0, "{name}");
-    }
-    for name in OF_RECORD {
-        assert!(summary.get("link").number(name) > 0, "{name}");
-    }
+    let every = |of: &str, names: &[&str]| {
+        let counts = summary.get(of);
+        names.iter().all(|name| counts.number(name) > 0)
+    };
+    assert!(every("fid", &OF_FID) && every("link", &OF_RECORD));
     assert_eq!(summary.number("hidden"), 1);
     assert_eq!(told.number("entry_rows"), 11);
     assert_eq!(told.number("child_rows"), 9);
@@ -344,6 +343,37 @@ fn a_record_that_outgrows_the_room_stops_the_mending() {
     assert_eq!(case.read(ENTRIES), before[ENTRIES]);
 }
 
+/// A row that got its self FID is a directory to the next call, which judges anew.
+#[test]
+fn a_second_mending_sees_the_directories_that_the_first_made() {
+    let names = Namespace {
+        entries: vec![
+            entry(ROOT, 0, Some(fid(1)), b"d"),
+            entry(fid(1), 1, Some(fid(2)), b"x"),
+        ],
+        children: vec![bare(None, Some(ROOT)), bare(Some(fid(2)), None)],
+    };
+    let case = case_of("names-anew", &names);
+    let appended = |_| case.json(&MEND, 0).number("records_appended");
+    assert_eq!([1, 2, 3].map(appended), [1, 1, 0]);
+}
+
+/// After a mending that stopped, a row may have its self FID and no linkEA yet.
+#[test]
+fn a_mending_that_stopped_may_leave_a_circle() {
+    let mut names = full();
+    names.children[2].up = Some(fid(3));
+    let case = case_of("names-stopped", &names);
+    let before = case.files();
+    case.run(&["names"]).expect(0);
+    case.run(&MEND).expect(3);
+    let line = "refused with 39: children.tbl row 2, '..' [0x200000401:0x3:0x0]";
+    case.run(&["names"]).expect_line(2, line);
+    case.run(&["undo"]).expect(0);
+    assert_eq!(case.read(CHILDREN), before[CHILDREN]);
+    case.run(&["names"]).expect(0);
+}
+
 /// Directories that each stand in the next, the last in ROOT; the lowest is the last row.
 fn chain(levels: u32) -> Namespace {
     let up = |id: u32| if id == 1 { ROOT } else { fid(id - 1) };
@@ -474,6 +504,14 @@ const HARMS: [Harm; 10] = [
     ),
 ];
 
+/// Names are listed, counted and mended, or would be.
+const ASKED: [&[&str]; 4] = [
+    &["names"],
+    &["names", "--summary"],
+    &MEND,
+    &["names", "--mend", "-n"],
+];
+
 #[test]
 fn each_refusal_names_file_row_and_reason() {
     let case = Case::sample("names-refused");
@@ -483,14 +521,9 @@ fn each_refusal_names_file_row_and_reason() {
         case.edit(table, harm);
         let before = case.files();
         let line = format!("the names are refused with {number}: {words}");
-        for asked in [
-            &["names"][..],
-            &["names", "--summary"],
-            &MEND,
-            &["names", "--mend", "-n"],
-        ] {
-            case.run(asked).expect_line(2, &line);
-        }
+        let told = ASKED.map(|asked| case.run(asked));
+        told.into_iter()
+            .for_each(|told| drop(told.expect_line(2, &line)));
         let told = json::parse(&case.run(&["names", "--json"]).expect(2).out);
         assert_eq!(told.number("answer"), number.into());
         let told = case.run(&["check"]).expect(2).out;
@@ -533,20 +566,28 @@ fn a_table_of_names_that_is_too_long_is_refused() {
 }
 
 #[test]
-fn a_case_without_names_says_so() {
-    let case = Case::sample("names-missing");
+fn one_table_of_names_needs_the_other() {
+    let case = Case::sample("names-half");
     let sample = case.files();
     for (gone, there) in [(ENTRIES, CHILDREN), (CHILDREN, ENTRIES)] {
         case.restore(&sample);
         std::fs::remove_file(case.path().join(gone)).unwrap();
         let line = format!("{gone}: there is no such file, and {there} is there");
-        for words in [&["names"][..], &MEND, &["check"]] {
-            case.run(words).expect_line(74, &line);
-        }
+        let told = [&["names"][..], &MEND, &["check"]].map(|words| case.run(words));
+        told.into_iter()
+            .for_each(|told| drop(told.expect_line(74, &line)));
         case.run(&["classes"]).expect(0);
     }
-    std::fs::remove_file(case.path().join(ENTRIES)).unwrap();
-    for words in [&["names"][..], &MEND, &["names", "--mend", "-n"]] {
+}
+
+/// A case without names is what it was before there were any.
+#[test]
+fn a_case_without_names_says_so() {
+    let case = Case::sample("names-missing");
+    let gone = [ENTRIES, CHILDREN].map(|table| case.path().join(table));
+    gone.iter()
+        .for_each(|path| std::fs::remove_file(path).unwrap());
+    for words in ASKED {
         let line = "there are no names here, neither entries.tbl nor children.tbl";
         case.run(words).expect_line(74, line);
     }

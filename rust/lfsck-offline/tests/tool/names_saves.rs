@@ -15,6 +15,16 @@ use crate::tool::{
 const RUN: [&str; 3] = ["run", "--create", "--adopt"];
 const TABLES: [(&str, usize); 2] = [(ENTRIES, 293), (CHILDREN, 4130)];
 
+/// The tables of files and objects.
+const OF_FILES: [&str; 3] = ["parents.tbl", "objects.tbl", "reserve.tbl"];
+
+/// Removes tables of a case.
+fn remove<const MANY: usize>(case: &Case, tables: [&str; MANY]) {
+    for table in tables {
+        fs::remove_file(case.path().join(table)).expect(table);
+    }
+}
+
 /// A case with a log, and what the mending of its names makes of it, without times.
 fn old_and_new(name: &str) -> (Case, Files, Files) {
     let case = Case::sample(name);
@@ -84,9 +94,12 @@ fn differing(old: &Files, new: &Files) -> Vec<(String, u64, String, String)> {
     let mut list = Vec::new();
     for (name, size) in TABLES {
         let pairs = old[name].chunks(size).zip(new[name].chunks(size));
-        for (row, (old, new)) in pairs.enumerate().filter(|(_, (old, new))| old != new) {
-            list.push((name.to_string(), row as u64, written(old), written(new)));
-        }
+        let differ = pairs.enumerate().filter(|(_, (old, new))| old != new);
+        list.extend(
+            differ.map(|(row, (old, new))| {
+                (name.to_string(), row as u64, written(old), written(new))
+            }),
+        );
     }
     list
 }
@@ -281,9 +294,7 @@ fn an_undo_needs_the_names_that_the_mending_left() {
     case.edit("objects.tbl", |bytes| bytes[21] ^= 1);
     case.run(&["undo"]).expect(0);
     case.restore(&end);
-    for table in [ENTRIES, CHILDREN] {
-        fs::remove_file(case.path().join(table)).unwrap();
-    }
+    remove(&case, [ENTRIES, CHILDREN]);
     case.run(&["undo"]).expect_line(2, "left are gone");
 }
 
@@ -379,9 +390,7 @@ fn an_owner_of_names_is_not_believed_about_other_tables() {
     for words in [&["check"][..], &["names"], &MEND] {
         case.run(words).expect_line(74, line);
     }
-    for table in ["parents.tbl", "objects.tbl", "reserve.tbl"] {
-        fs::remove_file(path(table)).unwrap();
-    }
+    remove(&case, OF_FILES);
     // Of names alone he is the owner.
     case.run(&["names"]).expect_line(74, "no whole journal");
 }
@@ -391,9 +400,7 @@ fn an_intake_leaves_names_that_are_there() {
     let case = Case::sample("names-intake");
     let sample = case.files();
     let names = |files: &Files| TABLES.map(|(table, _)| files[table].clone());
-    for table in ["parents.tbl", "objects.tbl", "reserve.tbl"] {
-        fs::remove_file(case.path().join(table)).unwrap();
-    }
+    remove(&case, OF_FILES);
     case.write("empty", b"");
     let empty = case.path().join("empty");
     let empty = empty.to_str().unwrap();
@@ -401,9 +408,7 @@ fn an_intake_leaves_names_that_are_there() {
     assert_eq!(names(&case.files()), names(&sample));
     case.run(&["sample"]).expect_line(74, "already there");
     let other = case_of("names-there", &Namespace::default());
-    for table in ["parents.tbl", "objects.tbl", "reserve.tbl"] {
-        fs::remove_file(other.path().join(table)).unwrap();
-    }
+    remove(&other, OF_FILES);
     other
         .run(&["sample"])
         .expect_line(74, "entries.tbl: this is already there");
