@@ -60,12 +60,12 @@ pub fn require_sound(tables: &Tables, bar: &Bar) -> Result<(), Failure> {
 
 /// The line for tables that the library refused: the number and the first fault.
 pub fn refusal(number: u32, tables: &Tables) -> Failure {
-    refused("tables", number, &faults(tables))
+    refused("tables", number, meaning(number), &faults(tables))
 }
 
 /// The same for names.
 pub fn names_refusal(number: u32, names: &Names) -> Failure {
-    refused("names", number, &name_faults(names))
+    refused("names", number, names_meaning(number), &name_faults(names))
 }
 
 /// What a number means that the names are refused with.
@@ -78,9 +78,9 @@ pub fn names_meaning(number: u32) -> &'static str {
     }
 }
 
-fn refused(what: &str, number: u32, list: &[Fault]) -> Failure {
+fn refused(what: &str, number: u32, meaning: &str, list: &[Fault]) -> Failure {
     let first = list.iter().find(|fault| fault.number == number);
-    let first = first.map_or(meaning(number).to_string(), fault_line);
+    let first = first.map_or(meaning.to_string(), fault_line);
     let more = match list.len() {
         0 | 1 => "",
         _ => "; lfsck-offline check lists all that is wrong",

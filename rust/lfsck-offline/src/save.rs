@@ -59,6 +59,10 @@ pub fn stand(disk: &Disk, name: &str) -> Result<Option<Stand>, Failure> {
 
 /// What a journal that is in place says; none where there is no journal.
 pub fn pending(disk: &Disk) -> Result<Option<Vec<Change>>, Failure> {
+    // A journal may be long: one that is not believed is not read either.
+    if let Some(permissions) = disk.permissions(JOURNAL)? {
+        require_ours(disk, JOURNAL, permissions)?;
+    }
     let Some(journal) = disk.find(JOURNAL, MOST_BYTES)? else {
         return Ok(None);
     };

@@ -16,7 +16,6 @@ use crate::name_finding::{COLUMNS, Finding, HEADING, Kind, OF_FID, OF_RECORD, fi
 use crate::name_rows::{Child, Entry, fid_words};
 use crate::names::Names;
 use crate::outcome::{Failure, Outcome, Status};
-use crate::quoted;
 use crate::tables::{Table, Together};
 
 /// What is true of a mending even where its report is lost.
@@ -51,7 +50,7 @@ pub fn names(
 fn read(case: &Case, directory: &Path) -> Result<Names, Failure> {
     let missing = || {
         let [entries, children] = Table::NAMES.map(Table::file);
-        let directory = quoted::path(directory);
+        let directory = directory.display();
         Failure::files(format!(
             "{directory}: there are no names here, neither {entries} nor {children}"
         ))
