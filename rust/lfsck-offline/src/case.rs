@@ -100,6 +100,10 @@ impl Case {
         fs::create_dir_all(directory).map_err(|error| trouble(directory, &error))?;
         let case = Case::open_alone(directory)?;
         require_free(&case.disk, free)?;
+        // A save looks at the tables that are there already.
+        let names = Table::NAMES.map(Table::file).into_iter();
+        let found: Result<Vec<_>, _> = names.map(|name| case.disk.permissions(name)).collect();
+        found?;
         save::save(&case.disk, &changes, Access::Own)
     }
 

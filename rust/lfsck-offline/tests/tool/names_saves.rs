@@ -2,6 +2,7 @@
 
 use std::fs;
 use std::os::unix::fs::{MetadataExt, PermissionsExt, chown};
+use std::process::Command;
 
 use reference::names::Namespace;
 
@@ -9,7 +10,8 @@ use crate::json::{self, Value};
 use crate::namespace::{CHILDREN, ENTRIES, MEND, case_of, pass};
 use crate::saves::{expect_order, fail_at_each, kill_at_each};
 use crate::tool::{
-    Case, Files, JOURNAL, LOG, NOBODY, POSITION, Told, expect_lines, hex, sha256, skipped, timeless,
+    Case, Files, JOURNAL, LOG, NOBODY, POSITION, TOOL, Told, expect_lines, hex, sha256, skipped,
+    timeless,
 };
 
 const RUN: [&str; 3] = ["run", "--create", "--adopt"];
@@ -393,6 +395,46 @@ fn an_owner_of_names_is_not_believed_about_other_tables() {
     remove(&case, OF_FILES);
     // Of names alone he is the owner.
     case.run(&["names"]).expect_line(74, "no whole journal");
+}
+
+/// What stands in the place of names is found before a case is made beside it.
+#[test]
+fn an_intake_beside_something_else_makes_nothing() {
+    let case = Case::empty("names-intake-beside");
+    case.write("empty", b"");
+    let empty = case.path().join("empty");
+    let empty = empty.to_str().unwrap();
+    for table in [ENTRIES, CHILDREN] {
+        fs::create_dir(case.path().join(table)).unwrap();
+        let told = case.run(&["intake", "--owners", empty, empty]);
+        told.expect_line(74, &format!("{table}: this is a directory"));
+        fs::remove_dir(case.path().join(table)).unwrap();
+    }
+    assert_eq!(case.files().len(), 1);
+}
+
+/// What would stop the save of a mending is found before it.
+#[test]
+fn a_mending_that_could_not_be_saved_is_not_begun() {
+    let case = Case::sample("names-no-room");
+    let before = case.files();
+    let mut command = Command::new("sh");
+    let script = "trap '' XFSZ; ulimit -f 64; exec \"$@\"";
+    command.args(["-c", script, "sh", TOOL, "names"]);
+    command.arg(case.path()).arg("--mend");
+    let told = Told::from(command.output().unwrap());
+    told.expect_line(74, "so a mending could not be saved");
+    for name in [
+        LOG,
+        "lfsck-offline.children.tbl.new",
+        "lfsck-offline.journal.new",
+    ] {
+        let place = case.path().join(name);
+        fs::create_dir(&place).unwrap();
+        case.run(&MEND).expect_line(74, "this is a directory");
+        fs::remove_dir(&place).unwrap();
+    }
+    assert_eq!(case.files(), before);
 }
 
 #[test]
