@@ -4,6 +4,8 @@ use numbers::answer;
 
 use crate::bar::{Bar, Work};
 use crate::faults::{Fault, faults};
+use crate::name_faults::name_faults;
+use crate::names::Names;
 use crate::outcome::Failure;
 use crate::tables::Tables;
 
@@ -28,6 +30,8 @@ pub fn meaning(number: u32) -> &'static str {
         answer::NO_SELF => "an entry without self FID",
         answer::NO_KIND => "an entry that is neither a file nor an object, or both",
         answer::NO_FIT => "an entry whose row doesn't fit",
+        answer::LINK_FULL => "a record outgrows the room for its child's linkEA",
+        answer::LONG_CLIMB => "a climb from directory to directory is too long or circular",
         _ => "an unknown answer",
     }
 }
@@ -56,13 +60,31 @@ pub fn require_sound(tables: &Tables, bar: &Bar) -> Result<(), Failure> {
 
 /// The line for tables that the library refused: the number and the first fault.
 pub fn refusal(number: u32, tables: &Tables) -> Failure {
-    let list = faults(tables);
+    refused("tables", number, meaning(number), &faults(tables))
+}
+
+/// The same for names.
+pub fn names_refusal(number: u32, names: &Names) -> Failure {
+    refused("names", number, names_meaning(number), &name_faults(names))
+}
+
+/// What a number means that the names are refused with.
+pub fn names_meaning(number: u32) -> &'static str {
+    match number {
+        answer::BAD_TABLE => "table not whole rows, or too long",
+        answer::NO_POSITION => "an entry's child at or past the child rows",
+        answer::BAD_LINK => "name or linkEA against the rules",
+        number => meaning(number),
+    }
+}
+
+fn refused(what: &str, number: u32, meaning: &str, list: &[Fault]) -> Failure {
     let first = list.iter().find(|fault| fault.number == number);
-    let first = first.map_or(meaning(number).to_string(), fault_line);
+    let first = first.map_or(meaning.to_string(), fault_line);
     let more = match list.len() {
         0 | 1 => "",
         _ => "; lfsck-offline check lists all that is wrong",
     };
-    let message = format!("the tables are refused with {number}: {first}{more}");
+    let message = format!("the {what} are refused with {number}: {first}{more}");
     Failure::answered(number, message)
 }

@@ -33,8 +33,10 @@ pub enum Command {
     Show(Fid),
     /// Tell what was done, to one file or object or to all.
     Log(Option<Fid>),
-    /// Take the last run back.
+    /// Take the last run or mending back.
     Undo,
+    /// List the findings of names, or mend them.
+    Names(NamesOptions),
     /// Print a linkEA.
     Link(Source),
     /// Make a case from dumps.
@@ -64,6 +66,17 @@ pub struct RunOptions {
     /// Write nothing.
     pub dry_run: bool,
     /// Leave out the list of changes.
+    pub summary: bool,
+}
+
+/// What to do with names.
+#[derive(Clone, Copy, Debug, Default, PartialEq, Eq)]
+pub struct NamesOptions {
+    /// Mend them.
+    pub mend: bool,
+    /// Write nothing.
+    pub dry_run: bool,
+    /// Leave out the list of findings, or of changes.
     pub summary: bool,
 }
 
@@ -124,6 +137,7 @@ struct Words {
     dry_run: bool,
     summary: bool,
     exit_code: bool,
+    mend: bool,
     steps: Option<String>,
     filter: Filter,
     owners: Option<Source>,
@@ -218,8 +232,9 @@ impl Words {
             (Topic::Run, "--create") => self.create = true,
             (Topic::Run, "--adopt") => self.adopt = true,
             (Topic::Run, "--from-start") => self.from_start = true,
-            (Topic::Run, "--dry-run" | "-n") => self.dry_run = true,
-            (Topic::Classes | Topic::Run, "--summary") => self.summary = true,
+            (Topic::Run | Topic::Names, "--dry-run" | "-n") => self.dry_run = true,
+            (Topic::Classes | Topic::Run | Topic::Names, "--summary") => self.summary = true,
+            (Topic::Names, "--mend") => self.mend = true,
             (Topic::Classes, "--exit-code") => self.exit_code = true,
             _ => return Err(unknown(option)),
         }
@@ -301,6 +316,7 @@ impl Words {
             Topic::Log if self.places.is_empty() => Command::Log(None),
             Topic::Log => Command::Log(Some(self.shown()?)),
             Topic::Undo => Command::Undo,
+            Topic::Names => Command::Names(self.names_options()?),
             Topic::Intake => Command::Intake(self.intake_options()?),
             Topic::All | Topic::Link => Command::Help(topic),
         };
@@ -334,6 +350,19 @@ impl Words {
                 .map(|steps| number(steps, "number of steps"))
                 .transpose()?,
             from_start: self.from_start,
+            dry_run: self.dry_run,
+            summary: self.summary,
+        })
+    }
+
+    fn names_options(&self) -> Result<NamesOptions, Failure> {
+        if self.dry_run && !self.mend {
+            return Err(Failure::usage(
+                "--dry-run is of a mending: --mend is missing",
+            ));
+        }
+        Ok(NamesOptions {
+            mend: self.mend,
             dry_run: self.dry_run,
             summary: self.summary,
         })
@@ -473,6 +502,30 @@ mod tests {
         let one = Command::Log(Some(Fid::new(0x2_0000_0401, 1)));
         assert_eq!(call("log d 0x200000401:1 --json").command, one);
         assert_eq!(call("undo d").command, Command::Undo);
+    }
+
+    #[test]
+    fn names_are_listed_or_mended() {
+        let options = |line: &str| match call(line).command {
+            Command::Names(options) => options,
+            other => panic!("{line}: {other:?}"),
+        };
+        let none = NamesOptions::default();
+        assert_eq!(options("names d"), none);
+        let summary = true;
+        assert_eq!(
+            options("names --summary d"),
+            NamesOptions { summary, ..none }
+        );
+        let mend = NamesOptions { mend: true, ..none };
+        assert_eq!(options("names d --mend --json"), mend);
+        let dry_run = true;
+        for line in ["names d --mend --dry-run", "names -n --mend d"] {
+            assert_eq!(options(line), NamesOptions { dry_run, ..mend }, "{line}");
+        }
+        expect_refused(&["names", "names d e", "names d --dry-run", "names d -n"]);
+        expect_refused(&["names d --create", "names d --steps 1", "names -"]);
+        expect_refused(&["run d --mend", "check d --mend", "names d --mend=1"]);
     }
 
     #[test]

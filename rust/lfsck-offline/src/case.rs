@@ -7,16 +7,18 @@ use std::path::Path;
 
 use crate::digest::Digest;
 use crate::disk::{Disk, trouble};
-use crate::history::{Deed, Entry, LOG};
+use crate::history::{Deed, Entry, Group, LOG};
 use crate::journal::{Change, Edit};
 use crate::lock::{Share, lock};
+use crate::mended::Mended;
+use crate::names::Names;
 use crate::outcome::Failure;
 use crate::permissions::{Access, Permissions};
 use crate::quoted::on_one_line;
-use crate::save::{self, MOST_LOG, SAMPLE_LINK, SAVED};
+use crate::save::{self, MOST_LOG, OF_CASE, OF_NAMES, SAMPLE_LINK};
 use crate::saved::{self, POSITION, Saved};
 use crate::slices::Run;
-use crate::tables::{Table, Tables};
+use crate::tables::{Table, Tables, Together};
 
 /// The room for an entry of the log and a position that a run is at least to have.
 const LOG_ROOM: usize = 64 << 10;
@@ -68,28 +70,40 @@ impl Case {
     /// A directory has none of the files of a case yet, or is missing.
     pub fn require_none(directory: &Path) -> Result<(), Failure> {
         match directory.exists() {
-            true => require_free(&Disk::open(directory)?, &SAVED),
+            true => require_free(&Disk::open(directory)?, &OF_CASE),
             false => Ok(()),
         }
     }
 
-    /// Makes a case with these tables, and a linkEA beside them if there is one, in a directory
-    /// that has none of the files yet.
-    pub fn make(directory: &Path, tables: &Tables, link: Option<&[u8]>) -> Result<(), Failure> {
+    /// Makes a case with these tables in a directory that has none of the files yet.
+    pub fn make(directory: &Path, tables: &Tables) -> Result<(), Failure> {
+        let changes = made(tables);
+        Case::make_files(directory, changes, &OF_CASE)
+    }
+
+    /// Makes a case with these tables, names, and a linkEA beside them, in a directory that has none
+    /// of the files yet.
+    pub fn make_sample(
+        directory: &Path,
+        tables: &Tables,
+        names: &Names,
+        link: &[u8],
+    ) -> Result<(), Failure> {
+        let mut changes = made(tables);
+        changes.extend(made(names));
+        changes.push(made_file(SAMPLE_LINK, link));
+        let files: Vec<&str> = [&OF_CASE[..], &OF_NAMES, &[SAMPLE_LINK]].concat();
+        Case::make_files(directory, changes, &files)
+    }
+
+    fn make_files(directory: &Path, changes: Vec<Change>, free: &[&str]) -> Result<(), Failure> {
         fs::create_dir_all(directory).map_err(|error| trouble(directory, &error))?;
         let case = Case::open_alone(directory)?;
-        require_free(&case.disk, &SAVED)?;
-        if link.is_some() {
-            require_free(&case.disk, &[SAMPLE_LINK])?;
-        }
-        let change = |name: &str, bytes: &[u8]| Change {
-            name: name.to_string(),
-            before: None,
-            edit: Edit::Put(bytes.to_vec()),
-        };
-        let tables = Table::ALL.map(|table| change(table.file(), tables.of(table)));
-        let link = link.map(|link| change(SAMPLE_LINK, link));
-        let changes: Vec<Change> = tables.into_iter().chain(link).collect();
+        require_free(&case.disk, free)?;
+        // A save looks at the tables that are there already.
+        let names = Table::NAMES.map(Table::file).into_iter();
+        let found: Result<Vec<_>, _> = names.map(|name| case.disk.permissions(name)).collect();
+        found?;
         save::save(&case.disk, &changes, Access::Own)
     }
 
@@ -129,6 +143,27 @@ impl Case {
         })
     }
 
+    /// The tables of names as they stand; none where the case has neither.
+    pub fn names(&self) -> Result<Option<Names>, Failure> {
+        let read = |table: Table| self.find(table.file(), table.most_bytes());
+        match (read(Table::Entries)?, read(Table::Children)?) {
+            (Some(entries), Some(children)) => Ok(Some(Names { entries, children })),
+            (None, None) => Ok(None),
+            (None, Some(_)) => Err(self.half(Table::Entries, Table::Children)),
+            (Some(_), None) => Err(self.half(Table::Children, Table::Entries)),
+        }
+    }
+
+    /// One table of names is missing, and the other is there.
+    fn half(&self, missing: Table, there: Table) -> Failure {
+        let path = self.disk.path(missing.file());
+        Failure::files(format!(
+            "{}: there is no such file, and {} is there; names need both",
+            path.display(),
+            there.file()
+        ))
+    }
+
     /// The saved position, if there is one.
     pub fn position(&self) -> Result<Option<Saved>, Failure> {
         let Some(bytes) = self.find(POSITION, saved::MOST_BYTES)? else {
@@ -152,10 +187,26 @@ impl Case {
 
     /// The last entry of the log.
     pub fn last_entry(&self) -> Result<Option<Entry>, Failure> {
+        self.last_that(|_| true)
+    }
+
+    /// The last entry of the log that changed these tables.
+    pub fn last_of(&self, group: Group) -> Result<Option<Entry>, Failure> {
+        self.last_that(|entry| entry.group() == group)
+    }
+
+    /// The last entry of the log that is such; those behind it must be entries too.
+    fn last_that(&self, is_such: impl Fn(&Entry) -> bool) -> Result<Option<Entry>, Failure> {
         let bytes = self.find(LOG, MOST_LOG)?.unwrap_or_default();
         let lines = bytes.split_inclusive(|&byte| byte == b'\n').enumerate();
-        let last = lines.last().map(|(at, line)| self.entry(at, line));
-        last.transpose()
+        let lines: Vec<(usize, &[u8])> = lines.collect();
+        for (at, line) in lines.into_iter().rev() {
+            let entry = self.entry(at, line)?;
+            if is_such(&entry) {
+                return Ok(Some(entry));
+            }
+        }
+        Ok(None)
     }
 
     fn entry(&self, at: usize, line: &[u8]) -> Result<Entry, Failure> {
@@ -172,11 +223,11 @@ impl Case {
     }
 
     /// Looks for what would stop a save of these tables, before there is something to save.
-    pub fn prepare(&self, tables: &Tables) -> Result<(), Failure> {
-        let (parents, objects) = (tables.parents.len(), tables.objects.len());
+    pub fn prepare<Of: Together>(&self, tables: &Of) -> Result<(), Failure> {
+        let [one, other] = tables.lengths();
         // The journal with both, and one new file beside its old one.
-        let room = parents + objects + parents.max(objects) + LOG_ROOM;
-        save::prepare(&self.disk, room)
+        let room = one + other + one.max(other) + LOG_ROOM;
+        save::prepare(&self.disk, room, Of::CHANGED_BY)
     }
 
     /// Saves what a run has changed of the tables and the position, with an entry in the log
@@ -198,31 +249,65 @@ impl Case {
                 .and_then(|bytes| Saved::parse(&bytes))
                 .map(Box::new),
         };
-        let entry = (old != new).then(|| Entry::new(deed, old, new));
-        self.save(old, new, Some(saved), entry)
+        let line = (old != new).then(|| Entry::new(deed, old, new).line());
+        let position = self.position_change(Some(saved))?;
+        self.save(old, new, position, line)
     }
 
-    /// Saves tables that an undo has made of these, with the position from before the run.
-    pub fn save_undo(&self, old: &Tables, new: &Tables, undone: &Entry) -> Result<(), Failure> {
-        let Deed::Run { saved, .. } = &undone.deed else {
+    /// Saves what a mending has changed of the names, with an entry in the log, all or none.
+    pub fn save_mending(&self, old: &Names, new: &Names, mended: Mended) -> Result<(), Failure> {
+        let line = Entry::new(Deed::Mending(mended), old, new).line();
+        self.require_log_room(&line)?;
+        self.save(old, new, None, Some(line))
+    }
+
+    /// The log can still be read with another line.
+    fn require_log_room(&self, line: &str) -> Result<(), Failure> {
+        let length = self.disk.length(LOG)?.unwrap_or(0);
+        if length + line.len() as u64 <= MOST_LOG as u64 {
             return Ok(());
-        };
-        let undoes = undone.when.clone();
-        let entry = Entry::new(Deed::Undo { undoes }, old, new);
-        self.save(old, new, saved.as_deref(), Some(entry))
+        }
+        let path = self.disk.path(LOG);
+        Err(Failure::files(format!(
+            "{}: with this it would be longer than {MOST_LOG} bytes; nothing is saved",
+            path.display()
+        )))
     }
 
-    fn save(
+    /// Saves tables that an undo has made of these; of a run, with the position from before it.
+    pub fn save_undo<Of: Together>(
         &self,
-        old: &Tables,
-        new: &Tables,
-        saved: Option<&Saved>,
-        entry: Option<Entry>,
+        old: &Of,
+        new: &Of,
+        undone: &Entry,
     ) -> Result<(), Failure> {
-        let access = Access::strictest(&self.require_unchanged(old)?);
-        let line = entry.map(|entry| save::append(&self.disk, entry.line()));
+        let deed = Deed::Undo {
+            undoes: undone.when.clone(),
+            of: undone.group(),
+        };
+        let line = Entry::new(deed, old, new).line();
+        let position = match &undone.deed {
+            Deed::Run { saved, .. } => self.position_change(saved.as_deref())?,
+            Deed::Mending(_) => {
+                self.require_log_room(&line)?;
+                None
+            }
+            Deed::Undo { .. } => return Ok(()),
+        };
+        self.save(old, new, position, Some(line))
+    }
+
+    fn save<Of: Together>(
+        &self,
+        old: &Of,
+        new: &Of,
+        position: Option<Change>,
+        line: Option<String>,
+    ) -> Result<(), Failure> {
+        let access = self.require_unchanged(old)?;
+        let line = line.map(|line| save::append(&self.disk, line));
         let mut changes: Vec<Change> = line.transpose()?.into_iter().collect();
-        for table in Table::ALL {
+        for &table in Of::ALL {
             if old.of(table) != new.of(table) {
                 changes.push(Change {
                     name: table.file().to_string(),
@@ -231,7 +316,7 @@ impl Case {
                 });
             }
         }
-        changes.extend(self.position_change(saved)?);
+        changes.extend(position);
         match changes.len() {
             0 => Ok(()),
             _ => save::save(&self.disk, &changes, access),
@@ -250,17 +335,44 @@ impl Case {
         }))
     }
 
-    /// The tables are still those that were read; who may read them.
-    fn require_unchanged(&self, tables: &Tables) -> Result<Vec<Permissions>, Failure> {
-        let permissions = |table: Table| match save::stand(&self.disk, table.file())? {
-            Some(stand) if stand.digest == Digest::of(tables.of(table)) => Ok(stand.permissions),
+    /// The tables are still those that were read; who may read what tells of all tables of the
+    /// case.
+    fn require_unchanged<Of: Together>(&self, tables: &Of) -> Result<Access, Failure> {
+        let find = |table: Table| self.disk.find(table.file(), table.most_bytes());
+        let permissions = |table: Table| match find(table)? {
+            Some(found) if found.bytes == tables.of(table) => Ok(found.permissions),
             _ => {
                 let path = self.disk.path(table.file());
                 let message = format!("{}: changed meanwhile; nothing is saved", path.display());
                 Err(Failure::files(message))
             }
         };
-        Table::ALL.into_iter().map(permissions).collect()
+        let own: Result<Vec<Permissions>, Failure> =
+            Of::ALL.iter().map(|table| permissions(*table)).collect();
+        let others = Table::every().filter(|table| !Of::ALL.contains(table));
+        let others: Result<Vec<Option<Permissions>>, Failure> = others
+            .map(|table| self.disk.permissions(table.file()))
+            .collect();
+        let all: Vec<Permissions> = own?
+            .into_iter()
+            .chain(others?.into_iter().flatten())
+            .collect();
+        Ok(Access::strictest(&all))
+    }
+}
+
+/// The files of tables that are new.
+fn made<Of: Together>(tables: &Of) -> Vec<Change> {
+    let made = |table: &Table| made_file(table.file(), tables.of(*table));
+    Of::ALL.iter().map(made).collect()
+}
+
+/// A file that is new.
+fn made_file(name: &str, bytes: &[u8]) -> Change {
+    Change {
+        name: name.to_string(),
+        before: None,
+        edit: Edit::Put(bytes.to_vec()),
     }
 }
 
@@ -299,6 +411,9 @@ mod tests {
     use super::*;
     use crate::save::JOURNAL;
 
+    const ENTRIES: &str = "entries.tbl";
+    const CHILDREN: &str = "children.tbl";
+
     const RUN: Run = Run {
         answer: 0,
         position: [3, 0, 0],
@@ -315,7 +430,7 @@ mod tests {
             objects: vec![0; 46],
             reserve: vec![1; 16],
         };
-        Case::make(&directory, &tables, None).expect("a new case");
+        Case::make(&directory, &tables).expect("a new case");
         let case = Case::open_alone(&directory).expect("the case");
         (case, tables, directory)
     }
@@ -342,6 +457,59 @@ mod tests {
             .expect("a save");
         assert_eq!(case.tables().expect("the tables"), new);
         assert_eq!(case.position().expect("the position"), Some(saved));
+        fs::remove_dir_all(&directory).expect("the directory");
+    }
+
+    #[test]
+    fn names_that_somebody_changed_meanwhile_are_not_overwritten() {
+        let (case, _, directory) = case("names-meanwhile");
+        let old = Names {
+            entries: vec![0; 293],
+            children: vec![0; 4130],
+        };
+        let mut new = old.clone();
+        new.children[0] = 1;
+        let mended = Mended::new(0, [1, 0, 0, 0, 1]);
+        for table in Table::NAMES {
+            fs::write(directory.join(ENTRIES), &old.entries).expect("the file");
+            fs::write(directory.join(CHILDREN), &old.children).expect("the file");
+            let path = directory.join(table.file());
+            fs::write(&path, b"other").expect("the file");
+            let failure = case
+                .save_mending(&old, &new, mended)
+                .expect_err("a refusal");
+            assert!(failure.message.contains(table.file()), "{failure:?}");
+            assert!(failure.message.contains("nothing is saved"), "{failure:?}");
+            assert_eq!(fs::read(&path).expect("the file"), b"other");
+            assert!(!case.disk.has(JOURNAL) && !case.disk.has(LOG));
+        }
+        fs::write(directory.join(CHILDREN), &old.children).expect("the file");
+        case.save_mending(&old, &new, mended).expect("a save");
+        assert_eq!(case.names().expect("the names"), Some(new));
+        fs::remove_dir_all(&directory).expect("the directory");
+    }
+
+    /// A log that would be too long to be read again is not written.
+    #[test]
+    fn a_log_without_room_for_a_mending_is_left() {
+        let (case, _, directory) = case("names-log-room");
+        let old = Names {
+            entries: vec![0; 293],
+            children: vec![0; 4130],
+        };
+        let mut new = old.clone();
+        new.children[0] = 1;
+        fs::write(directory.join(ENTRIES), &old.entries).expect("the file");
+        fs::write(directory.join(CHILDREN), &old.children).expect("the file");
+        let log = fs::File::create(directory.join(LOG)).expect("the file");
+        log.set_len(MOST_LOG as u64 - 100).expect("the length");
+        let mended = Mended::new(0, [1, 0, 0, 0, 1]);
+        let failure = case
+            .save_mending(&old, &new, mended)
+            .expect_err("a refusal");
+        assert!(failure.message.contains(LOG), "{failure:?}");
+        assert!(failure.message.ends_with("nothing is saved"), "{failure:?}");
+        assert_eq!(case.names().expect("the names"), Some(old));
         fs::remove_dir_all(&directory).expect("the directory");
     }
 

@@ -5,8 +5,10 @@ mod classes;
 mod intake;
 mod link;
 mod log;
+mod names;
 mod run;
 mod sample;
+mod sample_names;
 mod show;
 mod undo;
 
@@ -38,6 +40,7 @@ pub fn execute(call: &Call) -> Result<Outcome, Failure> {
         Command::Log(None) => log::log(directory, json),
         Command::Log(Some(fid)) => log::story(directory, *fid, json),
         Command::Undo => undo::undo(directory, json),
+        Command::Names(options) => names::names(directory, *options, json, &bar),
         Command::Link(source) => link::link(source, json),
         Command::Intake(options) => intake::intake(directory, options, json, &bar),
     }

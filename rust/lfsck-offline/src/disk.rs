@@ -184,14 +184,15 @@ impl Disk {
         Ok(true)
     }
 
-    /// Sees whether there is room for a file of so many bytes, and removes it again.
-    pub fn reserve(&self, name: &str, bytes: usize) -> Result<(), Failure> {
+    /// Sees whether there is room for a file of so many bytes, and removes it again. What is to be
+    /// saved is a word for people.
+    pub fn reserve(&self, name: &str, bytes: usize, what: &str) -> Result<(), Failure> {
         let mut file = self.make(name, Access::Own)?;
         let zeros = vec![0; bytes];
         let reserved = self.operation("reserve", name, |_| file.write_all(&zeros));
         let removed = self.remove(name);
         reserved.and(removed).map_err(|failure| Failure {
-            message: format!("{}; so a run could not be saved", failure.message),
+            message: format!("{}; so a {what} could not be saved", failure.message),
             ..failure
         })
     }

@@ -153,7 +153,7 @@ impl Dumps {
         match table {
             Table::Parents => self.files.get(row),
             Table::Objects => self.objects.get(row),
-            Table::Reserve => None,
+            _ => None,
         }
     }
 

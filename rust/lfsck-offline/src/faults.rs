@@ -14,7 +14,7 @@ use numbers::object::{CLAIM_AT, FRESH_AT, OST_AT, SELF_AT};
 use numbers::parent::{LAYOUT_AT, LENGTH_AT};
 
 use crate::fid::{Fid, number16, number32};
-use crate::tables::{Table, Tables};
+use crate::tables::{Table, Tables, Together};
 
 /// Something that is wrong with a table.
 #[derive(Clone, Debug, PartialEq, Eq)]
@@ -83,7 +83,7 @@ pub fn faults(tables: &Tables) -> Vec<Fault> {
             match table {
                 Table::Parents => parent(&mut row, bytes, &mut known),
                 Table::Objects => object(&mut row, bytes, &mut known),
-                Table::Reserve => fid(&mut row, "FID", Fid::read(bytes, 0)),
+                _ => fid(&mut row, "FID", Fid::read(bytes, 0)),
             }
         }
     }
@@ -91,7 +91,7 @@ pub fn faults(tables: &Tables) -> Vec<Fault> {
 }
 
 /// Whole rows, and not too many.
-fn length_fault(table: Table, bytes: &[u8]) -> Option<Fault> {
+pub fn length_fault(table: Table, bytes: &[u8]) -> Option<Fault> {
     let (size, most) = (table.row_bytes(), table.most_bytes());
     let reason = if bytes.len() > most {
         format!("the file is longer than {most} bytes, which are the most rows there may be")
@@ -318,7 +318,7 @@ mod tests {
             match table {
                 Table::Parents => tables.parents = bytes,
                 Table::Objects => tables.objects = bytes,
-                Table::Reserve => tables.reserve = bytes,
+                _ => tables.reserve = bytes,
             }
             let fault = faults(&tables).remove(0);
             assert_eq!((fault.table, fault.number), (table, BAD_TABLE));

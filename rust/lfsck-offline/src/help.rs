@@ -21,6 +21,8 @@ pub enum Topic {
     Log,
     /// `undo`.
     Undo,
+    /// `names`.
+    Names,
     /// `link`.
     Link,
     /// `intake`.
@@ -39,6 +41,7 @@ impl Topic {
             "show" => Topic::Show,
             "log" => Topic::Log,
             "undo" => Topic::Undo,
+            "names" => Topic::Names,
             "link" => Topic::Link,
             "intake" => Topic::Intake,
             _ => return None,
@@ -56,6 +59,7 @@ impl Topic {
             Topic::Show => SHOW,
             Topic::Log => LOG,
             Topic::Undo => UNDO,
+            Topic::Names => NAMES,
             Topic::Link => LINK,
             Topic::Intake => INTAKE,
         }
@@ -81,7 +85,8 @@ Usage: lfsck-offline COMMAND DIR [OPTIONS]
        lfsck-offline link FILE [OPTIONS]
 
 Checks and repairs the striping layouts of a site from table files. DIR is the
-case: the directory with parents.tbl, objects.tbl and reserve.tbl.
+case: the directory with parents.tbl, objects.tbl and reserve.tbl. A case may
+also have names: entries.tbl and children.tbl.
 
   sample DIR     make a small case with every kind of fault
   intake DIR --owners FILE [DUMP..]
@@ -90,8 +95,9 @@ case: the directory with parents.tbl, objects.tbl and reserve.tbl.
   classes DIR    list what is wrong with which file, and what a repair would do
   run DIR        repair, going on from where the last run stopped
   show DIR FID   tell everything about one file or object
+  names DIR      list where names and files disagree, and mend that (--mend)
   log DIR [FID]  tell what the runs changed, and when; of FID, also why
-  undo DIR       take the last run back
+  undo DIR       take the last run or mending back
   link FILE      print a linkEA: under which names a file stands in directories
 
   help COMMAND   tell how a command is used
@@ -110,8 +116,9 @@ const SAMPLE: &str = "\
 Usage: lfsck-offline sample DIR [--json]
 
 Makes a small case with every class in it: parents.tbl, objects.tbl and
-reserve.tbl in DIR, which is made where it is missing; and link.hex, a linkEA to
-print with link. Files that are already there are not overwritten.
+reserve.tbl in DIR, which is made where it is missing; names with every finding:
+entries.tbl and children.tbl; and link.hex, a linkEA to print with link. Files
+that are already there are not overwritten.
 ";
 
 const CHECK: &str = "\
@@ -124,6 +131,13 @@ that applies and what it means, and every row at fault with field and reason.
   13  layout against the rules
   14  bad FID, object index or claim, or fresh without claim
   15  a FID twice among used parents, or twice among used objects
+
+Where the case has names, says the same of entries.tbl and children.tbl:
+
+  11  table not whole rows, or too long
+  16  an entry's child at or past the child rows
+  31  name or linkEA against the rules
+  39  a climb from directory to directory is too long or circular
 
 Exit status: 0 sound, 2 not sound.
 ";
@@ -197,6 +211,42 @@ hexadecimal or decimal numbers.
 Exit status: 2 where nothing in the case has the FID.
 ";
 
+const NAMES: &str = "\
+Usage: lfsck-offline names DIR [--summary] [--json]
+       lfsck-offline names DIR --mend [--dry-run] [--summary] [--json]
+
+Compares the entries of directories (entries.tbl) with the files and directories
+that they name (children.tbl). Lists every entry that is not consistent:
+directory, whether that is visible, row and self FID of the child, what is found
+of the FID and of the record, and the name, in quotes as link prints it. Ends
+with the number of entries of each finding.
+
+  FID   consistent, no FID-in-dirent, differs (FID-in-dirent and self FID are
+        not the same), no self FID, neither
+  link  consistent, missing record (the child's linkEA lacks directory and name)
+
+A directory is visible if it is ROOT or has a linkEA, or if that holds of one
+that is reached by following '..' upward; else it is hidden, and its entries are
+left out of a mending.
+
+  --mend         mend: a child without self FID takes that of its first entry
+                 that has one; each entry gets the self FID of its child;
+                 missing records are appended; then records without an entry,
+                 and repeats, are removed. Saves both tables at once
+  --dry-run, -n  with --mend: print what it would, write nothing
+  --summary      print these numbers alone; with --mend, leave out the list of
+                 changes
+
+What it changes stands in the log (see log), and undo takes it back.
+
+  38  a record outgrows the room for its child's linkEA: the mending stops in
+      front of that entry. What was done before it is saved, and no record is
+      removed
+
+Exit status: 0 done, 2 the names are refused (11, 16, 31 or 39; see check),
+3 the room for a linkEA ran out (38), 74 there are no names.
+";
+
 const LOG: &str = "\
 Usage: lfsck-offline log DIR [FID] [--json]
 
@@ -204,7 +254,9 @@ Tells what was done in the case, from the log that each run that changes a table
 is written into: when, by which version, under which policy, from where to
 where, the repairs, and every change. With FID, the story of that file or
 object: the changes that concern it, each with the time and the class that was
-mended; a generation that repairs of several classes raised has none.
+mended; a generation that repairs of several classes raised has none. Mendings
+of names are told in the same way: how many self FIDs were taken, FID-in-dirents
+written, records appended and removed, and every change.
 ";
 
 const UNDO: &str = "\
@@ -212,7 +264,8 @@ Usage: lfsck-offline undo DIR [--json]
 
 Takes the last run of the log back, row by row, and puts the saved position back
 that was there before it. The tables must still be what that run left. The undo
-is written into the log, and is not taken back itself.
+is written into the log, and is not taken back itself. Where the log ends with a
+mending of names, that is taken back, and the position stays.
 
 Exit status: 2 where there is no run to take back, or the tables were changed
 since.

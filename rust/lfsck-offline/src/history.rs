@@ -1,16 +1,19 @@
-//! The entries of a case's log: what a run did, row by row, as a line of JSON.
+//! The entries of a case's log: what a run or a mending did, row by row, as a line of JSON.
 
-use crate::change::Change;
+use crate::change::{Change, Values};
 use crate::changes::changes;
 use crate::clock;
 use crate::digest::Digest;
 use crate::hex;
 use crate::json::Json;
+use crate::mended::Mended;
+use crate::name_changes::{self, NameChange};
+use crate::names::Names;
 use crate::reader::Value;
 use crate::saved::Saved;
 use crate::site::Site;
 use crate::slices::{COUNTED, Run};
-use crate::tables::{Table, Tables};
+use crate::tables::{Table, Tables, Together};
 
 /// The file of the log.
 pub const LOG: &str = "lfsck-offline.log";
@@ -45,11 +48,50 @@ pub enum Deed {
         /// The position that was saved before.
         saved: Option<Box<Saved>>,
     },
+    /// A mending of names.
+    Mending(Mended),
     /// An undo.
     Undo {
-        /// When the run was that it took back.
+        /// When that was done which it took back.
         undoes: String,
+        /// Of which tables.
+        of: Group,
     },
+}
+
+/// Which tables are changed together.
+#[derive(Clone, Copy, Debug, PartialEq, Eq)]
+pub enum Group {
+    /// Those of files and objects, by runs.
+    Files,
+    /// Those of names, by mendings.
+    Names,
+}
+
+impl Group {
+    /// The tables.
+    pub fn tables(self) -> &'static [Table] {
+        match self {
+            Group::Files => Tables::ALL,
+            Group::Names => Names::ALL,
+        }
+    }
+
+    /// What changes them, in a word.
+    pub fn changed_by(self) -> &'static str {
+        match self {
+            Group::Files => Tables::CHANGED_BY,
+            Group::Names => Names::CHANGED_BY,
+        }
+    }
+
+    /// The group whose first table is among the members of a value.
+    fn of_value(value: &Value) -> Group {
+        match value.get(Table::Entries.file()) {
+            Some(_) => Group::Names,
+            None => Group::Files,
+        }
+    }
 }
 
 /// An entry of the log.
@@ -63,20 +105,29 @@ pub struct Entry {
     pub deed: Deed,
     /// The rows that it changed, in their order.
     pub rows: Vec<Row>,
-    /// The digests of the tables before it.
-    pub before: [Digest; 3],
-    /// The digests of the tables after it.
-    pub after: [Digest; 3],
+    /// The digests of the tables of its group before it.
+    pub before: Vec<Digest>,
+    /// The digests of the tables of its group after it.
+    pub after: Vec<Digest>,
 }
 
-/// The digests of the three tables.
-pub fn digests(tables: &Tables) -> [Digest; 3] {
-    Table::ALL.map(|table| Digest::of(tables.of(table)))
+/// What was changed, in words.
+pub enum Changes {
+    /// Files and objects.
+    Files(Vec<Change>),
+    /// Names.
+    Names(Vec<NameChange>),
+}
+
+/// The digests of tables, in their order.
+pub fn digests<Of: Together>(tables: &Of) -> Vec<Digest> {
+    let digest = |table: &Table| Digest::of(tables.of(*table));
+    Of::ALL.iter().map(digest).collect()
 }
 
 impl Entry {
     /// What is done now, from these tables to those.
-    pub fn new(deed: Deed, old: &Tables, new: &Tables) -> Entry {
+    pub fn new<Of: Together>(deed: Deed, old: &Of, new: &Of) -> Entry {
         Entry {
             when: clock::now(),
             version: VERSION.to_string(),
@@ -88,11 +139,11 @@ impl Entry {
     }
 
     /// The tables without what was done, where they are as it left them.
-    pub fn taken_back(&self, tables: &Tables) -> Option<Tables> {
+    pub fn taken_back<Of: Together>(&self, tables: &Of) -> Option<Of> {
         let mut tables = tables.clone();
         for row in &self.rows {
             let size = row.table.row_bytes();
-            let bytes = tables.of_mut(row.table);
+            let bytes = tables.of_mut(row.table)?;
             let place = bytes
                 .get_mut(row.row.checked_mul(size)?..)?
                 .get_mut(..size)?;
@@ -104,16 +155,22 @@ impl Entry {
         (digests(&tables) == self.before).then_some(tables)
     }
 
-    /// What was changed, in words: the rows compared, each under its own number.
-    pub fn changes(&self) -> Vec<Change> {
-        let side = |bytes: fn(&Row) -> &[u8]| {
-            let mut tables = Tables::default();
-            for row in &self.rows {
-                tables.of_mut(row.table).extend(bytes(row));
-            }
-            Site::new(&tables)
-        };
-        let mut list = changes(&side(|row| &row.old), &side(|row| &row.new));
+    /// Which tables it changed.
+    pub fn group(&self) -> Group {
+        self.deed.group()
+    }
+
+    /// What was changed, in words.
+    pub fn changes(&self) -> Changes {
+        match self.group() {
+            Group::Files => Changes::Files(self.file_changes()),
+            Group::Names => Changes::Names(self.name_changes()),
+        }
+    }
+
+    /// The rows of files and objects compared, each under its own number.
+    fn file_changes(&self) -> Vec<Change> {
+        let mut list = changes(&self.site(|row| &row.old), &self.site(|row| &row.new));
         let numbers = Table::ALL.map(|table| {
             let rows = self.rows.iter().filter(|row| row.table == table);
             (table, rows.map(|row| row.row).collect::<Vec<usize>>())
@@ -122,9 +179,27 @@ impl Entry {
             let of_table = numbers.iter().find(|(table, _)| *table == change.table);
             let number = of_table.and_then(|(_, numbers)| numbers.get(change.row));
             change.row = number.copied().unwrap_or(change.row);
-            change.undone = matches!(self.deed, Deed::Undo { .. });
+            change.undone = self.is_undo();
         }
         list
+    }
+
+    /// The rows as they were, or as they are, as tables of their own.
+    fn site(&self, bytes: fn(&Row) -> &[u8]) -> Site {
+        let mut tables = Tables::default();
+        for row in &self.rows {
+            let table = tables.of_mut(row.table);
+            table.into_iter().for_each(|table| table.extend(bytes(row)));
+        }
+        Site::new(&tables)
+    }
+
+    fn name_changes(&self) -> Vec<NameChange> {
+        name_changes_of(&self.rows, self.is_undo())
+    }
+
+    fn is_undo(&self) -> bool {
+        matches!(self.deed, Deed::Undo { .. })
     }
 
     /// The line of the entry.
@@ -145,8 +220,8 @@ impl Entry {
                 "rows",
                 Json::List(self.rows.iter().map(Row::json).collect()),
             ),
-            ("before", digests_json(&self.before)),
-            ("after", digests_json(&self.after)),
+            ("before", digests_json(self.group(), &self.before)),
+            ("after", digests_json(self.group(), &self.after)),
         ]);
         members
     }
@@ -155,6 +230,7 @@ impl Entry {
     pub fn what(&self) -> &'static str {
         match self.deed {
             Deed::Run { .. } => "run",
+            Deed::Mending(_) => "mending",
             Deed::Undo { .. } => "undo",
         }
     }
@@ -162,26 +238,44 @@ impl Entry {
     /// The entry that a line, without its end, is.
     pub fn parse(line: &str) -> Option<Entry> {
         let value = Value::parse(line)?;
+        let deed = Deed::of_value(&value)?;
+        let group = deed.group();
+        let row = |row| Row::of_value(row).filter(|row| group.tables().contains(&row.table));
+        let rows = value.list("rows")?.iter().map(row);
         let entry = Entry {
             when: value.text("when")?.to_string(),
             version: value.text("version")?.to_string(),
-            deed: Deed::of_value(&value)?,
-            rows: value
-                .list("rows")?
-                .iter()
-                .map(Row::of_value)
-                .collect::<Option<_>>()?,
-            before: digests_of(value.get("before")?)?,
-            after: digests_of(value.get("after")?)?,
+            rows: rows.collect::<Option<_>>()?,
+            before: digests_of(group, value.get("before")?)?,
+            after: digests_of(group, value.get("after")?)?,
+            deed,
         };
         (value.text("what")? == entry.what()).then_some(entry)
     }
 }
 
-/// The rows that differ. A run neither adds nor moves rows.
-fn rows(old: &Tables, new: &Tables) -> Vec<Row> {
+/// What differs between tables of names, told of a mending or of an undo.
+pub fn name_changes(old: &Names, new: &Names, undone: bool) -> Vec<NameChange> {
+    name_changes_of(&rows(old, new), undone)
+}
+
+fn name_changes_of(rows: &[Row], undone: bool) -> Vec<NameChange> {
+    let of_row = |row: &Row| {
+        let values = Values {
+            old: &row.old[..],
+            new: &row.new[..],
+        };
+        name_changes::of_row(row.table, row.row, values, undone)
+    };
+    let mut list: Vec<NameChange> = rows.iter().flat_map(of_row).collect();
+    name_changes::sort(&mut list);
+    list
+}
+
+/// The rows that differ. Neither a run nor a mending adds or moves rows.
+fn rows<Of: Together>(old: &Of, new: &Of) -> Vec<Row> {
     let mut list = Vec::new();
-    for table in Table::ALL {
+    for &table in Of::ALL {
         let pairs = old.rows(table).zip(new.rows(table)).enumerate();
         let differ = pairs.filter(|(_, (old, new))| old != new);
         list.extend(differ.map(|(row, (old, new))| Row {
@@ -196,32 +290,62 @@ fn rows(old: &Tables, new: &Tables) -> Vec<Row> {
 
 impl Row {
     fn json(&self) -> Json {
+        let digits = |bytes: &[u8]| Json::Text(hex::encode(self.table.written(bytes)));
         Json::Object(vec![
             ("table", Json::text(self.table.file())),
             ("row", Json::Number(self.row as u64)),
-            ("old", Json::Text(hex::encode(&self.old))),
-            ("new", Json::Text(hex::encode(&self.new))),
+            ("old", digits(&self.old)),
+            ("new", digits(&self.new)),
         ])
     }
 
     fn of_value(value: &Value) -> Option<Row> {
         let file = value.text("table")?;
-        let table = Table::ALL.into_iter().find(|table| table.file() == file)?;
-        let row = Row {
+        let table = Table::every().find(|table| table.file() == file)?;
+        let bytes = |name| table.whole_row(hex::decode(value.text(name)?)?);
+        Some(Row {
             table,
             row: value.number("row")?.try_into().ok()?,
-            old: hex::decode(value.text("old")?)?,
-            new: hex::decode(value.text("new")?)?,
-        };
-        let whole = |bytes: &[u8]| bytes.len() == table.row_bytes();
-        (whole(&row.old) && whole(&row.new)).then_some(row)
+            old: bytes("old")?,
+            new: bytes("new")?,
+        })
+    }
+}
+
+impl Table {
+    /// What the log has of a row: of a row of names, which has room that is seldom used, the bytes
+    /// up to the last that isn't zero.
+    fn written(self, row: &[u8]) -> &[u8] {
+        let last = row.iter().rposition(|&byte| byte != 0);
+        match Table::NAMES.contains(&self) {
+            true => &row[..last.map_or(0, |at| at + 1)],
+            false => row,
+        }
+    }
+
+    /// The row that those bytes were.
+    fn whole_row(self, written: Vec<u8>) -> Option<Vec<u8>> {
+        let mut row = written;
+        if Table::NAMES.contains(&self) && row.len() < self.row_bytes() {
+            row.resize(self.row_bytes(), 0);
+        }
+        (row.len() == self.row_bytes()).then_some(row)
     }
 }
 
 impl Deed {
+    fn group(&self) -> Group {
+        match self {
+            Deed::Run { .. } => Group::Files,
+            Deed::Mending(_) => Group::Names,
+            Deed::Undo { of, .. } => *of,
+        }
+    }
+
     fn members(&self) -> Vec<(&'static str, Json)> {
         match self {
-            Deed::Undo { undoes } => vec![("undoes", Json::text(undoes))],
+            Deed::Undo { undoes, .. } => vec![("undoes", Json::text(undoes))],
+            Deed::Mending(mended) => mended.members(),
             Deed::Run {
                 policy,
                 from,
@@ -244,8 +368,13 @@ impl Deed {
 
     fn of_value(value: &Value) -> Option<Deed> {
         if let Some(undoes) = value.text("undoes") {
-            let undoes = undoes.to_string();
-            return Some(Deed::Undo { undoes });
+            return Some(Deed::Undo {
+                undoes: undoes.to_string(),
+                of: Group::of_value(value.get("before")?),
+            });
+        }
+        if value.text("what")? == "mending" {
+            return Mended::of_value(value).map(Deed::Mending);
         }
         Some(Deed::Run {
             policy: value.number("policy")?,
@@ -291,14 +420,13 @@ fn numbers_of(values: &[Value]) -> Option<[u64; 3]> {
     numbers?.try_into().ok()
 }
 
-fn digests_json(digests: &[Digest; 3]) -> Json {
-    let tables = Table::ALL.iter().zip(digests);
+fn digests_json(group: Group, digests: &[Digest]) -> Json {
+    let tables = group.tables().iter().zip(digests);
     let members = tables.map(|(table, digest)| (table.file(), Json::text(digest)));
     Json::Object(members.collect())
 }
 
-fn digests_of(value: &Value) -> Option<[Digest; 3]> {
-    let digest = |table: Table| Digest::parse(value.text(table.file())?);
-    let digests: Option<Vec<Digest>> = Table::ALL.into_iter().map(digest).collect();
-    digests?.try_into().ok()
+fn digests_of(group: Group, value: &Value) -> Option<Vec<Digest>> {
+    let digest = |table: &Table| Digest::parse(value.text(table.file())?);
+    group.tables().iter().map(digest).collect()
 }

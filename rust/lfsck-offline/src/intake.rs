@@ -69,7 +69,7 @@ impl Intake {
         match table {
             Table::Parents => self.files.rows,
             Table::Objects => self.objects.rows,
-            Table::Reserve => 0,
+            _ => 0,
         }
     }
 

@@ -12,7 +12,7 @@ use numbers::call::KEEPER;
 
 use crate::fid::OstFid;
 use crate::site::{Place, Site};
-use crate::tables::{Table, Tables};
+use crate::tables::{Table, Tables, Together};
 
 /// What the library answers for an object.
 #[derive(Clone, Copy, Debug, PartialEq, Eq)]

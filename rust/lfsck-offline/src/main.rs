@@ -1,5 +1,5 @@
 //! The command `lfsck-offline`: checks, classes and repairs the tables of a site, makes them from
-//! attribute dumps, and prints linkEAs.
+//! attribute dumps, mends the names in them, and prints linkEAs.
 //!
 //! Everything that decides or changes is the verified library's. This tool reads and writes
 //! files and prints.
@@ -36,7 +36,13 @@ mod link;
 mod link_fault;
 mod lock;
 mod looks;
+mod mended;
 mod moments;
+mod name_changes;
+mod name_faults;
+mod name_finding;
+mod name_rows;
+mod names;
 mod outcome;
 mod pace;
 mod pasted;

@@ -1,14 +1,14 @@
 //! Whether the tables are of one moment, by what the log knows.
 
 use crate::history::{Entry, digests};
-use crate::tables::{Table, Tables};
+use crate::tables::Together;
 
 /// What to say of tables of which some are as before the last entry of the log and some as it
 /// left them; none where they are of one moment, or of one that the log does not know.
-pub fn two_moments(entry: &Entry, tables: &Tables) -> Option<String> {
+pub fn two_moments<Of: Together>(entry: &Entry, tables: &Of) -> Option<String> {
     let [mut before, mut after] = [Vec::new(), Vec::new()];
     for (at, digest) in digests(tables).iter().enumerate() {
-        let file = Table::ALL[at].file();
+        let file = Of::ALL[at].file();
         match (*digest == entry.before[at], *digest == entry.after[at]) {
             (true, false) => before.push(file),
             (false, true) => after.push(file),
@@ -29,7 +29,9 @@ pub fn two_moments(entry: &Entry, tables: &Tables) -> Option<String> {
 #[cfg(test)]
 mod tests {
     use super::*;
-    use crate::history::Deed;
+    use crate::history::{Deed, Group};
+    use crate::names::Names;
+    use crate::tables::Tables;
 
     #[test]
     fn tables_of_two_moments_are_told() {
@@ -42,7 +44,8 @@ mod tests {
         new.parents[1] = 1;
         new.objects[1] = 1;
         let undoes = "long ago".to_string();
-        let entry = Entry::new(Deed::Undo { undoes }, &old, &new);
+        let of = Group::Files;
+        let entry = Entry::new(Deed::Undo { undoes, of }, &old, &new);
         assert_eq!(two_moments(&entry, &old), None);
         assert_eq!(two_moments(&entry, &new), None);
         let mut both = old.clone();
@@ -55,5 +58,26 @@ mod tests {
         assert!(words.contains("parents.tbl as after it"), "{words}");
         both.objects[1] = 2;
         assert_eq!(two_moments(&entry, &both), None);
+    }
+    #[test]
+    fn names_of_two_moments_are_told() {
+        let old = Names {
+            entries: vec![0; 293],
+            children: vec![0; 4130],
+        };
+        let mut new = old.clone();
+        new.entries[1] = 1;
+        new.children[1] = 1;
+        let undoes = "long ago".to_string();
+        let of = Group::Names;
+        let entry = Entry::new(Deed::Undo { undoes, of }, &old, &new);
+        assert_eq!(two_moments(&entry, &old), None);
+        assert_eq!(two_moments(&entry, &new), None);
+        let mut both = old.clone();
+        both.children = new.children.clone();
+        let words = two_moments(&entry, &both).expect("two moments");
+        let expected = "entries.tbl as before the undo of";
+        assert!(words.contains(expected), "{words}");
+        assert!(words.contains("children.tbl as after it"), "{words}");
     }
 }

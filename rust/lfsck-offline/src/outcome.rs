@@ -14,7 +14,7 @@ pub enum Status {
     StepsLeft = 1,
     /// The input was refused.
     Refused = 2,
-    /// The reserve or a table's unused rows ran out.
+    /// The reserve, a table's unused rows or the room for a linkEA ran out.
     RanOut = 3,
     /// There is something to mend, and the exit status was to tell.
     ToMend = 4,

@@ -10,7 +10,7 @@ use std::time::Duration;
 use numbers::call::CREATE;
 
 use crate::site::Site;
-use crate::tables::{Table, Tables};
+use crate::tables::{Table, Tables, Together};
 
 /// A slice takes at least so long, and at least so many times its check.
 const SLICE: Duration = Duration::from_secs(1);

@@ -15,14 +15,16 @@ use crate::tables::Table;
 
 /// The journal of a save.
 pub const JOURNAL: &str = "lfsck-offline.journal";
-/// The files that a save may change.
-pub const SAVED: [&str; 5] = [LOG, "parents.tbl", "objects.tbl", "reserve.tbl", POSITION];
+/// The files that a new case has, or gets by its runs.
+pub const OF_CASE: [&str; 5] = [LOG, "parents.tbl", "objects.tbl", "reserve.tbl", POSITION];
+/// The tables of names, which a case may have.
+pub const OF_NAMES: [&str; 2] = ["entries.tbl", "children.tbl"];
 /// A linkEA beside the tables of a sample, which is made with them and belongs to no case.
 pub const SAMPLE_LINK: &str = "link.hex";
 /// What the names of the tool's own files begin with.
 const OWN: &str = "lfsck-offline.";
 /// More than a table, or a journal of them all and of an entry of the log, can have.
-const MOST_BYTES: usize = 64 << 20;
+const MOST_BYTES: usize = 2 << 30;
 /// A log that is longer is left to people.
 pub const MOST_LOG: usize = 1 << 30;
 /// So many bytes are enough to know the end of a log again.
@@ -34,6 +36,11 @@ pub struct Stand {
     pub digest: Digest,
     /// Who may read and write it.
     pub permissions: Permissions,
+}
+
+/// The files that a save may change.
+fn saved() -> impl Iterator<Item = &'static str> {
+    OF_CASE.into_iter().chain(OF_NAMES)
 }
 
 impl Stand {
@@ -52,6 +59,10 @@ pub fn stand(disk: &Disk, name: &str) -> Result<Option<Stand>, Failure> {
 
 /// What a journal that is in place says; none where there is no journal.
 pub fn pending(disk: &Disk) -> Result<Option<Vec<Change>>, Failure> {
+    // A journal may be long: one that is not believed is not read either.
+    if let Some(permissions) = disk.permissions(JOURNAL)? {
+        require_ours(disk, JOURNAL, permissions)?;
+    }
     let Some(journal) = disk.find(JOURNAL, MOST_BYTES)? else {
         return Ok(None);
     };
@@ -65,15 +76,15 @@ pub fn pending(disk: &Disk) -> Result<Option<Vec<Change>>, Failure> {
 /// In a directory where one may make files but not replace others', the word of a file of the
 /// tool's own is taken from this user, from root and from an owner of the tables: nobody else
 /// may say what stands in them. Elsewhere whoever can make such a file can replace the tables.
+/// Tables of names, which anybody may add to a case, count where there are no others.
 pub fn require_ours(disk: &Disk, name: &str, permissions: Permissions) -> Result<(), Failure> {
     if is_table(name) || !disk.keeps_files_apart() {
         return Ok(());
     }
-    let tables: Result<Vec<_>, _> = Table::ALL
-        .iter()
-        .map(|table| disk.permissions(table.file()))
-        .collect();
-    let tables: Vec<Permissions> = tables?.into_iter().flatten().collect();
+    let mut tables = permissions_of(disk, &Table::ALL)?;
+    if tables.is_empty() {
+        tables = permissions_of(disk, &Table::NAMES)?;
+    }
     if permissions.is_trusted(&tables) {
         return Ok(());
     }
@@ -84,9 +95,16 @@ pub fn require_ours(disk: &Disk, name: &str, permissions: Permissions) -> Result
     )))
 }
 
+/// Those of the tables that are there.
+fn permissions_of(disk: &Disk, tables: &[Table]) -> Result<Vec<Permissions>, Failure> {
+    let permissions = tables.iter().map(|table| disk.permissions(table.file()));
+    let permissions: Result<Vec<_>, _> = permissions.collect();
+    Ok(permissions?.into_iter().flatten().collect())
+}
+
 /// Clears away what a save that was cut off before its journal was in place has left.
 pub fn clear(disk: &Disk) -> Result<(), Failure> {
-    for name in SAVED.iter().chain([&JOURNAL, &SAMPLE_LINK]) {
+    for name in saved().chain([JOURNAL, SAMPLE_LINK]) {
         disk.clear(&unfinished(name))?;
     }
     Ok(())
@@ -94,14 +112,14 @@ pub fn clear(disk: &Disk) -> Result<(), Failure> {
 
 /// Looks for what would stop a save of so many bytes: files of ours that are no plain files,
 /// a directory that cannot be written, a disk without room.
-pub fn prepare(disk: &Disk, bytes: usize) -> Result<(), Failure> {
-    for name in SAVED {
+pub fn prepare(disk: &Disk, bytes: usize, what: &str) -> Result<(), Failure> {
+    for name in saved() {
         if let Some(permissions) = disk.permissions(name)? {
             require_ours(disk, name, permissions)?;
         }
     }
     clear(disk)?;
-    disk.reserve(&unfinished(JOURNAL), bytes)
+    disk.reserve(&unfinished(JOURNAL), bytes, what)
 }
 
 /// A line to be added at the end of the log as it stands.
@@ -184,12 +202,12 @@ fn put(disk: &Disk, name: &str, bytes: &[u8], access: Access) -> Result<(), Fail
 fn known(disk: &Disk, change: &Change) -> Result<Option<Permissions>, Failure> {
     let name = change.name.as_str();
     let changed = || spoilt(disk, name, "changed since a save was cut off");
-    let ours = SAVED.contains(&name) || (name == SAMPLE_LINK && change.before.is_none());
+    let ours = saved().any(|ours| ours == name) || (name == SAMPLE_LINK && change.before.is_none());
     if !ours || matches!(change.edit, Edit::Append { .. }) != (name == LOG) {
         return Err(changed());
     }
-    let after = match &change.edit {
-        Edit::Put(bytes) => Some(Digest::of(bytes)),
+    let put = match &change.edit {
+        Edit::Put(bytes) => Some(bytes),
         Edit::Remove => None,
         Edit::Append { from, more } => {
             return known_log(disk, change.before, *from, more)?.ok_or_else(changed);
@@ -197,7 +215,7 @@ fn known(disk: &Disk, change: &Change) -> Result<Option<Permissions>, Failure> {
     };
     let stand = stand(disk, name)?;
     let digest = stand.as_ref().map(|stand| stand.digest);
-    if digest != change.before && digest != after {
+    if digest != change.before && digest != put.map(|bytes| Digest::of(bytes)) {
         return Err(changed());
     }
     Ok(stand.map(|stand| stand.permissions))
@@ -233,7 +251,7 @@ fn strictest(
     stands: &[Option<Permissions>],
 ) -> Result<Access, Failure> {
     let mut all = Vec::new();
-    for table in Table::ALL {
+    for table in Table::every() {
         match changes.iter().position(|it| it.name == table.file()) {
             Some(at) => all.extend(stands[at]),
             None => all.extend(disk.permissions(table.file())?),
@@ -244,7 +262,7 @@ fn strictest(
 
 /// Whether a file of a case is one of its tables.
 fn is_table(name: &str) -> bool {
-    Table::ALL.iter().any(|table| table.file() == name)
+    Table::every().any(|table| table.file() == name)
 }
 
 /// The name of a file while it is still being written: the tool's own, whatever else there is in

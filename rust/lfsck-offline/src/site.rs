@@ -5,7 +5,7 @@ use std::fmt;
 
 use crate::fid::{MdtFid, OstFid};
 use crate::rows::{Claim, File, Object, Stripe};
-use crate::tables::{Table, Tables};
+use crate::tables::{Table, Tables, Together};
 
 /// A slot of a parent row.
 #[derive(Clone, Copy, Debug, PartialEq, Eq, Hash)]

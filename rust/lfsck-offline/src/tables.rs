@@ -1,7 +1,7 @@
-//! The three tables of a case, as bytes.
+//! The tables of a case, as bytes.
 
 use numbers::call::END;
-use numbers::{object, parent, reserve};
+use numbers::{child, entry, object, parent, reserve};
 
 /// Which table.
 #[derive(Clone, Copy, Debug, PartialEq, Eq)]
@@ -12,11 +12,46 @@ pub enum Table {
     Objects,
     /// The FIDs for new objects.
     Reserve,
+    /// The entries of directories.
+    Entries,
+    /// What the entries name.
+    Children,
+}
+
+/// Tables that are changed and saved at once.
+pub trait Together: Clone + PartialEq {
+    /// Which ones.
+    const ALL: &'static [Table];
+
+    /// What changes them: a word for people.
+    const CHANGED_BY: &'static str;
+
+    /// The bytes of one of them, and of any other table none.
+    fn of(&self, table: Table) -> &[u8];
+
+    /// The bytes of one of them, to be changed.
+    fn of_mut(&mut self, table: Table) -> Option<&mut Vec<u8>>;
+
+    /// The lengths of the two that may be changed.
+    fn lengths(&self) -> [usize; 2];
+
+    /// The whole rows of one of them.
+    fn rows(&self, table: Table) -> impl Iterator<Item = &[u8]> {
+        self.of(table).chunks_exact(table.row_bytes())
+    }
 }
 
 impl Table {
-    /// All three.
+    /// The three of files and objects, which every case has.
     pub const ALL: [Table; 3] = [Table::Parents, Table::Objects, Table::Reserve];
+
+    /// The two of names, which a case may have.
+    pub const NAMES: [Table; 2] = [Table::Entries, Table::Children];
+
+    /// All five.
+    pub fn every() -> impl Iterator<Item = Table> {
+        Table::ALL.into_iter().chain(Table::NAMES)
+    }
 
     /// The file of the table.
     pub fn file(self) -> &'static str {
@@ -24,6 +59,8 @@ impl Table {
             Table::Parents => "parents.tbl",
             Table::Objects => "objects.tbl",
             Table::Reserve => "reserve.tbl",
+            Table::Entries => "entries.tbl",
+            Table::Children => "children.tbl",
         }
     }
 
@@ -33,6 +70,8 @@ impl Table {
             Table::Parents => parent::BYTES,
             Table::Objects => object::BYTES,
             Table::Reserve => reserve::BYTES,
+            Table::Entries => entry::BYTES,
+            Table::Children => child::BYTES,
         }
     }
 
@@ -42,6 +81,8 @@ impl Table {
             Table::Parents => parent::MOST,
             Table::Objects => object::MOST,
             Table::Reserve => reserve::MOST,
+            Table::Entries => entry::MOST,
+            Table::Children => child::MOST,
         }
     }
 
@@ -51,7 +92,7 @@ impl Table {
     }
 }
 
-/// The contents of the tables. Of a file that is too long there is one byte too many.
+/// The contents of the three tables. Of a file that is too long there is one byte too many.
 #[derive(Clone, Debug, Default, PartialEq, Eq)]
 pub struct Tables {
     /// The parent rows.
@@ -62,30 +103,34 @@ pub struct Tables {
     pub reserve: Vec<u8>,
 }
 
-impl Tables {
-    /// The bytes of a table.
-    pub fn of(&self, table: Table) -> &[u8] {
+impl Together for Tables {
+    const ALL: &'static [Table] = &Table::ALL;
+    const CHANGED_BY: &'static str = "run";
+
+    fn of(&self, table: Table) -> &[u8] {
         match table {
             Table::Parents => &self.parents,
             Table::Objects => &self.objects,
             Table::Reserve => &self.reserve,
+            Table::Entries | Table::Children => &[],
         }
     }
 
-    /// The bytes of a table, to be changed.
-    pub fn of_mut(&mut self, table: Table) -> &mut Vec<u8> {
+    fn of_mut(&mut self, table: Table) -> Option<&mut Vec<u8>> {
         match table {
-            Table::Parents => &mut self.parents,
-            Table::Objects => &mut self.objects,
-            Table::Reserve => &mut self.reserve,
+            Table::Parents => Some(&mut self.parents),
+            Table::Objects => Some(&mut self.objects),
+            Table::Reserve => Some(&mut self.reserve),
+            Table::Entries | Table::Children => None,
         }
     }
 
-    /// The whole rows of a table.
-    pub fn rows(&self, table: Table) -> impl Iterator<Item = &[u8]> {
-        self.of(table).chunks_exact(table.row_bytes())
+    fn lengths(&self) -> [usize; 2] {
+        [self.parents.len(), self.objects.len()]
     }
+}
 
+impl Tables {
     /// The library's number for the tables: 0, 11, 13, 14 or 15. The end is always a position.
     pub fn check(&self) -> u32 {
         lfsck_sys::check(&self.parents, &self.objects, &self.reserve, 0, END)

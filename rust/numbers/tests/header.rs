@@ -93,6 +93,21 @@ fn what_calls_are_handed() {
 }
 
 #[test]
+fn what_is_found_of_names() {
+    for (name, number) in [
+        ("LFSCK_FID_CONSISTENT", names::FID_CONSISTENT),
+        ("LFSCK_FID_NO_DIRENT", names::FID_NO_DIRENT),
+        ("LFSCK_FID_DIFFERS", names::FID_DIFFERS),
+        ("LFSCK_FID_NO_SELF", names::FID_NO_SELF),
+        ("LFSCK_FID_NEITHER", names::FID_NEITHER),
+        ("LFSCK_RECORD_CONSISTENT", names::RECORD_CONSISTENT),
+        ("LFSCK_RECORD_MISSING", names::RECORD_MISSING),
+    ] {
+        assert_eq!(number, number_of(name), "{name}");
+    }
+}
+
+#[test]
 fn answers() {
     for (name, number) in [
         ("LFSCK_OK", answer::OK),

@@ -45,7 +45,7 @@ pub fn intake(
     require_spare("--spare-objects", Table::Objects, options.spare_objects)?;
     Case::require_none(directory)?;
     let taken = take(options, bar)?;
-    Case::make(directory, &taken.tables, None)?;
+    Case::make(directory, &taken.tables)?;
     bar.turn_to(CHECKING);
     let number = taken.tables.check();
     let list = faults(&taken.tables);

@@ -8,8 +8,9 @@ use crate::change::Change;
 use crate::class::Class;
 use crate::columns::{self, Line};
 use crate::fid::Fid;
-use crate::history::{Deed, Entry};
+use crate::history::{Changes, Deed, Entry};
 use crate::json::Json;
+use crate::name_changes::{self, NameChange};
 use crate::outcome::{Failure, Outcome};
 use crate::saved::policy_words;
 use crate::story::{concerns, mended};
@@ -45,21 +46,43 @@ pub fn story(directory: &Path, fid: Fid, json: bool) -> Result<Outcome, Failure>
     Ok(Outcome::done(text))
 }
 
-/// An entry and what of it is told, each with the class that was mended: none of an undo, and none
-/// of a generation that several raised.
-type Told<'log> = (&'log Entry, Vec<(Change, Option<Class>)>);
+/// An entry and what of it is told.
+type Told<'log> = (&'log Entry, Concerning);
+
+/// What of an entry concerns a file or object.
+enum Concerning {
+    /// Each with the class that was mended: none of an undo, and none of a generation that several
+    /// raised.
+    Files(Vec<(Change, Option<Class>)>),
+    /// What concerns its names.
+    Names(Vec<NameChange>),
+}
+
+impl Concerning {
+    fn is_empty(&self) -> bool {
+        match self {
+            Concerning::Files(list) => list.is_empty(),
+            Concerning::Names(list) => list.is_empty(),
+        }
+    }
+}
 
 impl Entry {
-    fn concerning(&self, fid: Fid) -> Vec<(Change, Option<Class>)> {
-        let all = self.changes();
+    fn concerning(&self, fid: Fid) -> Concerning {
+        let all = match self.changes() {
+            Changes::Files(all) => all,
+            Changes::Names(mut all) => {
+                all.retain(|change| change.concerns(fid));
+                return Concerning::Names(all);
+            }
+        };
         let is_run = matches!(self.deed, Deed::Run { .. });
         let concerned = all.iter().filter(|change| concerns(change, fid));
-        concerned
-            .map(|change| {
-                let class = is_run.then(|| mended(change, &all)).flatten();
-                (change.clone(), class)
-            })
-            .collect()
+        let with_class = concerned.map(|change| {
+            let class = is_run.then(|| mended(change, &all)).flatten();
+            (change.clone(), class)
+        });
+        Concerning::Files(with_class.collect())
     }
 
     fn title(&self) -> String {
@@ -69,9 +92,32 @@ impl Entry {
                 let policy = policy_words(*policy);
                 format!("{when}  run, lfsck-offline {version}, policy: {policy}\n")
             }
-            Deed::Undo { undoes } => {
-                format!("{when}  undo of the run of {undoes}, lfsck-offline {version}\n")
+            Deed::Mending(_) => format!("{when}  mending of names, lfsck-offline {version}\n"),
+            Deed::Undo { undoes, of } => {
+                let undone = of.changed_by();
+                format!("{when}  undo of the {undone} of {undoes}, lfsck-offline {version}\n")
             }
+        }
+    }
+
+    /// How it went.
+    fn report(&self) -> String {
+        let numbers = |[stage, row, part]: [u64; 3]| format!("{stage},{row},{part}");
+        match &self.deed {
+            Deed::Run { from, run, .. } => format!(
+                "  From position {} to {} in {} steps. Answer {}: {}.\n  Repairs: {}.\n",
+                numbers(*from),
+                numbers(run.position),
+                run.steps,
+                run.answer,
+                meaning(run.answer),
+                run.repairs_words()
+            ),
+            Deed::Mending(mended) => {
+                let (done, end) = (mended.words(), mended.end_words());
+                format!("  Answer {}: {end}.\n  Mended: {done}.\n", mended.answer)
+            }
+            Deed::Undo { .. } => String::new(),
         }
     }
 }
@@ -81,54 +127,53 @@ fn line(change: &Change, words: String) -> Line {
 }
 
 fn entry_text(entry: &Entry) -> String {
-    let mut text = entry.title();
-    if let Deed::Run { from, run, .. } = &entry.deed {
-        let numbers = |[stage, row, part]: [u64; 3]| format!("{stage},{row},{part}");
-        text += &format!(
-            "  From position {} to {} in {} steps. Answer {}: {}.\n  Repairs: {}.\n",
-            numbers(*from),
-            numbers(run.position),
-            run.steps,
-            run.answer,
-            meaning(run.answer),
-            run.repairs_words()
-        );
-    }
-    let changes = entry.changes();
-    let lines: Vec<Line> = changes.iter().map(|it| line(it, it.words())).collect();
-    text + &columns::text(&lines)
+    let changes = match entry.changes() {
+        Changes::Files(changes) => {
+            let lines: Vec<Line> = changes.iter().map(|it| line(it, it.words())).collect();
+            columns::text(&lines)
+        }
+        Changes::Names(changes) => name_changes::text(&changes),
+    };
+    entry.title() + &entry.report() + &changes
 }
 
-fn story_text((entry, changes): &Told) -> String {
+fn story_text((entry, concerning): &Told) -> String {
     let words = |(change, class): &(Change, Option<Class>)| {
         let words = change.words();
         match (class, &entry.deed) {
             (Some(class), _) => format!("{words}; {}: {}", class.name(), class.meaning()),
             (None, Deed::Run { .. }) => format!("{words}; by repairs of several classes"),
-            (None, Deed::Undo { .. }) => words,
+            (None, _) => words,
         }
     };
-    let lines: Vec<Line> = changes.iter().map(|it| line(&it.0, words(it))).collect();
-    entry.title() + &columns::text(&lines)
+    let text = match concerning {
+        Concerning::Files(changes) => {
+            let lines: Vec<Line> = changes.iter().map(|it| line(&it.0, words(it))).collect();
+            columns::text(&lines)
+        }
+        Concerning::Names(changes) => name_changes::text(changes),
+    };
+    entry.title() + &text
 }
 
 /// The entry as it stands in the log, and its changes.
 fn entry_json(entry: &Entry) -> Json {
-    let changes = entry.changes();
+    let changes = match entry.changes() {
+        Changes::Files(changes) => changes.iter().map(Change::json).collect(),
+        Changes::Names(changes) => changes.iter().map(NameChange::json).collect(),
+    };
     let mut members = entry.members();
-    members.push((
-        "changes",
-        Json::List(changes.iter().map(Change::json).collect()),
-    ));
+    members.push(("changes", Json::List(changes)));
     Json::Object(members)
 }
 
-fn story_json((entry, changes): &Told) -> Vec<Json> {
+fn story_json((entry, concerning): &Told) -> Vec<Json> {
     let (policy, undoes) = match &entry.deed {
         Deed::Run { policy, .. } => (Some(*policy), None),
-        Deed::Undo { undoes } => (None, Some(undoes)),
+        Deed::Mending(_) => (None, None),
+        Deed::Undo { undoes, .. } => (None, Some(undoes)),
     };
-    let one = |(change, class): &(Change, Option<Class>)| {
+    let one = |change: Json, class: Option<Class>| {
         Json::Object(vec![
             ("what", Json::text(entry.what())),
             ("when", Json::text(&entry.when)),
@@ -136,8 +181,17 @@ fn story_json((entry, changes): &Told) -> Vec<Json> {
             ("undoes", Json::maybe(undoes)),
             ("class", Json::maybe(class.map(Class::name))),
             ("why", Json::maybe(class.map(Class::meaning))),
-            ("change", change.json()),
+            ("change", change),
         ])
     };
-    changes.iter().map(one).collect()
+    match concerning {
+        Concerning::Files(changes) => changes
+            .iter()
+            .map(|(change, class)| one(change.json(), *class))
+            .collect(),
+        Concerning::Names(changes) => changes
+            .iter()
+            .map(|change| one(change.json(), None))
+            .collect(),
+    }
 }

@@ -1,10 +1,10 @@
-//! `sample`: a small case with every class in it, and a linkEA.
+//! `sample`: a small case with every class in it, names with every finding, and a linkEA.
 
 use std::path::Path;
 
-use numbers::link::{HEADER, NAME_AT};
 use numbers::{call, layout, object, parent};
 
+use super::sample_names::{NAMES, file, link, names};
 use crate::case::Case;
 use crate::fid::Fid;
 use crate::hex;
@@ -12,34 +12,34 @@ use crate::json::Json;
 use crate::outcome::{Failure, Outcome};
 use crate::quoted;
 use crate::save::SAMPLE_LINK;
-use crate::tables::{Table, Tables};
+use crate::tables::{Table, Tables, Together};
 
 const ALICE: [u32; 2] = [1001, 100];
 const ROOT: [u32; 2] = [0, 0];
 
 /// Makes the case.
 pub fn sample(directory: &Path, json: bool) -> Result<Outcome, Failure> {
-    let tables = tables();
-    Case::make(directory, &tables, Some(dump().as_bytes()))?;
-    let rows = |table| tables.rows(table).count();
-    let (parents, objects, reserve) = (
-        rows(Table::Parents),
-        rows(Table::Objects),
-        rows(Table::Reserve),
-    );
+    let (tables, names) = (tables(), names());
+    Case::make_sample(directory, &tables, &names, dump().as_bytes())?;
+    let rows = |table| (tables.rows(table).count() + names.count(table)) as u64;
+    let [parents, objects, reserve] = Table::ALL.map(rows);
+    let [entries, children] = Table::NAMES.map(rows);
     let text = if json {
         Json::Object(vec![
             ("directory", Json::text(directory.display())),
-            ("parent_rows", Json::Number(parents as u64)),
-            ("object_rows", Json::Number(objects as u64)),
-            ("reserve_fids", Json::Number(reserve as u64)),
+            ("parent_rows", Json::Number(parents)),
+            ("object_rows", Json::Number(objects)),
+            ("reserve_fids", Json::Number(reserve)),
+            ("entry_rows", Json::Number(entries)),
+            ("child_rows", Json::Number(children)),
             ("link", Json::text(SAMPLE_LINK)),
         ])
         .line()
     } else {
         format!(
             "A sample case is in {}: {parents} parent rows, {objects} object rows, \
-             {reserve} FIDs in reserve; and a linkEA, {SAMPLE_LINK}.\n",
+             {reserve} FIDs in reserve; names: {entries} entries, {children} children; \
+             and a linkEA, {SAMPLE_LINK}.\n",
             quoted::path(directory)
         )
     };
@@ -47,11 +47,6 @@ pub fn sample(directory: &Path, json: bool) -> Result<Outcome, Failure> {
         lasting: Some("the sample was made"),
         ..Outcome::done(text)
     })
-}
-
-/// A file's FID.
-const fn file(id: u32) -> Fid {
-    Fid::new(0x2_0000_0401, id)
 }
 
 /// An object's FID.
@@ -223,32 +218,8 @@ fn add_object(
     objects.push(fresh.into());
 }
 
-/// The names of the sample's file 1, each with the id of its directory; the last name would clear
-/// the screen.
-const NAMES: [(u32, &[u8]); 3] = [
-    (0x100, b"report.txt"),
-    (0x101, b"a \"draft\".txt"),
-    (0x102, b"\x1b[2Jgone"),
-];
-
-/// A linkEA as getfattr prints it in hexadecimal digits.
+/// The linkEA of file 1 as getfattr prints it in hexadecimal digits.
 fn dump() -> String {
-    let digits = hex::encode(&link());
+    let digits = hex::encode(&link(&NAMES));
     format!("# file: home/alice/report.txt\ntrusted.link=0x{digits}\n\n")
-}
-
-fn link() -> Vec<u8> {
-    let (mut records, mut names) = (Vec::new(), Vec::new());
-    for (id, name) in NAMES {
-        let parent = file(id);
-        let (start, length) = (names.len() as u64, name.len() as u64);
-        records.extend([parent.sequence, parent.id.into(), 0, start, length]);
-        names.extend(name);
-    }
-    let total = HEADER + NAME_AT * NAMES.len() + names.len();
-    let fields = [NAMES.len() as u64, total as u64, 0, 0];
-    let mut bytes = vec![0; total];
-    let answer = lfsck_sys::link_write(&fields, &records, &names, &mut bytes, &mut [0]);
-    assert_eq!(answer, 0, "the library writes the sample's linkEA");
-    bytes
 }

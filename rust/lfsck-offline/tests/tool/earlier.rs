@@ -325,3 +325,27 @@ fn a_later_format_is_refused() {
         .expect_line(2, "this is no saved position");
     assert_eq!(case.files(), before);
 }
+
+/// A version that knew no names left positions and logs in the form of this one: its runs are gone
+/// on with and taken back, with names beside them or not.
+#[test]
+fn a_run_of_a_version_without_names_is_gone_on_with() {
+    let case = Case::sample("without-names");
+    let uncut = oracle::run(&case.files(), 3, u64::MAX);
+    case.run(&[&RUN[..], &["--steps", "12"]].concat()).expect(1);
+    let log = String::from_utf8(case.read(LOG)).expect("a text");
+    let log = log.replace(VERSION, "\"version\":\"0.5.0\"");
+    case.write(LOG, log.as_bytes());
+    let mut without = case.files();
+    without.retain(|name, _| !["entries.tbl", "children.tbl"].contains(&name.as_str()));
+    for files in [case.files(), without] {
+        case.restore(&files);
+        let told = case.run(&RUN).expect(0).out;
+        assert!(told.starts_with("The run goes on from the saved position."));
+        uncut.expect_in(&case);
+        case.restore(&files);
+        case.run(&["undo"]).expect(0);
+        assert!(!case.files().contains_key(POSITION));
+        assert_eq!(case.json(&["log"], 0).list("entries").len(), 2);
+    }
+}

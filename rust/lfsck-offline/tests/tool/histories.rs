@@ -1,10 +1,13 @@
-//! Random histories of a case: runs, crashes, and people who change files in between. A model
-//! says where each run begins and what it leaves.
+//! Random histories of a case: runs, mendings of names, crashes, and people who change files in
+//! between. A model says where each run begins and what it leaves.
 
+use difftest::names::random_names;
 use difftest::tables::{OBJECTS, Shape, random_tables, to_bytes};
 use difftest::{Coverage, Random};
+use reference::names::judge;
 
 use crate::json::{self, Value};
+use crate::namespace::{CHILDREN, ENTRIES, MEND, pass, put};
 use crate::oracle;
 use crate::tool::{Case, Files, LOG, POSITION, sha256};
 
@@ -16,7 +19,15 @@ const SHAPE: Shape = Shape {
     fids: 7,
 };
 
+/// The tables that runs change together, and those that mendings do.
 const TABLES: [&str; 3] = ["parents.tbl", "objects.tbl", "reserve.tbl"];
+const NAMES: [&str; 2] = [ENTRIES, CHILDREN];
+
+/// These files alone.
+fn part(files: &Files, names: &[&str]) -> Files {
+    let of_name = |name: &&str| (name.to_string(), files[*name].clone());
+    names.iter().map(of_name).collect()
+}
 
 /// A position counts with the policy and the tables that it was saved with.
 #[derive(Clone)]
@@ -34,9 +45,11 @@ struct Model {
     log: Vec<Logged>,
 }
 
-/// An entry of the log: the model before it and the tables after it; an undo is not taken back.
+/// An entry of the log: the tables that it changed together, the model before it and these tables
+/// after it; an undo is not taken back.
 #[derive(Clone)]
 struct Logged {
+    tables: &'static [&'static str],
     before: Option<Box<Model>>,
     after: Files,
 }
@@ -71,7 +84,8 @@ impl Asked {
 impl Model {
     /// What a run does: whether it goes on, its outcome, and the model after it.
     fn after(&self, asked: &Asked) -> (bool, oracle::Run, Model) {
-        let counts = |saved: &&Saved| saved.policy == asked.policy && saved.tables == self.tables;
+        let tables = part(&self.tables, &TABLES);
+        let counts = |saved: &&Saved| saved.policy == asked.policy && saved.tables == tables;
         let saved = self.saved.as_ref().filter(|_| !asked.from_start);
         let resumed = saved.filter(counts);
         let most = asked.steps.unwrap_or(u64::MAX);
@@ -90,43 +104,70 @@ impl Model {
             after.saved = Some(Saved {
                 position: run.position,
                 policy: asked.policy,
-                tables: after.tables.clone(),
+                tables: part(&after.tables, &TABLES),
             });
         }
-        if after.tables != self.tables {
-            after.log.push(Logged {
-                before: Some(Box::new(self.clone())),
-                after: after.tables.clone(),
-            });
-        }
+        after.log_since(self, &TABLES);
         (resumed.is_some(), run, after)
+    }
+
+    /// What a mending does: its answer, and the model after it.
+    fn mended(&self) -> (u32, Model) {
+        let passed = pass(&self.tables);
+        let mut after = self.clone();
+        after.tables.insert(ENTRIES.to_string(), passed.entries);
+        after.tables.insert(CHILDREN.to_string(), passed.children);
+        after.log_since(self, &NAMES);
+        (passed.answer, after)
+    }
+
+    /// Adds an entry to the log where these tables have changed.
+    fn log_since(&mut self, before: &Model, tables: &'static [&'static str]) {
+        if self.tables != before.tables {
+            self.log.push(Logged {
+                tables,
+                before: Some(Box::new(before.clone())),
+                after: part(&self.tables, tables),
+            });
+        }
     }
 
     /// What an undo does; none where it is refused.
     fn undone(&self) -> Option<Model> {
-        let last = self.log.last().filter(|last| last.after == self.tables)?;
-        let mut before = (**last.before.as_ref()?).clone();
-        before.log = self.log.clone();
-        before.log.push(Logged {
+        let last = self.log.last()?;
+        let left = part(&self.tables, last.tables) == last.after;
+        let before = last.before.as_ref().filter(|_| left)?;
+        let mut after = self.clone();
+        after.tables.extend(part(&before.tables, last.tables));
+        if last.tables == TABLES {
+            after.saved = before.saved.clone();
+        }
+        after.log.push(Logged {
+            tables: last.tables,
             before: None,
-            after: before.tables.clone(),
+            after: part(&after.tables, last.tables),
         });
-        Some(before)
+        Some(after)
     }
 
     /// Tables, position and log of the case are those of the model.
     fn is_in(&self, case: &Case) -> bool {
         let files = case.files();
-        let tables = TABLES.iter().all(|name| files[*name] == self.tables[*name]);
+        let tables = self
+            .tables
+            .iter()
+            .all(|(name, table)| files[name] == *table);
         let log = files
             .get(LOG)
             .map_or("", |log| str::from_utf8(log).unwrap());
         let entries: Vec<Value> = log.split_inclusive('\n').map(json::parse).collect();
         let last = entries.last().zip(self.log.last());
         let is_last = last.is_none_or(|(entry, logged)| {
-            let digest =
-                |name: &&str| entry.get("after").text(name) == sha256(&logged.after[*name]);
-            TABLES.iter().all(digest)
+            let digest = |(name, table): (&String, &Vec<u8>)| {
+                let digest = Value::Text(sha256(table));
+                (name.clone(), digest)
+            };
+            *entry.get("after") == Value::Object(logged.after.iter().map(digest).collect())
         });
         let position = files
             .get(POSITION)
@@ -158,6 +199,9 @@ impl History {
         let (parents, objects) = to_bytes(&random_tables(SHAPE, random), random);
         let reserve: Vec<u8> = OBJECTS.iter().flat_map(|fid| fid.to_bytes()).collect();
         let case = Case::with(name, &parents, &objects, &reserve);
+        let mut names = (0..).map(|_| random_names(random));
+        let names = names.find(|names| judge(names).is_some());
+        put(&case, &names.expect("names that can be judged"));
         let tables = case.files();
         History {
             model: Model {
@@ -168,6 +212,21 @@ impl History {
             snapshots: vec![tables],
             case,
         }
+    }
+
+    /// Something happens, and the case is as the model says.
+    fn go_on(&mut self, random: &mut Random) -> &'static str {
+        let what = match random.below(14) {
+            0 | 1 => self.meddle(random),
+            2 => self.refuse(),
+            3 | 4 => self.crash(random),
+            5 | 6 => self.undo(random),
+            7 | 8 => self.mend(),
+            9 => self.crash_mending(random),
+            _ => self.run(random),
+        };
+        assert!(self.model.is_in(&self.case), "after {what}");
+        what
     }
 
     fn run(&mut self, random: &mut Random) -> &'static str {
@@ -206,7 +265,7 @@ impl History {
         let position = || self.case.files().remove(POSITION);
         let before = position();
         let died = self.case.run_with_fault(&words, fault).status.is_none();
-        self.case.run(&["check"]).expect(0);
+        self.reopen();
         let saved = position() != before || !self.model.is_in(&self.case);
         if saved {
             self.model = after;
@@ -215,6 +274,43 @@ impl History {
             (true, true) => "a crash after the save",
             (true, false) => "a crash before the save",
             (false, _) => "no crash",
+        }
+    }
+
+    /// The next command after a crash. A mending that stopped may leave names that can't be judged.
+    fn reopen(&self) {
+        let told = self.case.run(&["check"]);
+        let is_judged = pass(&self.case.files()).answer != 39;
+        told.expect(if is_judged { 0 } else { 2 });
+    }
+
+    fn mend(&mut self) -> &'static str {
+        let (answer, after) = self.model.mended();
+        let (status, what) = match answer {
+            0 if after.log.len() > self.model.log.len() => (0, "a mending"),
+            0 => (0, "a mending that changes nothing"),
+            38 => (3, "a mending that stops"),
+            _ => (2, "a refusal"),
+        };
+        self.case.run(&MEND).expect(status);
+        self.model = after;
+        self.snapshots.push(self.model.tables.clone());
+        what
+    }
+
+    /// A crash at any operation leaves the names before the mending or those after it.
+    fn crash_mending(&mut self, random: &mut Random) -> &'static str {
+        let (_, after) = self.model.mended();
+        let fault = format!("abort:{}", 1 + random.below(30));
+        self.case.run_with_fault(&MEND, fault);
+        self.reopen();
+        let saved = !self.model.is_in(&self.case);
+        if saved {
+            self.model = after;
+        }
+        match saved {
+            true => "a mending that is cut off after the save",
+            false => "a mending that is cut off before the save",
         }
     }
 
@@ -229,20 +325,29 @@ impl History {
         if random.one_in(2) {
             self.case.run(&["undo"]).expect(0);
             self.model = after;
-            return "an undo";
+            return match self.model.log.last().map(|last| last.tables) {
+                Some(tables) if tables == NAMES => "an undo of a mending",
+                _ => "an undo",
+            };
         }
         let fault = format!("abort:{}", 1 + random.below(40));
         self.case.run_with_fault(&["undo"], fault);
-        self.case.run(&["check"]).expect(0);
+        self.reopen();
         if after.is_in(&self.case) {
             self.model = after;
         }
         "an undo that is cut off"
     }
 
-    /// Somebody changes an owner or the reserve, or puts older tables back.
+    /// Somebody changes an owner, the reserve or a FID-in-dirent, or puts older tables back.
     fn meddle(&mut self, random: &mut Random) -> &'static str {
-        let kind = random.below(3);
+        let kind = random.below(4);
+        let entries = self.model.tables.get_mut(ENTRIES).expect("entries");
+        if let (3, Some(byte)) = (kind, entries.get_mut(20)) {
+            *byte ^= 1;
+            self.put(ENTRIES);
+            return "another FID-in-dirent";
+        }
         let objects = self.model.tables.get_mut(TABLES[1]).expect("objects");
         let used = objects.chunks_mut(46).find(|row| row[0] == 1);
         if let (0, Some(row)) = (kind, used) {
@@ -257,7 +362,8 @@ impl History {
         } else {
             let older = random.below(self.snapshots.len());
             self.model.tables = self.snapshots[older].clone();
-            TABLES.iter().for_each(|name| self.put(name));
+            let names = TABLES.iter().chain(&NAMES);
+            names.for_each(|name| self.put(name));
             "older tables"
         }
     }
@@ -279,41 +385,38 @@ impl History {
     }
 }
 
+/// What may happen to a case.
+const HAPPENS: [&str; 21] = [
+    "a run that goes on",
+    "a run from the start, as asked",
+    "a run that must not go on",
+    "a run without saved position",
+    "a crash after the save",
+    "a crash before the save",
+    "no crash",
+    "another owner",
+    "another reserve",
+    "older tables",
+    "a refusal",
+    "an undo",
+    "an undo that is refused",
+    "an undo that is cut off",
+    "an undo of a mending",
+    "a mending",
+    "a mending that changes nothing",
+    "a mending that stops",
+    "a mending that is cut off before the save",
+    "a mending that is cut off after the save",
+    "another FID-in-dirent",
+];
+
 #[test]
 fn a_case_is_always_as_its_history_says() {
     let mut random = Random::for_test("histories");
-    let mut met = Coverage::of(
-        "histories",
-        [
-            "a run that goes on",
-            "a run from the start, as asked",
-            "a run that must not go on",
-            "a run without saved position",
-            "a crash after the save",
-            "a crash before the save",
-            "no crash",
-            "another owner",
-            "another reserve",
-            "older tables",
-            "a refusal",
-            "an undo",
-            "an undo that is refused",
-            "an undo that is cut off",
-        ],
-    );
+    let mut met = Coverage::of("histories", HAPPENS);
     for round in 0..40 {
         let mut history = History::new(&format!("history-{round}"), &mut random);
-        for _ in 0..16 {
-            let what = match random.below(10) {
-                0 => history.meddle(&mut random),
-                1 => history.refuse(),
-                2 | 3 => history.crash(&mut random),
-                4 | 5 => history.undo(&mut random),
-                _ => history.run(&mut random),
-            };
-            met.met(what);
-            assert!(history.model.is_in(&history.case), "after {what}");
-        }
+        (0..20).for_each(|_| met.met(history.go_on(&mut random)));
     }
     met.require(5);
 }

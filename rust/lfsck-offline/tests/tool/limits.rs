@@ -3,14 +3,19 @@
 use std::process::{Child, Stdio};
 use std::time::{Duration, Instant};
 
+use reference::names::{Namespace, ROOT};
+
 use crate::bytes::{object, object_row, parent_row};
 use crate::json::{Value, parse};
+use crate::namespace::{ENTRIES, bare, case_of, entry, fid, pass};
 use crate::tool::{Case, Told};
 
 const PARENTS: usize = 1024;
 /// The slots of a file.
 pub const SLOTS: usize = 160;
 const OBJECTS: usize = 65_536;
+/// The most rows of either table of names.
+const ROWS: usize = 65_536;
 /// Files with all their slots named; the others have holes.
 const NAMED: usize = 400;
 
@@ -224,4 +229,49 @@ fn one_row_more_is_too_many() {
         assert_eq!(json.number("answer"), 11);
         case.run(&["run"]).expect_line(2, "refused with 11");
     }
+}
+
+/// As many directories, each in the one before it and the first in ROOT, as a climb may have
+/// levels, and files in them; every second FID-in-dirent and all linkEAs are missing.
+fn full_names() -> Namespace {
+    let directories = 4_096;
+    let above = |row: usize| match row {
+        0 => ROOT,
+        row if row < directories => fid(row as u32),
+        row => fid(1 + (row % directories) as u32),
+    };
+    let own = |row: usize| Some(fid(1 + row as u32));
+    let up = |row: usize| (row < directories).then(|| above(row));
+    let name = |row: usize| format!("name {row}").into_bytes();
+    let dirent = |row: usize| own(row).filter(|_| row.is_multiple_of(2));
+    Namespace {
+        entries: (0..ROWS)
+            .map(|row| entry(above(row), row, dirent(row), &name(row)))
+            .collect(),
+        children: (0..ROWS).map(|row| bare(own(row), up(row))).collect(),
+    }
+}
+
+#[test]
+fn full_tables_of_names_are_checked_listed_and_mended() {
+    let started = Instant::now();
+    let time = |what: &str| println!("{what}: {:.1} s", started.elapsed().as_secs_f64());
+    let case = case_of("full-names", &full_names());
+    let sound = case.json(&["check"], 0);
+    assert_eq!(sound.get("names").number("entry_rows"), ROWS as u64);
+    assert_eq!(sound.get("names").number("child_rows"), ROWS as u64);
+    time("check of names");
+    let summary = case.json(&["names", "--summary"], 0);
+    let summary = summary.get("summary");
+    assert_eq!(summary.get("link").number("missing record"), ROWS as u64);
+    assert_eq!(summary.number("hidden"), 0);
+    let passed = pass(&case.files());
+    let report = case.json(&["names", "--mend", "--summary"], 0);
+    assert_eq!(report.number("fids_written"), ROWS as u64 / 2);
+    assert_eq!(report.number("records_appended"), ROWS as u64);
+    passed.expect_in(&case);
+    time("mending of names");
+    // A row more is one too many.
+    case.edit(ENTRIES, |bytes| bytes.extend([0; 293]));
+    case.run(&["names"]).expect_line(2, "refused with 11");
 }

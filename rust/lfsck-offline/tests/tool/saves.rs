@@ -9,7 +9,7 @@ use crate::tool::{Case, Files, JOURNAL, LOG, NOBODY, POSITION, Told, sha256, tim
 const RUN: [&str; 5] = ["run", "--create", "--adopt", "--steps", "40"];
 
 /// The state that a crash left, as the next command finds it, without the times in the log.
-fn reopened(case: &Case) -> Files {
+pub fn reopened(case: &Case) -> Files {
     case.run(&["check"]).expect(0);
     timeless(&case.files())
 }
@@ -29,7 +29,7 @@ fn old_and_new(name: &str) -> (Case, Files, Files) {
 }
 
 /// The operation after which the process died; none where it lived to the end.
-fn aborted(told: &Told) -> Option<String> {
+pub fn aborted(told: &Told) -> Option<String> {
     match told.status {
         None => {
             let line = told.err.lines().next().expect("the operation");
@@ -42,29 +42,37 @@ fn aborted(told: &Told) -> Option<String> {
 #[test]
 fn a_kill_at_any_operation_leaves_the_old_or_the_new_state() {
     let (case, old, new) = old_and_new("kill");
-    let before = timeless(&old);
+    let operations = kill_at_each(&case, [&old, &new], &RUN, 1);
+    expect_order(&operations, &["parents.tbl", "objects.tbl", POSITION]);
+}
+
+/// Kills a command at each of its operations: it leaves the old state or the new one, and from some
+/// operation on the new one. The operations; where it lives to the end it has this status.
+pub fn kill_at_each(case: &Case, states: [&Files; 2], words: &[&str], status: i32) -> Vec<String> {
+    let [old, new] = states;
+    let before = timeless(old);
     let mut operations = Vec::new();
     let mut saved = false;
     for number in 1.. {
-        case.restore(&old);
-        let told = case.run_with_fault(&RUN, format!("abort:{number}"));
+        case.restore(old);
+        let told = case.run_with_fault(words, format!("abort:{number}"));
         let Some(operation) = aborted(&told) else {
-            told.expect(1);
+            told.expect(status);
             break;
         };
         let crashed = case.files();
-        let state = reopened(&case);
-        assert!(state == before || state == new, "after {operation}");
-        assert!(state == new || !saved, "after {operation}: old again");
-        saved = state == new;
+        let state = reopened(case);
+        assert!(state == before || state == *new, "after {operation}");
+        assert!(state == *new || !saved, "after {operation}: old again");
+        saved = state == *new;
         if operation.starts_with("rename") {
-            kill_the_recovery(&case, &crashed, &state);
+            kill_the_recovery(case, &crashed, &state);
         }
         operations.push(operation);
     }
-    assert_eq!(timeless(&case.files()), new);
+    assert!(timeless(&case.files()) == *new);
     assert!(saved);
-    expect_order(&operations);
+    operations
 }
 
 /// Kills the next command at each operation of the recovery too.
@@ -80,8 +88,9 @@ fn kill_the_recovery(case: &Case, crashed: &Files, state: &Files) {
     }
 }
 
-/// What is renamed is on the disk before, and what is renamed stays before the journal goes.
-fn expect_order(operations: &[String]) {
+/// What is renamed is on the disk before, and what is renamed stays before the journal goes. These
+/// files are changed beside the log.
+pub fn expect_order(operations: &[String], changed: &[&str]) {
     println!("operations of a save: {operations:?}");
     let at = |wanted: &str| {
         let found = operations.iter().position(|it| it == wanted);
@@ -91,7 +100,7 @@ fn expect_order(operations: &[String]) {
     let log = ["extend", "write half of", "write the rest of", "sync"];
     let log: Vec<usize> = log.iter().map(|it| at(&format!("{it} {LOG}"))).collect();
     assert!(log.is_sorted() && log[0] == committed + 2, "{log:?}");
-    for name in [JOURNAL, "parents.tbl", "objects.tbl", POSITION] {
+    for &name in [JOURNAL].iter().chain(changed) {
         let own = name.strip_prefix("lfsck-offline.").unwrap_or(name);
         let new = format!("lfsck-offline.{own}.new");
         let order = [
@@ -116,20 +125,26 @@ fn expect_order(operations: &[String]) {
 #[test]
 fn an_operation_that_fails_leaves_the_old_or_the_new_state() {
     let (case, old, new) = old_and_new("fail");
-    let before = timeless(&old);
+    fail_at_each(&case, [&old, &new], &RUN, 1);
+}
+
+/// Lets each operation of a command fail: it leaves the old state or the new one, and says which.
+pub fn fail_at_each(case: &Case, states: [&Files; 2], words: &[&str], status: i32) {
+    let [old, new] = states;
+    let before = timeless(old);
     for number in 1.. {
-        case.restore(&old);
-        let told = case.run_with_fault(&RUN, format!("fail:{number}"));
-        if told.status == Some(1) {
+        case.restore(old);
+        let told = case.run_with_fault(words, format!("fail:{number}"));
+        if told.status == Some(status) {
             break;
         }
         let told = told.expect_line(74, "made to fail by a test");
-        let state = reopened(&case);
-        assert!(state == before || state == new);
+        let state = reopened(case);
+        assert!(state == before || state == *new);
         let announced = told.err.contains("completed when the case is next opened");
-        assert_eq!(state == new, announced, "{told:?}");
+        assert_eq!(state == *new, announced, "{told:?}");
     }
-    assert_eq!(timeless(&case.files()), new);
+    assert!(timeless(&case.files()) == *new);
 }
 
 #[test]

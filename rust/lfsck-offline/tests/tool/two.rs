@@ -11,14 +11,16 @@ use crate::oracle;
 use crate::tool::{Case, JOURNAL, LOG, NOBODY, TOOL, Told, skipped};
 
 const RUN: [&str; 3] = ["run", "--create", "--adopt"];
-const READERS: [&[&str]; 5] = [
+const READERS: [&[&str]; 7] = [
     &["check"],
     &["classes"],
     &["show", "0x200000401:1"],
     &["log"],
     &["run", "--dry-run"],
+    &["names"],
+    &["names", "--mend", "--dry-run"],
 ];
-const WRITERS: [&[&str]; 3] = [&RUN, &["undo"], &["sample"]];
+const WRITERS: [&[&str]; 4] = [&RUN, &["undo"], &["sample"], &["names", "--mend"]];
 
 /// The line that says who is in the way: this process, by its number and name.
 fn expect_in_the_way(told: Told) {
