@@ -134,11 +134,11 @@ fn are_good_marks(marks: &[u64], children: &[u8]) -> bool {
 fn judge(children: &[u8], marks: &mut [u64]) -> u32 {
     let first = first_rows(children);
     let rows = children.chunks_exact(child::BYTES);
-    let above: Vec<Above> = rows.clone().map(|row| above_of(row, &first)).collect();
+    let mut climbs = Climbs::of(rows.clone().map(|row| above_of(row, &first)).collect());
     let judged: Option<Vec<u64>> = rows
         .map(|row| match own_of(row) {
             NO_FID => Some(UNNAMED),
-            own => climb(first[&own], &above),
+            own => climbs.mark(first[&own]),
         })
         .collect();
     match judged {
@@ -175,18 +175,57 @@ fn above_of(row: &[u8], first: &HashMap<Fid, usize>) -> Above {
     }
 }
 
-/// The mark of a row; none where the climb has no end.
-fn climb(from: usize, above: &[Above]) -> Option<u64> {
-    let mut at = from;
-    for _ in 0..MOST_LEVELS {
-        match above[at] {
-            Above::Here(mark) | Above::There(mark) => return Some(mark),
-            Above::Row(row) => at = row,
-        }
+/// How a climb ends: its mark, and the levels that it takes.
+#[derive(Clone, Copy)]
+struct End {
+    mark: u64,
+    levels: usize,
+}
+
+/// Climbs, each of which goes on to where an earlier one has been.
+struct Climbs {
+    above: Vec<Above>,
+    known: Vec<Option<End>>,
+    /// The rows that the climb has left behind.
+    path: Vec<usize>,
+}
+
+impl Climbs {
+    fn of(above: Vec<Above>) -> Climbs {
+        let known = vec![None; above.len()];
+        let path = Vec::new();
+        Climbs { above, known, path }
     }
-    match above[at] {
-        Above::Here(mark) => Some(mark),
-        _ => None,
+
+    /// The mark of a row; none where the climb has no end.
+    fn mark(&mut self, from: usize) -> Option<u64> {
+        let mut end = self.climb(from)?;
+        for &row in self.path.iter().rev() {
+            end.levels += 1;
+            self.known[row] = Some(end);
+        }
+        (end.levels <= MOST_LEVELS).then_some(end.mark)
+    }
+
+    /// The end of the climb from a row that is known, or tells its mark.
+    fn climb(&mut self, from: usize) -> Option<End> {
+        self.path.clear();
+        let mut at = from;
+        while self.path.len() <= MOST_LEVELS {
+            let end = self.known[at].or(match self.above[at] {
+                Above::Here(mark) => Some(End { mark, levels: 0 }),
+                Above::There(mark) => Some(End { mark, levels: 1 }),
+                Above::Row(_) => None,
+            });
+            if end.is_some() {
+                return end;
+            }
+            self.path.push(at);
+            if let Above::Row(row) = self.above[at] {
+                at = row;
+            }
+        }
+        None
     }
 }
 
