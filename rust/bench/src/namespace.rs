@@ -9,6 +9,9 @@ use numbers::{child, entry};
 const CHILDREN: u64 = 0x2_0000_0401;
 /// One file in so many is damaged.
 const DAMAGED: usize = 100;
+/// What a number is multiplied with, modulo 2^32, to put numbers in no order: it is odd, so that
+/// they stay different.
+const SPREAD: u32 = 0x9e37_79b1;
 
 /// Both tables of a call.
 #[derive(Clone, PartialEq, Eq)]
@@ -25,7 +28,7 @@ type Numbers = (u64, u32);
 impl Namespace {
     /// So many children, each with an entry. Half are directories, in chains of so many under ROOT,
     /// and have no linkEA, as after an upgrade. The others are files in them. A file in a hundred
-    /// is damaged, in five ways in turn.
+    /// is damaged, in five ways in turn. FIDs and entries are in no order.
     pub fn of(children: usize, chain: usize) -> Namespace {
         let mut names = Namespace {
             entries: Vec::with_capacity(children * entry::BYTES),
@@ -42,6 +45,7 @@ impl Namespace {
                 names.damage(number, file / DAMAGED % 5);
             }
         }
+        names.entries = spread(&names.entries);
         names
     }
 
@@ -117,7 +121,18 @@ impl Namespace {
 }
 
 fn own(number: usize) -> Numbers {
-    (CHILDREN, number as u32 + 1)
+    (CHILDREN, spread_number(number))
+}
+
+fn spread_number(number: usize) -> u32 {
+    (number as u32).wrapping_mul(SPREAD)
+}
+
+/// Entry rows in no order.
+fn spread(entries: &[u8]) -> Vec<u8> {
+    let mut rows: Vec<(usize, &[u8])> = entries.chunks_exact(entry::BYTES).enumerate().collect();
+    rows.sort_by_key(|(number, _)| spread_number(*number));
+    rows.into_iter().flat_map(|(_, row)| row).copied().collect()
 }
 
 fn name(number: usize) -> Vec<u8> {
