@@ -557,6 +557,9 @@ uint32_t lfsck_intake_end(const uint8_t *state, size_t state_bytes,
  * LFSCK_BAD_TABLE, LFSCK_NO_POSITION, LFSCK_BAD_LINK, LFSCK_NO_ROOM, LFSCK_LONG_CLIMB,
  * LFSCK_LINK_FULL. Index and room are working room: what they hold after a call, a refused one
  * too, is not said.
+ *
+ * A climb is a recursion, a level of the stack for each level: judging and a pass take less than
+ * 1 MiB of stack.
  */
 
 /*
