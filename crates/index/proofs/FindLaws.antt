@@ -97,11 +97,11 @@ valueIn : Found → ℕ
 valueIn Nothing = 0
 valueIn (Value v) = v
 
-value-nothing : (v : ℕ) → Value v ≡ Nothing → ⊥
+pub value-nothing : (v : ℕ) → Value v ≡ Nothing → ⊥
 unfolding isValue
 value-nothing v e = true≢false (ap isValue e)
 
-value-injective : (v w : ℕ) → Value v ≡ Value w → v ≡ w
+pub value-injective : (v w : ℕ) → Value v ≡ Value w → v ≡ w
 unfolding valueIn
 value-injective v w e = ap valueIn e
 

@@ -83,7 +83,7 @@ pub link-length : (row : List ℕ) → length row ≡ childSize → linkLength r
 unfolding linkBytes
 link-length row h k = length-take-le (linkLength row) (drop linkRoomAt row) (rw length-drop (omega arith))
 
-link-bytes : (row : List ℕ) → Bytes row → Bytes (linkBytes row)
+pub link-bytes : (row : List ℕ) → Bytes row → Bytes (linkBytes row)
 unfolding linkBytes
 link-bytes row b = bytes-take (linkLength row) (drop linkRoomAt row) (bytes-drop linkRoomAt row b)
 

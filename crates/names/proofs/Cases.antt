@@ -20,7 +20,7 @@ use Rattle.names.specs.Findings.{any, same, fidsFinding, fidFinding, fid
 use Rattle.names.specs.Visible.{root, isRoot, firstRow, directory, atRow, atDirectory, arrive, noneLeft, climb, isTooLong, climbsTooLong, tooLong, climbMark, markOf, judged, firstMarked, seenBy, goodMark, goodMarks}
 use Rattle.names.specs.Sweeps.{one, gives, taking, sweep1, taken, mends, written, sweep2, differs, writes, startOf, grownLink, outgrows, appending, onward, lacks, asks, sweep3, named, goes, kept, leftLinks, gone, pruned, sweep4, removals}
 use Rattle.names.specs.Mend.{Mended, first, second, third, reportOf, finish, mended}
-use Rattle.names.specs.Calls.{reportNumbers}
+use Rattle.names.specs.Calls.{Left, indexPlaces, roomy, reportNumbers, left, mendedBytes, passTests, passCall}
 
 -- ## Tables
 
@@ -182,7 +182,19 @@ full-entries n = entry root 0 (fid 6) d ∷ entry root 1 (fid 8) (long n) ∷ en
 unfoldable pub full : Mended
 full = pass 4 (full-entries 37) full-children
 
+-- "Missing records are then appended", before any is removed: the record that fills the second child has no entry, and yet there is no room
+unfoldable pub appends-first : Bool
+appends-first = reports 38 (0 ∷ 1 ∷ 1 ∷ 0 ∷ 1 ∷ []) full
+
 -- ## Bytes
+
+-- the trap, by the call
+unfoldable pub trap-call : Left
+trap-call = passCall (renderEntries trap-entries) (renderChildren trap-children) (replicate 64 0) (replicate 64 0) (replicate 2 0) (replicate 5 0)
+
+-- "Visibility is judged once, as lent": the row without self FID is no directory, so that the entry in it is left out
+unfoldable pub judged-as-lent : Bool
+judged-as-lent = equal (trap-call .marks) (2 ∷ 0 ∷ []) && equal (trap-call .out) (1 ∷ 0 ∷ 1 ∷ 0 ∷ 2 ∷ [])
 
 unfoldable pub entry-row : List ℕ
 entry-row = encodeEntry (entry root 0 (fid 7) d)
@@ -223,7 +235,7 @@ cases =
     ∷ same (getD (pass 4 giving-entries (bare ∷ []) .children) 0 bare .self) (fid 6)
     ∷ sameTables [] lone-after (pass 4 [] lone-children) ∷ reports 0 (0 ∷ 0 ∷ 0 ∷ 1 ∷ 0 ∷ []) (pass 4 [] lone-children)
     -- 38 in front of the second entry: the FID of the first is written, and its record appended
-    ∷ reports 38 (0 ∷ 1 ∷ 1 ∷ 0 ∷ 1 ∷ []) full ∷ eqb (length (linksOf (getD (full .children) 1 bare))) 1
+    ∷ eqb (length (linksOf (getD (full .children) 1 bare))) 1
     ∷ eqb (length (linksOf (getD (full .children) 0 bare))) 1 ∷ reports 0 (0 ∷ 1 ∷ 3 ∷ 1 ∷ 3 ∷ []) (pass 4 (full-entries 36) full-children)
     -- rows there and back, and the check
     ∷ equal (encodeEntry (decodeEntry entry-row)) entry-row ∷ equal (encodeChild (decodeChild child-row)) child-row
@@ -232,6 +244,6 @@ cases =
     ∷ eqb (namesNumber slashed child-row) 31 ∷ eqb (namesNumber nameless child-row) 31 ∷ eqb (namesNumber entry-row (set child-row 34 0)) 31
     ∷ []
 
-pub cases-hold : every cases ≡ true
-unfolding fid none entry link ea child zeroed d x y equal sameTables pass again reports climbs bare file found dir held chain circle twins rooted trap-entries trap-children trap-anew mixed-entries hidden-link mixed-children mixed mixed-links mixed-after hidden-entries hidden-children giving-entries lone-children lone-after long full-children full-entries full entry-row child-row slashed nameless every cases le bytes number numberBytes rows decodeFid encodeFid decodeFidIn encodeFidIn sameFid zeroFid decodeLinkHeader encodeLinkHeader headerOf recordLength decodeLink encodeLink encodeLinks lengthAt shortRecord placesFrom places linkAt decodeLinkEA encodeLinkEA some shortHeader otherMagic pastEnd countDisagrees totalDisagrees badByte badName refusedLink appended all wholeRows firstFailing join mdtFid childRow nameLength nameBytes decodeEntry encodeEntry isNone linkLength linkBytes decodeLinked encodeLinked decodeChild encodeChild linksIn linksOf isLinked entryRows childRows parseEntries parseChildren renderEntries renderChildren noChild childAt childOf withFid withSelf withLinkEA namesWhole childThere childrenThere goodName goodLinkEA namesGood namesTests namesNumber any same fidsFinding fidFinding fidNumber sameName sameLink linkFor hasLink linkFinding linkNumber findings root isRoot firstRow directory atRow atDirectory arrive noneLeft climb isTooLong climbsTooLong tooLong climbMark markOf judged firstMarked seenBy goodMark goodMarks one gives taking sweep1 taken mends written sweep2 differs writes startOf grownLink outgrows appending onward lacks asks sweep3 named goes kept leftLinks gone pruned sweep4 removals first second third reportOf finish mended reportNumbers
-cases-hold = refl
+pub cases-hold : (appends-first ≡ true) × (judged-as-lent ≡ true) × (every cases ≡ true)
+unfolding fid none entry link ea child zeroed d x y equal sameTables pass again reports climbs bare file found dir held chain circle twins rooted trap-entries trap-children trap-anew mixed-entries hidden-link mixed-children mixed mixed-links mixed-after hidden-entries hidden-children giving-entries lone-children lone-after long full-children full-entries full entry-row child-row slashed nameless appends-first trap-call judged-as-lent every cases le bytes number numberBytes rows decodeFid encodeFid decodeFidIn encodeFidIn sameFid zeroFid decodeLinkHeader encodeLinkHeader headerOf recordLength decodeLink encodeLink encodeLinks lengthAt shortRecord placesFrom places linkAt decodeLinkEA encodeLinkEA some shortHeader otherMagic pastEnd countDisagrees totalDisagrees badByte badName refusedLink appended all wholeRows firstFailing join mdtFid childRow nameLength nameBytes decodeEntry encodeEntry isNone linkLength linkBytes decodeLinked encodeLinked decodeChild encodeChild linksIn linksOf isLinked entryRows childRows parseEntries parseChildren renderEntries renderChildren noChild childAt childOf withFid withSelf withLinkEA namesWhole childThere childrenThere goodName goodLinkEA namesGood namesTests namesNumber any same fidsFinding fidFinding fidNumber sameName sameLink linkFor hasLink linkFinding linkNumber findings root isRoot firstRow directory atRow atDirectory arrive noneLeft climb isTooLong climbsTooLong tooLong climbMark markOf judged firstMarked seenBy goodMark goodMarks one gives taking sweep1 taken mends written sweep2 differs writes startOf grownLink outgrows appending onward lacks asks sweep3 named goes kept leftLinks gone pruned sweep4 removals first second third reportOf finish mended indexPlaces roomy reportNumbers left mendedBytes passTests passCall
+cases-hold = (refl, refl, refl)

@@ -2,11 +2,11 @@
 use mathlib.Core.Path.{_≡_, refl, sym, ap, _∙_}
 use mathlib.Core.Bool.{Bool, true, false, cond}
 use mathlib.Core.List.{List, [], _∷_, _++_, map, map-append}
-use Prim.Native.Nat.{ℕ, zero, suc, _+_, _/_, _≤_, _<_}
+use Prim.Native.Nat.{ℕ, suc, _+_, _/_, _≤_, _<_}
 use native.Mathlib.Numerals.{add-one}
 use native.Mathlib.Omega.{arith}
-use lib.ListN.{length, take, getD, set}
-use lib.Seq.{take-suc, take-all, getD-take, take-suc-set}
+use lib.ListN.{length, take, set}
+use lib.Seq.{take-suc, take-all, take-suc-set}
 use Rattle.fid.specs.declared.MdtFid.{MdtFid}
 use Rattle.names.specs.Rows.{Entry, entrySize, decodeEntry, parseEntries}
 use Rattle.names.specs.Sweeps.{one}
@@ -40,11 +40,6 @@ module _ (seen : MdtFid → Bool) (e : Entry) (b : ℕ) where
       go true z = refl
       go false z = absurd (h z)
 
-note-in : (seen : MdtFid → Bool) (es : List Entry) (i : ℕ) → i < length es → getD (map (noteOf seen) es) i 0 ≡ noteOf seen (getD es i (decodeEntry []))
-note-in seen [] i h = absurd (omega arith)
-note-in seen (e ∷ es) zero h = refl
-note-in seen (e ∷ es) (suc i) h = note-in seen es i (omega arith)
-
 module _ (seen : MdtFid → Bool) (entries : List ℕ) where
   -- the notes of the first i entries
   pub NotedTo : ℕ → List ℕ → Type 0
@@ -67,9 +62,3 @@ module _ (seen : MdtFid → Bool) (entries : List ℕ) where
   noted-all i l h k n =
       let z : i ≡ length entries / entrySize = omega arith in
       rw (← z) (n ∙ ap (map (noteOf seen)) (take-all i (parseEntries entries) (omega (arith, parsed-entries entries))))
-
-  pub note-at : (notes : List ℕ) (i : ℕ) → i < length entries / entrySize → Noted seen entries notes → getD notes i 0 ≡ noteOf seen (entryAt entries i)
-  unfolding Noted
-  note-at notes i h n =
-      sym (getD-take (length entries / entrySize) notes i 0 h) ∙ ap (λ (l : List ℕ). getD l i 0) n
-      ∙ note-in seen (parseEntries entries) i (omega (arith, parsed-entries entries)) ∙ ap (noteOf seen) (entry-row entries i h)

@@ -14,10 +14,10 @@ use Rattle.fid.specs.Fid.{sameFid}
 use Rattle.fid.specs.declared.Fid.{Fid}
 use Rattle.fid.specs.declared.MdtFid.{MdtFid}
 use Rattle.fid.proofs.SameLaws.{same-is}
-use Rattle.index.specs.Entries.{placeSize, valueRange, entries, number, wide, sorted}
+use Rattle.index.specs.Entries.{placeSize, valueRange, entries, number, sorted}
 use Rattle.index.specs.Search.{Ordered, lowestOf, key, keyOf, numbersOf, listed, isKey, firstWith}
 use Rattle.index.specs.declared.Found.the-variants.{Nothing}
-use Rattle.index.proofs.EntryLaws.{moved, wide-fits}
+use Rattle.index.proofs.EntryLaws.{moved, number-key, number-fits}
 use Rattle.index.proofs.OrderLaws.{sorted-ordered}
 use Rattle.index.proofs.RowLaws.{sorted-first}
 use Rattle.names.specs.Rows.{Child, childSize, isNone, noChild, childAt, decodeChild, parseChildren}
@@ -72,14 +72,6 @@ directory-found cs f h k =
     ∙ first-with f (isRow cs f) h cs 0 (row-test cs f)))
 
 -- ## What is listed
-
-number-key : (seq oid r : ℕ) → number seq oid r ≡ r + valueRange * keyOf seq oid
-unfolding number wide keyOf
-number-key seq oid r = omega arith
-
-number-fits : (seq oid r : ℕ) → seq < 2 ^ 64 → oid < 2 ^ 32 → r < 2 ^ 32 → number seq oid r < 256 ^ placeSize
-unfolding number
-number-fits seq oid r a b d = wide-fits (r + valueRange * oid) seq (omega arith) a
 
 -- a row that is passed by, and one that is put
 module _ (f : MdtFid) (n r : ℕ) (l : List ℕ) where

@@ -1,6 +1,6 @@
 -- What a look at a directory says, case by case, and what it means for every climb. Assumes nothing.
 use mathlib.Core.Path.{_≡_, refl, sym, ap, subst, _∙_}
-use mathlib.Core.Bool.{Bool, true, false, cond, true≢false}
+use mathlib.Core.Bool.{Bool, true, false, cond}
 use mathlib.Core.List.{List, [], _∷_}
 use Prim.Native.Nat.{ℕ, suc, _-_, _*_, _/_, _≤_, _<_}
 use native.Mathlib.Omega.{arith}
@@ -9,8 +9,8 @@ use lib.ListN.{length, take, drop, getD}
 use Rattle.fid.specs.declared.Fid.{Fid}
 use Rattle.fid.specs.declared.MdtFid.{MdtFid}
 use Rattle.fid.proofs.SameLaws.{same-is}
-use Rattle.index.specs.declared.Found.{Found}
 use Rattle.index.specs.declared.Found.the-variants.{Nothing, Value}
+use Rattle.index.proofs.FindLaws.{value-nothing, value-injective}
 use Rattle.names.specs.Rows.{Child, childSize, isNone, isLinked, linkLength, decodeLinked, decodeChild, noChild, childAt, parseChildren}
 use Rattle.names.specs.Findings.{same}
 use Rattle.names.specs.Visible.{isRoot, firstRow, directory}
@@ -88,34 +88,18 @@ module _ (cs : List Child) (room : List ℕ) (f : MdtFid) where
     unfolding look lookDirectory
     look-in r d = rw (n, d)
 
-isValue : Found → Bool
-isValue Nothing = false
-isValue (Value r) = true
-
-valueIn : Found → ℕ
-valueIn Nothing = 0
-valueIn (Value r) = r
-
-nothing-not : (r : ℕ) → Nothing ≡ Value r → ⊥
-unfolding isValue
-nothing-not r e = true≢false (sym (ap isValue e))
-
-value-is : (r s : ℕ) → Value r ≡ Value s → r ≡ s
-unfolding valueIn
-value-is r s e = ap valueIn e
-
 -- the row of a FID is in the table and has it
 pub first-is : (f : MdtFid) (cs : List Child) (s r : ℕ) → firstRow f cs s ≡ Value r →
     (s ≤ r) × (r - s < length cs) × (same (getD cs (r - s) noChild .self) f ≡ true)
 unfolding firstRow
-first-is f [] s r e = absurd (nothing-not r e)
+first-is f [] s r e = absurd (value-nothing r (sym e))
 first-is f (c ∷ cs) s r e = go (same (c .self) f) refl e (first-is f cs (suc s) r)
   where
     go : (b : Bool) → same (c .self) f ≡ b → cond b (Value s) (firstRow f cs (suc s)) ≡ Value r →
         (firstRow f cs (suc s) ≡ Value r → (suc s ≤ r) × (r - suc s < length cs) × (same (getD cs (r - suc s) noChild .self) f ≡ true)) →
         (s ≤ r) × (r - s < length (c ∷ cs)) × (same (getD (c ∷ cs) (r - s) noChild .self) f ≡ true)
     go true t x i =
-        let p : s ≡ r = value-is s r x in
+        let p : s ≡ r = value-injective s r x in
         let z : r - s ≡ 0 = omega arith in
         (omega arith, omega arith, rw z t)
     go false t x i =
@@ -129,7 +113,7 @@ module _ (cs : List Child) (f : MdtFid) (r : ℕ) (d : directory cs f ≡ Value 
   found-row = go (isNone f) d
     where
       go : (b : Bool) → cond b Nothing (firstRow f cs 0) ≡ Value r → (r < length cs) × (same (getD cs r noChild .self) f ≡ true)
-      go true e = absurd (nothing-not r e)
+      go true e = absurd (value-nothing r (sym e))
       go false e =
           let y = first-is f cs 0 r e in
           let z : r - 0 ≡ r = omega arith in

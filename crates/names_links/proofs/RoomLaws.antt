@@ -11,7 +11,7 @@ use lib.Seq.{sets, sets-eq, length-sets, length-take-le, take-add, take-at, drop
 use borrow.Rule.Slice.PartMut.{putMid}
 use Rattle.wire.specs.Numbers.{le, bytes}
 use Rattle.wire.proofs.Splice.{sets-at, sets-whole, put-sets}
-use Rattle.wire.proofs.NumberLaws.{Bytes, field, bytes-drop, bytes-take, length-bytes, le-small-at}
+use Rattle.wire.proofs.NumberLaws.{Bytes, field, bytes-drop, length-bytes, le-small-at}
 use Rattle.wire.proofs.OrderLaws.{le-front}
 use Rattle.fid.specs.Fid.{fidSize, idAt, versionAt, decodeFid}
 use Rattle.linkea.specs.Link.{Link, LinkEA, linkHeader, nameAt, linkLength as recordLength, timeAt, paddingAt, encodeLinks, lengthAt, shortRecord, decodeLink, linkAt, places, decodeLinkHeader, encodeLinkHeader, headerOf, decodeLinkEA, encodeLinkEA}
@@ -24,7 +24,7 @@ use Rattle.linkea_write.proofs.StandLaws.{FitLinks, header-read, written-again,
 use Rattle.names.specs.Rows.{linked, childSize, upAt, linkLengthAt, linkRoomAt, linkRoom, mdtFid, linkLength, linkBytes, decodeLinked, decodeChild, withLinkEA}
 use Rattle.names.specs.Check.{goodLinkEA}
 use Rattle.names.specs.Sweeps.{startOf}
-use Rattle.names.proofs.BackLaws.{link-room, link-accepted, link-length}
+use Rattle.names.proofs.BackLaws.{link-room, link-accepted, link-length, link-bytes}
 use Rattle.names_links.specs.Room.{closed}
 
 -- ## Zeros from a place on
@@ -79,10 +79,6 @@ closed-by row a p b x h n k ea ep eb ex =
     rw (ex, lb, bf)
 
 -- ## What stands in a row
-
-link-bytes : (row : List ℕ) → Bytes row → Bytes (linkBytes row)
-unfolding linkBytes
-link-bytes row b = bytes-take (linkLength row) (drop linkRoomAt row) (bytes-drop linkRoomAt row b)
 
 -- a good record, read
 module _ (l : List ℕ) (b : Bytes l) where

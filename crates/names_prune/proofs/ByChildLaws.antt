@@ -8,30 +8,32 @@ use native.Mathlib.Nat.{add-zero}
 use native.Mathlib.Omega.{arith}
 use borrow.Author.Tests.{lt-ltb, le-ltb}
 use lib.Dec.{eqb}
-use lib.ListN.{length, take, drop, getD, length-map, drop-of-length-le, List·getD-map}
+use lib.ListN.{length, take, drop, getD, length-map, drop-of-length-le}
 use lib.Seq.{sets, drop-cons}
 use Rattle.wire.specs.Numbers.{bytes}
 use Rattle.wire.proofs.Both.{and-second}
-use Rattle.wire.proofs.RowLaws.{rows-at}
 use Rattle.fid.specs.Fid.{sameFid}
 use Rattle.fid.specs.declared.MdtFid.{MdtFid}
 use Rattle.linkea.specs.Link.{Link}
 use Rattle.tables.specs.Check.{all}
 use Rattle.tables.proofs.AllLaws.{all-at}
-use Rattle.index.specs.Entries.{placeSize, valueRange, entries, number, wide, sorted}
+use Rattle.index.specs.Entries.{placeSize, valueRange, entries, number, sorted}
 use Rattle.index.specs.Search.{Ordered, lowestOf, keyOf, numbersOf, listed, isKey, firstWith}
 use Rattle.index.specs.declared.Found.the-variants.{Nothing, Value}
-use Rattle.index.proofs.EntryLaws.{moved, wide-fits}
+use Rattle.index.proofs.EntryLaws.{moved, number-key, number-fits}
 use Rattle.index.proofs.OrderLaws.{sorted-ordered}
 use Rattle.index.proofs.RowLaws.{sorted-first}
+use Rattle.index.proofs.FindLaws.{value-nothing, value-injective}
 use Rattle.names.specs.Rows.{Entry, entrySize, nameRoom, nameLength, decodeEntry, entryRows, parseEntries}
 use Rattle.names.specs.Check.{goodName}
 use Rattle.names.specs.Findings.{any, same, sameName, sameLink, linkFor}
 use Rattle.names.specs.Sweeps.{named}
+use Rattle.names.specs.Promises.{noEntry}
 use Rattle.names.proofs.SoundLaws.{parsed-entries}
-use Rattle.names_check.specs.Asked.{asked}
+use Rattle.names_check.specs.Asked.{asked, entryAt}
 use Rattle.names_check.proofs.TestLaws.{name-room}
-use Rattle.names_prune.specs.ByChild.{entryKey, entryNumbers, noEntry, isNamed, firstNamed}
+use Rattle.names_check.proofs.FindingLaws.{entry-row}
+use Rattle.names_prune.specs.ByChild.{entryKey, entryNumbers, isNamed, firstNamed}
 
 -- a child's row is its key
 zero-key : (r : ℕ) → keyOf 0 r ≡ r
@@ -40,13 +42,10 @@ zero-key r = omega arith
 
 -- ## Rows
 
-pub parsed-entry : (t : List ℕ) (i : ℕ) → i < length t / entrySize → getD (parseEntries t) i noEntry ≡ decodeEntry (take entrySize (drop (entrySize * i) t))
-unfolding parseEntries entryRows noEntry
-parsed-entry t i h = List·getD-map decodeEntry (entryRows t) i [] ∙ ap decodeEntry (rows-at entrySize (length t / entrySize) i t h)
-
 pub row-entry : (t : List ℕ) (i : ℕ) (row : List ℕ) → i < length t / entrySize → row ≡ take entrySize (drop (entrySize * i) t) →
     decodeEntry row ≡ getD (parseEntries t) i noEntry
-row-entry t i row h e = ap decodeEntry e ∙ sym (parsed-entry t i h)
+unfolding noEntry entryAt
+row-entry t i row h e = ap decodeEntry e ∙ sym (entry-row t i h)
 
 -- the name of an entry row lies in its room
 pub row-name : (t : List ℕ) (i : ℕ) (row : List ℕ) → all goodName (entryRows t) ≡ true → i < length t / entrySize →
@@ -55,14 +54,6 @@ unfolding entryRows
 row-name t i row g h e = name-room row (ap goodName e ∙ all-at goodName entrySize (length t / entrySize) i t g h)
 
 -- ## What is listed
-
-number-key : (child i : ℕ) → number 0 child i ≡ i + valueRange * keyOf 0 child
-unfolding number wide keyOf
-number-key child i = omega arith
-
-number-fits : (child i : ℕ) → child < 2 ^ 32 → i < 2 ^ 32 → number 0 child i < 256 ^ placeSize
-unfolding number
-number-fits child i b d = wide-fits (i + valueRange * child) 0 (omega arith) (omega arith)
 
 module _ (es : List Entry) where
   -- the entries from i on
@@ -75,14 +66,14 @@ module _ (es : List Entry) where
 
   next : (i : ℕ) → i < length es → listedFrom i ≡ number 0 (getD es i noEntry .child) i ∷ listedFrom (i + 1)
   unfolding listedFrom listed entryKey numbersOf
-  next i h = rw (add-one i, drop-cons es i noEntry h, number-key (getD es i noEntry .child) i)
+  next i h = rw (add-one i, drop-cons es i noEntry h, number-key 0 (getD es i noEntry .child) i)
 
   pub list-next : (i child : ℕ) (l new : List ℕ) → i < length es → placeSize * i + placeSize ≤ length l → child ≡ getD es i noEntry .child →
       child < 2 ^ 32 → i < 2 ^ 32 → new ≡ sets l (placeSize * i) (bytes placeSize (number 0 child i)) →
       entries i l ++ listedFrom i ≡ entryNumbers es → entries (i + 1) new ++ listedFrom (i + 1) ≡ entryNumbers es
   list-next i child l new h k e a b s w =
       let x : listedFrom i ≡ number 0 child i ∷ listedFrom (i + 1) = rw e (next i h) in
-      moved i (number 0 child i) l new (listedFrom (i + 1)) (entryNumbers es) k (number-fits child i a b) s (rw x at w)
+      moved i (number 0 child i) l new (listedFrom (i + 1)) (entryNumbers es) k (number-fits 0 child i (omega arith) a b) s (rw x at w)
 
   pub list-end : (i : ℕ) (l : List ℕ) → length es ≤ i → entries i l ++ listedFrom i ≡ entryNumbers es → entries i l ≡ entryNumbers es
   unfolding listedFrom listed
@@ -145,12 +136,6 @@ pub record Names (es : List Entry) (r : ℕ) (x : Link) (i k : ℕ) : Type 0 whe
   pub has : named es r x ≡ true
   pub link : sameLink x (linkFor (getD es (k - i) noEntry)) ≡ true
 
-nothing-value : (k : ℕ) → Nothing ≡ Value k → ⊥
-nothing-value k e = let z : _≡_ {A = ℕ} 0 1 = cc in omega (arith, z)
-
-value-is : (a b : ℕ) → Value a ≡ Value b → a ≡ b
-value-is a b e = cc
-
 pub found-none : (es : List Entry) (r : ℕ) (x : Link) (i : ℕ) → firstNamed es r x i ≡ Nothing → named es r x ≡ false
 unfolding firstNamed named any
 found-none [] r x i h = refl
@@ -158,18 +143,18 @@ found-none (e ∷ es) r x i h = go (eqb (e .child) r && sameLink x (linkFor e)) 
   where
     go : (b : Bool) → cond b (Value i) (firstNamed es r x (suc i)) ≡ Nothing → (firstNamed es r x (suc i) ≡ Nothing → named es r x ≡ false) →
         (b || named es r x) ≡ false
-    go true k on = cc
+    go true k on = absurd (value-nothing i k)
     go false k on = on k
 
 pub found-some : (es : List Entry) (r : ℕ) (x : Link) (i k : ℕ) → firstNamed es r x i ≡ Value k → Names es r x i k
 unfolding firstNamed named any
-found-some [] r x i k h = absurd (nothing-value k h)
+found-some [] r x i k h = absurd (value-nothing k (sym h))
 found-some (e ∷ es) r x i k h = go (eqb (e .child) r && sameLink x (linkFor e)) refl h (found-some es r x (suc i) k)
   where
     go : (b : Bool) → (eqb (e .child) r && sameLink x (linkFor e)) ≡ b → cond b (Value i) (firstNamed es r x (suc i)) ≡ Value k →
         (firstNamed es r x (suc i) ≡ Value k → Names es r x (suc i) k) → Names (e ∷ es) r x i k
     go true t v on =
-        let q : i ≡ k = value-is i k v in
+        let q : i ≡ k = value-injective i k v in
         let z : k - i ≡ 0 = omega arith in
         record { from = omega arith; inside = omega arith; has = rw t; link = rw z (and-second (eqb (e .child) r) (sameLink x (linkFor e)) t) }
     go false t v on =

@@ -1,13 +1,13 @@
 -- The flags of the records, one after the other, and what one record is asked. Assumes nothing.
 use mathlib.Core.Path.{_≡_, refl, sym, ap, _∙_}
 use mathlib.Core.Bool.{Bool, true, false, cond, not, _&&_}
-use mathlib.Core.List.{List, [], _∷_, _++_, map, append-assoc, append-nil}
-use Prim.Native.Nat.{ℕ, zero, suc, _+_, _-_, _/_, _≤_, _<_}
+use mathlib.Core.List.{List, [], _∷_, _++_, append-assoc, append-nil}
+use Prim.Native.Nat.{ℕ, _+_, _-_, _/_, _≤_, _<_}
 use native.Mathlib.Nat.{not-suc-le-zero}
 use native.Mathlib.Omega.{arith}
 use lib.Dec.{eqb}
 use lib.ListN.{length, take, drop, getD, set, length-append, length-take, length-map, drop-of-length-le}
-use lib.Seq.{getD-take, take-all, length-take-le}
+use lib.Seq.{take-all, length-take-le}
 use Rattle.wire.proofs.Both.{and-first}
 use Rattle.fid.specs.declared.MdtFid.{MdtFid}
 use Rattle.fid.proofs.SameLaws.{same-is}
@@ -17,10 +17,13 @@ use Rattle.index.specs.declared.Found.the-variants.{Nothing, Value}
 use Rattle.names.specs.Rows.{Entry, entrySize, parseEntries}
 use Rattle.names.specs.Findings.{any, same, sameName, sameLink, linkFor}
 use Rattle.names.specs.Sweeps.{one, named, goes, kept}
+use Rattle.names.specs.Promises.{noEntry}
 use Rattle.names.proofs.SoundLaws.{parsed-entries}
 use Rattle.names_links.specs.Kept.{stays, keptBy}
+use Rattle.names_check.proofs.FindingLaws.{entry-row}
 use Rattle.names_store.specs.Notes.{noteOf, Noted}
-use Rattle.names_prune.specs.ByChild.{noEntry, firstNamed}
+use Rattle.names_store.proofs.NoteLaws.{note-at}
+use Rattle.names_prune.specs.ByChild.{firstNamed}
 use Rattle.names_prune.proofs.ByChildLaws.{Names, found-none, found-some}
 use Rattle.names_prune.proofs.RecordLaws.{taken, inside}
 
@@ -60,11 +63,6 @@ same-parent x y h =
     let e = same-is (x .parent .0) (y .parent .0) (and-first (same (x .parent) (y .parent)) (sameName (x .name) (y .name)) h) in
     λ i. record { 0 = sym e i }
 
-map-at : (f : Entry → ℕ) (es : List Entry) (i : ℕ) → i < length es → getD (map f es) i 0 ≡ f (getD es i noEntry)
-map-at f [] i h = absurd (not-suc-le-zero h)
-map-at f (e ∷ es) zero h = refl
-map-at f (e ∷ es) (suc i) h = map-at f es i (omega arith)
-
 module _ (seen : MdtFid → Bool) (t notes : List ℕ) (w : Noted seen t notes) where
   pub noted-many : length t / entrySize ≤ length notes
   unfolding Noted
@@ -72,12 +70,6 @@ module _ (seen : MdtFid → Bool) (t notes : List ℕ) (w : Noted seen t notes) 
       let m : length (take (length t / entrySize) notes) ≡ length t / entrySize =
       ap length w ∙ length-map (parseEntries t) (noteOf seen) ∙ parsed-entries t in
       omega (arith, length-take (length t / entrySize) notes)
-
-  note-at : (i : ℕ) → i < length t / entrySize → getD notes i 0 ≡ one (seen (getD (parseEntries t) i noEntry .parent))
-  unfolding Noted noteOf
-  note-at i h =
-      sym (getD-take (length t / entrySize) notes i 0 h) ∙ ap (λ (l : List ℕ). getD l i 0) w
-      ∙ map-at (noteOf seen) (parseEntries t) i (omega (arith, parsed-entries t))
 
 module _ (seen : MdtFid → Bool) (es : List Entry) (r : ℕ) (before : List Link) (x : Link) where
   pub goes-unnamed : named es r x ≡ false → seen (x .parent) ≡ goes seen es r before x
@@ -112,11 +104,11 @@ module _ (seen : MdtFid → Bool) (t notes : List ℕ) (r : ℕ) (before : List 
     note-inside = omega (arith, entry-inside, noted-many seen t notes w)
 
     note-is : getD notes i 0 ≡ one (seen (x .parent))
-    unfolding linkFor
+    unfolding linkFor noEntry noteOf
     note-is =
         let z : i - 0 ≡ i = omega arith in
         let h : sameLink x (linkFor (getD (parseEntries t) i noEntry)) ≡ true = rw z at (names .link) in
-        note-at seen t notes w i entry-inside ∙ ap (λ (g : MdtFid). one (seen g)) (same-parent x (linkFor (getD (parseEntries t) i noEntry)) h)
+        note-at seen t notes i entry-inside w ∙ ap (noteOf seen) (sym (entry-row t i entry-inside)) ∙ ap (λ (g : MdtFid). one (seen g)) (same-parent x (linkFor (getD (parseEntries t) i noEntry)) h)
 
     pub goes-not : getD notes i 0 ≡ 0 → false ≡ goes seen (parseEntries t) r before x
     goes-not h = goes-hidden seen (parseEntries t) r before x (one-zero (seen (x .parent)) (sym note-is ∙ h))

@@ -9,7 +9,7 @@ use borrow.Author.Tests.{eq-eqb, ne-eqb}
 use borrow.Rule.Slice.PartMut.{putMid}
 use lib.Dec.{eqb}
 use lib.ListN.{length, take, drop, getD, set, drop-of-length-le}
-use lib.Seq.{append-snoc, drop-cons, drop-set-lt, set-getD, take-all, take-suc-set}
+use lib.Seq.{append-snoc, drop-cons, drop-set-lt, set-getD, sets, take-all, take-suc-set}
 use Rattle.fid.specs.declared.MdtFid.{MdtFid}
 use Rattle.linkea.specs.Link.{Link, decodeLinkEA}
 use Rattle.names.specs.Rows.{Entry, Child, childSize, isNone, linkLength, linkBytes, decodeLinked, decodeChild, linksIn, linksOf, withLinkEA, parseEntries, parseChildren, noChild, childAt}
@@ -18,9 +18,11 @@ use Rattle.names.specs.Visible.{seenBy}
 use Rattle.names.specs.Sweeps.{startOf, kept, leftLinks, gone, pruned, sweep4, removals}
 use Rattle.names.proofs.SoundLaws.{parsed-child, link-at}
 use Rattle.names_links.specs.Kept.{keptBy, linkedBy}
+use Rattle.names_links.proofs.KeepLaws.{links-are}
 use Rattle.names_store.specs.Notes.{Noted}
+use Rattle.names_store.proofs.StoreLaws.{row-back, child-stored, child-sound}
 use Rattle.names_prune.specs.Ready.{Ready, flagRoom, Told, childBytes, Flags}
-use Rattle.names_prune.proofs.StoredLaws.{row-size, row-back, child-stored, sound-stored, seen-stays, indexed-stays}
+use Rattle.names_prune.proofs.StoredLaws.{row-size, seen-stays, indexed-stays}
 
 -- ## The records of a row
 
@@ -36,10 +38,6 @@ module _ (row : List ℕ) where
   no-links : linkLength row ≡ 0 → linksOf (decodeChild row) ≡ []
   unfolding linksOf decodeChild decodeLinked linksIn
   no-links h = rw (eq-eqb (linkLength row) 0 h)
-
-  some-links : (linkLength row ≡ 0 → ⊥) → linksOf (decodeChild row) ≡ decodeLinkEA (linkBytes row) .links
-  unfolding linksOf decodeChild decodeLinked linksIn
-  some-links h = rw (ne-eqb (linkLength row) 0 h)
 
 module _ (seen : MdtFid → Bool) (es : List Entry) (r : ℕ) (row flags : List ℕ) where
   none-flagged : 0 ≡ gone seen es r (decodeChild row) →
@@ -59,17 +57,17 @@ module _ (seen : MdtFid → Bool) (es : List Entry) (r : ℕ) (row flags : List 
       go false n = omega arith
 
   module _ (h : isNone (decodeChild row .self) ≡ false) (k : linkLength row ≡ 0 → ⊥) (l : List ℕ) (p : l ≡ linkBytes row) (g : ℕ) where
-    links-are : linksOf (decodeChild row) ≡ decodeLinkEA l .links
-    links-are = some-links row k ∙ ap (λ (x : List ℕ). decodeLinkEA x .links) (sym p)
+    links-read : linksOf (decodeChild row) ≡ decodeLinkEA l .links
+    links-read = links-are row (omega (arith, k)) ∙ ap (λ (x : List ℕ). decodeLinkEA x .links) (sym p)
 
     pub some-flagged : Told seen es r (decodeLinkEA l .links) flags g →
         (g ≡ gone seen es r (decodeChild row)) × (g ≤ flagRoom) × (0 < g → Flags seen es r row flags)
     unfolding gone leftLinks
     some-flagged t =
-        let z : g ≡ length (linksOf (decodeChild row)) - length (kept seen es r [] (linksOf (decodeChild row))) = rw links-are (t .count) in (
+        let z : g ≡ length (linksOf (decodeChild row)) - length (kept seen es r [] (linksOf (decodeChild row))) = rw links-read (t .count) in (
           rw h z,
           omega (arith, t .count, t .few),
-          λ q. record { linked = omega (arith, k); stay = rw links-are (t .stay); few = rw links-are (t .few) },
+          λ q. record { linked = omega (arith, k); stay = rw links-read (t .stay); few = rw links-read (t .few) },
         )
 
 -- ## One child
@@ -124,13 +122,16 @@ module _ (seen : MdtFid → Bool) (es : List Entry) (c : List ℕ) (r : ℕ) (h 
         ∙ sym (pruned-less seen es r x (λ k. n (q ∙ k)))
         ∙ ap (pruned seen es r) (sym (row-child c r h))
 
+    row-there : putMid (childSize * r) (childSize * r + childSize - childSize * r) c z ≡ sets c (childSize * r) z
+    row-there = row-back childSize r c z z (omega arith) refl m h
+
     pub some-pruned : parseChildren (putMid (childSize * r) (childSize * r + childSize - childSize * r) c z)
         ≡ set (parseChildren c) r (pruned seen es r (childAt (parseChildren c) r))
     some-pruned =
-        ap parseChildren (row-back c r h z m) ∙ child-stored c r h z m ∙ ap (λ (y : Child). set (parseChildren c) r y) row-pruned
+        ap parseChildren row-there ∙ child-stored e c s r h z m ∙ ap (λ (y : Child). set (parseChildren c) r y) row-pruned
 
     pub some-sound : goodLinkEA z ≡ true → SoundNames e (putMid (childSize * r) (childSize * r + childSize - childSize * r) c z)
-    some-sound g = subst (SoundNames e) (sym (row-back c r h z m)) (sound-stored e c r h z m s g)
+    some-sound g = subst (SoundNames e) (sym row-there) (child-sound e c s r h z m g)
 
 -- ## The children
 

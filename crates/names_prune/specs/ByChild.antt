@@ -10,9 +10,10 @@ use Rattle.index.specs.Entries.{placeSize, entries, sorted}
 use Rattle.index.specs.Search.{Key, key, keyOf, listed}
 use Rattle.index.specs.declared.Found.{Found}
 use Rattle.index.specs.declared.Found.the-variants.{Nothing, Value}
-use Rattle.names.specs.Rows.{Entry, entrySize, decodeEntry, parseEntries}
+use Rattle.names.specs.Rows.{Entry, entrySize, parseEntries}
 use Rattle.names.specs.Check.{maxRows}
 use Rattle.names.specs.Findings.{sameLink, linkFor}
+use Rattle.names.specs.Promises.{noEntry}
 
 unfoldable pub entryKey : Entry → Key
 entryKey e = key (keyOf 0 (e .child))
@@ -25,10 +26,6 @@ pub record ByChild (table index : List ℕ) : Type 0 where
   pub few : length table / entrySize ≤ maxRows
   pub room : placeSize * (length table / entrySize) ≤ length index
   pub rows : entries (length table / entrySize) index ≡ sorted (entryNumbers (parseEntries table))
-
--- an entry that isn't there
-unfoldable pub noEntry : Entry
-noEntry = decodeEntry []
 
 -- entry i is there and has the record
 unfoldable pub isNamed : List Entry → Link → ℕ → Bool

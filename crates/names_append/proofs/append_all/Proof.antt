@@ -11,7 +11,7 @@ use Rattle.names.specs.Rows.{parseEntries, parseChildren}
 use Rattle.names.specs.Check.{SoundNames}
 use Rattle.names.specs.Sweeps.{sweep3}
 use Rattle.names_store.specs.Notes.{Noted}
-use Rattle.names_fids.proofs.NotedLaws.{note-at}
+use Rattle.names_store.proofs.NoteLaws.{note-at}
 use Rattle.names_append.proofs.AskLaws.{sweptFrom, swept-start, swept-on, swept-more, swept-end}
 use Rattle.names_append.specs.declared.Asked.the-variants.{Nothing, Room}
 use Rattle.names_append.proofs.append_all.Statement.{statement}

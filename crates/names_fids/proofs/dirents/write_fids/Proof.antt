@@ -9,7 +9,7 @@ use Rattle.names.specs.Rows.{parseEntries, parseChildren}
 use Rattle.names.specs.Check.{SoundNames}
 use Rattle.names.specs.Sweeps.{writes}
 use Rattle.names_store.specs.Notes.{noteOf, Noted}
-use Rattle.names_fids.proofs.NotedLaws.{note-at}
+use Rattle.names_store.proofs.NoteLaws.{note-at}
 use Rattle.names_fids.proofs.DirentLaws.{doneTo, writesFrom, done-start, done-at, done-next, done-all}
 use Rattle.names_fids.proofs.dirents.write_fids.Statement.{statement}
 use Rattle.names_fids.proofs.dirents.write_fids.Tie as tie

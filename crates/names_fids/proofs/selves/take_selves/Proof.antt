@@ -9,7 +9,7 @@ use Rattle.names.specs.Rows.{parseEntries, parseChildren}
 use Rattle.names.specs.Check.{SoundNames}
 use Rattle.names.specs.Sweeps.{sweep1, taken}
 use Rattle.names_store.specs.Notes.{Noted}
-use Rattle.names_fids.proofs.NotedLaws.{note-at}
+use Rattle.names_store.proofs.NoteLaws.{note-at}
 use Rattle.names_fids.proofs.SelvesLaws.{sweptFrom, takenFrom, swept-start, swept-next, swept-end}
 use Rattle.names_fids.proofs.selves.take_selves.Statement.{statement}
 use Rattle.names_fids.proofs.selves.take_selves.Tie as tie

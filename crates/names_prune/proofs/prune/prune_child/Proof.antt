@@ -31,7 +31,7 @@ keep-flagged-requires c κs =
     let seen = seenBy (now (a .marks)) (parseChildren (now (a .children))) in
     let es = parseEntries (now (a .entries)) in
     keep-asks seen es (now (a .children)) (a .r) (b .pre .1) _ (f .ensures .0) (now (a .entries)) _ (b .pre .0 .sound) (omega arith)
-    (f .ensures .2 (omega (arith, i .if1 .left))) _ (part-row (now (a .children)) (a .r) (b .pre .1))
+    (f .ensures .2 (omega (arith, i .if1 .left))) _ (part-row (now (a .children)) (a .r))
 
 returns-2 : tie.Need-returns-2
 returns-2 c =
@@ -43,7 +43,7 @@ returns-2 c =
     let seen = seenBy (now (a .marks)) (parseChildren (now (a .children))) in
     let es = parseEntries (now (a .entries)) in
     let w = f .ensures .2 (omega (arith, i .if1 .left)) in
-    let p = part-row (now (a .children)) (a .r) (b .pre .1) in (
+    let p = part-row (now (a .children)) (a .r) in (
       some-pruned seen es (now (a .children)) (a .r) (b .pre .1) _ (f .ensures .0) (now (a .entries)) _ (b .pre .0 .sound) (i .if1 .left) w _ (omega arith) _ p (k .ensures .0),
       gone-there seen es (now (a .children)) (a .r) (b .pre .1) _ (f .ensures .0),
       f .ensures .1,
