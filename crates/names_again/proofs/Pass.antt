@@ -16,16 +16,16 @@ use Rattle.names.specs.Visible.{maxLevels, markOf, judged, seenBy}
 use Rattle.names.specs.Calls.{Left, roomy, left, mendedBytes, mendTests, mendCall, passTests, passCall}
 use Rattle.names.proofs.SoundLaws.{children-many, parsed-children}
 use Rattle.names_marks.proofs.MarksKept.{judged-good}
-use Rattle.names_again.specs.Pass.{MarksAreClimbs, mendedUnder, UnderMarks, EveryUnderMarks, went, AsLent, CallAgain, MendCalled, EveryMendCall, asLent, Passed, EveryPass}
+use Rattle.names_again.specs.Pass.{MarksAreClimbs, mendedUnder, UnderMarks, EveryUnderMarks, went, AsLent, CallAgain, MendCalled, EveryMendCall, lentMarks, Passed, EveryPass}
 use Rattle.names_again.proofs.ClimbLaws.{marks-are-climbs}
 use Rattle.names_again.proofs.UnderLaws.{every-under-marks}
 use Rattle.names_again.proofs.RefusalLaws.{mended-went, mend-went, pass-went, mend-lent, pass-lent, roomy-same, mend-free}
 
 -- what was mended can be mended again under the same marks
-call-again : (marks entries children index room report : List ℕ) (l : Left) → UnderMarks marks entries children report l →
-    roomy entries children index ≡ true → roomy entries children room ≡ true → CallAgain marks entries index room l
+call-again : (entries children index room marks report : List ℕ) (l : Left) → UnderMarks entries children marks report l →
+    roomy entries children index ≡ true → roomy entries children room ≡ true → CallAgain entries index room marks l
 unfolding CallAgain mendCall mendedUnder
-call-again marks entries children index room report l u i r a out k =
+call-again entries children index room marks report l u i r a out k =
     let p : length (parseEntries (l .entries)) ≡ length (parseEntries entries) = ap length (u .bytes .entries-say) ∙ u .mending .entries-length in
     let q : length (parseChildren (l .children)) ≡ length (parseChildren children) = ap length (u .bytes .children-say) ∙ u .mending .children-length in
     let n : firstFailing (mendTests (l .entries) (l .children) index room marks out) ≡ 0 =
@@ -49,13 +49,13 @@ module _ (entries children index room marks report : List ℕ) (be : Bytes entri
   mend-called : (n : ℕ) → firstFailing (mendTests entries children index room marks report) ≡ n → (b : Bool) → eqb n 0 ≡ b →
       MendCalled entries children index room marks report
       (cond b (mendedBytes (seenBy marks (parseChildren children)) entries children marks report) (left n entries children marks report))
-  unfolding EveryUnderMarks CallAgain AsLent mendedBytes left
+  unfolding EveryUnderMarks CallAgain AsLent mendedBytes left went
   mend-called n p true e =
-      let f = mend-lent entries children index room marks report (p ∙ eqb-true n 0 e) in
-      let u = every-under-marks marks entries children report be bc (f .sound) (f .marked) marks in
+      let f = mend-lent entries children index room marks report (ap went (p ∙ eqb-true n 0 e)) in
+      let u = every-under-marks entries children marks report be bc (f .sound) (f .marked) marks in
       record {
         under = λ w. u;
-        again = call-again marks entries children index room report _ u (f .index-roomy) (f .room-roomy);
+        again = call-again entries children index room marks report _ u (f .index-roomy) (f .room-roomy);
         marks-stay = refl;
         refused = λ w. absurd (true≢false (sym (mended-went (seenBy marks (parseChildren children)) (parseEntries entries) (parseChildren children)) ∙ w));
       }
@@ -76,17 +76,17 @@ module _ (entries children index room marks report : List ℕ) (be : Bytes entri
       (mendedBytes (seenBy (judged maxLevels (parseChildren children)) (parseChildren children)) entries children
       (sets marks 0 (judged maxLevels (parseChildren children))) report)
       (left n entries children marks report))
-  unfolding EveryUnderMarks MarksAreClimbs CallAgain AsLent asLent mendedBytes left
+  unfolding EveryUnderMarks MarksAreClimbs CallAgain AsLent lentMarks mendedBytes left went
   passed n p true e =
       let js : List ℕ = judged maxLevels (parseChildren children) in
-      let f = pass-lent entries children index room marks report (p ∙ eqb-true n 0 e) in
-      let u = every-under-marks js entries children report be bc (f .sound) (judged-good maxLevels (parseChildren children)) (sets marks 0 js) in
+      let f = pass-lent entries children index room marks report (ap went (p ∙ eqb-true n 0 e)) in
+      let u = every-under-marks entries children js report be bc (f .sound) (judged-good maxLevels (parseChildren children)) (sets marks 0 js) in
       record {
         under = λ w. u;
         visible = marks-are-climbs maxLevels (parseChildren children);
         climbed = λ w. f .climbed;
         marks-front = λ w. marks-in-front maxLevels children marks (f .marks-long);
-        again = call-again js entries children index room report _ u (f .index-roomy) (f .room-roomy);
+        again = call-again entries children index room js report _ u (f .index-roomy) (f .room-roomy);
         refused = λ w. absurd (true≢false (sym (mended-went (seenBy js (parseChildren children)) (parseEntries entries) (parseChildren children)) ∙ w));
       }
   passed n p false e =

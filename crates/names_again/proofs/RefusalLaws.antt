@@ -1,23 +1,21 @@
 -- When a mending or a pass is refused, and what is known of the lent tables when it is not. Assumes nothing.
-use mathlib.Core.Path.{_≡_, refl, ap, _∙_}
-use mathlib.Core.Bool.{Bool, true, false, cond, not, _&&_, _||_}
+use mathlib.Core.Path.{_≡_, refl, sym, ap, _∙_}
+use mathlib.Core.Bool.{Bool, true, false, cond, _&&_, true≢false}
 use mathlib.Core.List.{List, [], _∷_}
 use Prim.Native.Nat.{ℕ, _≤_}
 use native.Mathlib.Omega.{arith}
 use borrow.Author.Tests.{leb-true, le-leb, not-true}
-use lib.Dec.{leb, eqb}
+use lib.Dec.{leb}
 use lib.ListN.{length}
-use Rattle.wire.proofs.Both.{and-first, and-second}
-use Rattle.linkea.proofs.PlaceLaws.{clash}
-use Rattle.tables.specs.Check.{Test, test, firstFailing}
+use Rattle.wire.proofs.Both.{and-first, and-second, and-both}
+use Rattle.tables.specs.Check.{Test, firstFailing}
 use Rattle.fid.specs.declared.MdtFid.{MdtFid}
 use Rattle.names.specs.Rows.{Entry, Child, entryRows, childRows, parseEntries, parseChildren}
 use Rattle.names.specs.Check.{namesWhole, childrenThere, namesGood, namesTests, namesNumber, SoundNames}
-use Rattle.names.specs.Visible.{maxLevels, longClimb, tooLong, goodMarks}
-use Rattle.names.specs.Mend.{linkFull, third, finish, mended}
+use Rattle.names.specs.Visible.{maxLevels, tooLong, goodMarks}
+use Rattle.names.specs.Mend.{third, finish, mended}
 use Rattle.names.specs.Calls.{indexPlaces, roomy, reportSize, mendTests, passTests}
 use Rattle.names.proofs.SoundLaws.{entries-many, children-many, parsed-entries, parsed-children}
-use Rattle.names_check.proofs.CallLaws.{names-accepted}
 use Rattle.names_again.specs.Pass.{went}
 
 -- ## Answers
@@ -31,65 +29,45 @@ mended-went seen es cs = go (third seen es cs .full)
     go true = refl
     go false = refl
 
+-- ## Tests in turn
+
+abbrev Passes : List Test → Type 0
+Passes [] = Unit {0}
+Passes (t ∷ ts) = (t .passes ≡ true) × Passes ts
+
 -- a refusal is none of the two answers
-module _ (a b d g : Bool) (rest : List Test) where
-  tests-went : (went (firstFailing rest) ≡ true → firstFailing rest ≡ 0) →
-      went (firstFailing (test 11 a ∷ test 16 b ∷ test 31 d ∷ test 17 g ∷ rest)) ≡ true →
-      firstFailing (test 11 a ∷ test 16 b ∷ test 31 d ∷ test 17 g ∷ rest) ≡ 0
-  unfolding firstFailing went
-  tests-went r h = go a b d g h
-    where
-      go : (a b d g : Bool) → went (cond a (cond b (cond d (cond g (firstFailing rest) 17) 31) 16) 11) ≡ true →
-          cond a (cond b (cond d (cond g (firstFailing rest) 17) 31) 16) 11 ≡ 0
-      go true true true true k = r k
-      go true true true false k = clash k
-      go true true false g k = clash k
-      go true false d g k = clash k
-      go false b d g k = clash k
+abbrev Refuse : List Test → Type 0
+Refuse [] = Unit {0}
+Refuse (t ∷ ts) = (went (t .number) ≡ false) × Refuse ts
 
-  -- none of them fails
-  none-fails : firstFailing (test 11 a ∷ test 16 b ∷ test 31 d ∷ test 17 g ∷ rest) ≡ 0 →
-      (a ≡ true) × (b ≡ true) × (d ≡ true) × (g ≡ true) × (firstFailing rest ≡ 0)
-  unfolding firstFailing
-  none-fails h = go a b d g h
-    where
-      go : (a b d g : Bool) → _≡_ {A = ℕ} (cond a (cond b (cond d (cond g (firstFailing rest) 17) 31) 16) 11) 0 →
-          (a ≡ true) × (b ≡ true) × (d ≡ true) × (g ≡ true) × (firstFailing rest ≡ 0)
-      go true true true true k = (refl, refl, refl, refl, k)
-      go true true true false k = absurd (omega arith)
-      go true true false g k = absurd (omega arith)
-      go true false d g k = absurd (omega arith)
-      go false b d g k = absurd (omega arith)
-
-long-went : (b : Bool) → went (firstFailing (test longClimb b ∷ [])) ≡ true → firstFailing (test longClimb b ∷ []) ≡ 0
-unfolding firstFailing went
-long-went true h = refl
-long-went false h = clash h
-
-long-passes : (b : Bool) → firstFailing (test longClimb b ∷ []) ≡ 0 → b ≡ true
+-- so where the answer is one of them none fails
+went-passes : (ts : List Test) → Refuse ts → went (firstFailing ts) ≡ true → Passes ts
 unfolding firstFailing
-long-passes true h = refl
-long-passes false h = absurd (omega arith)
+went-passes [] f h = tt
+went-passes (t ∷ ts) f h = go (t .passes) refl h (went-passes ts (f .1))
+  where
+    go : (b : Bool) → t .passes ≡ b → went (cond b (firstFailing ts) (t .number)) ≡ true → (went (firstFailing ts) ≡ true → Passes ts) → Passes (t ∷ ts)
+    go true e k rec = (e, rec k)
+    go false e k rec = absurd (true≢false (sym k ∙ f .0))
+
+passes-none : (ts : List Test) → Passes ts → firstFailing ts ≡ 0
+unfolding firstFailing
+passes-none [] p = refl
+passes-none (t ∷ ts) p = rw (p .0) (passes-none ts (p .1))
 
 tables-pass : (e c : List ℕ) → namesWhole e c ≡ true → childrenThere e c ≡ true → namesGood e c ≡ true → SoundNames e c
-unfolding SoundNames namesNumber namesTests firstFailing
-tables-pass e c a b d = rw (a, b, d)
+unfolding SoundNames namesNumber namesTests
+tables-pass e c a b d = passes-none (namesTests e c) (a, (b, (d, tt)))
 
 -- ## Calls that are not refused
 
 module _ (e c index room marks report : List ℕ) where
-  pub mend-went : went (firstFailing (mendTests e c index room marks report)) ≡ true → firstFailing (mendTests e c index room marks report) ≡ 0
-  unfolding mendTests firstFailing
-  mend-went h =
-      tests-went (namesWhole e c && goodMarks marks (parseChildren c)) (childrenThere e c) (namesGood e c)
-      (roomy e c index && roomy e c room && leb reportSize (length report)) [] (λ k. refl) h
+  mend-passes : went (firstFailing (mendTests e c index room marks report)) ≡ true → Passes (mendTests e c index room marks report)
+  unfolding mendTests went
+  mend-passes h = went-passes (mendTests e c index room marks report) (refl, (refl, (refl, (refl, tt)))) h
 
-  pub pass-went : went (firstFailing (passTests e c index room marks report)) ≡ true → firstFailing (passTests e c index room marks report) ≡ 0
-  unfolding passTests
-  pass-went h =
-      tests-went (namesWhole e c) (childrenThere e c) (namesGood e c)
-      (roomy e c index && roomy e c room && leb (length (childRows c)) (length marks) && leb reportSize (length report))
-      (test longClimb (not (tooLong maxLevels (parseChildren c))) ∷ []) (long-went (not (tooLong maxLevels (parseChildren c)))) h
+  pub mend-went : went (firstFailing (mendTests e c index room marks report)) ≡ true → firstFailing (mendTests e c index room marks report) ≡ 0
+  mend-went h = passes-none (mendTests e c index room marks report) (mend-passes h)
 
   pub record MendLent : Type 0 where
     pub sound : SoundNames e c
@@ -97,20 +75,27 @@ module _ (e c index room marks report : List ℕ) where
     pub index-roomy : roomy e c index ≡ true
     pub room-roomy : roomy e c room ≡ true
 
-  pub mend-lent : firstFailing (mendTests e c index room marks report) ≡ 0 → MendLent
+  pub mend-lent : went (firstFailing (mendTests e c index room marks report)) ≡ true → MendLent
   unfolding mendTests
   mend-lent h =
       let m : Bool = goodMarks marks (parseChildren c) in
       let i : Bool = roomy e c index in
       let r : Bool = roomy e c room in
       let l : Bool = leb reportSize (length report) in
-      let t = none-fails (namesWhole e c && m) (childrenThere e c) (namesGood e c) (i && r && l) [] h in
+      let t = mend-passes h in
       record {
-        sound = tables-pass e c (and-first (namesWhole e c) m (t .0)) (t .1) (t .2);
+        sound = tables-pass e c (and-first (namesWhole e c) m (t .0)) (t .1 .0) (t .1 .1 .0);
         marked = and-second (namesWhole e c) m (t .0);
-        index-roomy = and-first i r (and-first (i && r) l (t .3));
-        room-roomy = and-second i r (and-first (i && r) l (t .3));
+        index-roomy = and-first i r (and-first (i && r) l (t .1 .1 .1 .0));
+        room-roomy = and-second i r (and-first (i && r) l (t .1 .1 .1 .0));
       }
+
+  pass-passes : went (firstFailing (passTests e c index room marks report)) ≡ true → Passes (passTests e c index room marks report)
+  unfolding passTests went
+  pass-passes h = went-passes (passTests e c index room marks report) (refl, (refl, (refl, (refl, (refl, tt))))) h
+
+  pub pass-went : went (firstFailing (passTests e c index room marks report)) ≡ true → firstFailing (passTests e c index room marks report) ≡ 0
+  pass-went h = passes-none (passTests e c index room marks report) (pass-passes h)
 
   pub record PassLent : Type 0 where
     pub sound : SoundNames e c
@@ -119,22 +104,21 @@ module _ (e c index room marks report : List ℕ) where
     pub marks-long : length (childRows c) ≤ length marks
     pub climbed : tooLong maxLevels (parseChildren c) ≡ false
 
-  pub pass-lent : firstFailing (passTests e c index room marks report) ≡ 0 → PassLent
+  pub pass-lent : went (firstFailing (passTests e c index room marks report)) ≡ true → PassLent
   unfolding passTests
   pass-lent h =
       let i : Bool = roomy e c index in
       let r : Bool = roomy e c room in
       let m : Bool = leb (length (childRows c)) (length marks) in
       let l : Bool = leb reportSize (length report) in
-      let b : Bool = tooLong maxLevels (parseChildren c) in
-      let t = none-fails (namesWhole e c) (childrenThere e c) (namesGood e c) (i && r && m && l) (test longClimb (not b) ∷ []) h in
-      let q : (i && r && m) ≡ true = and-first (i && r && m) l (t .3) in
+      let t = pass-passes h in
+      let q : (i && r && m) ≡ true = and-first (i && r && m) l (t .1 .1 .1 .0) in
       record {
-        sound = tables-pass e c (t .0) (t .1) (t .2);
+        sound = tables-pass e c (t .0) (t .1 .0) (t .1 .1 .0);
         index-roomy = and-first i r (and-first (i && r) m q);
         room-roomy = and-second i r (and-first (i && r) m q);
         marks-long = leb-true (length (childRows c)) (length marks) (and-second (i && r) m q);
-        climbed = not-true b (long-passes (not b) (t .4));
+        climbed = not-true (tooLong maxLevels (parseChildren c)) (t .1 .1 .1 .1 .0);
       }
 
 -- ## A second call
@@ -151,11 +135,8 @@ roomy-same e c x y index p q =
 -- tables that pass with marks that fit, and room
 pub mend-free : (e c index room marks report : List ℕ) → SoundNames e c → goodMarks marks (parseChildren c) ≡ true → roomy e c index ≡ true →
     roomy e c room ≡ true → reportSize ≤ length report → firstFailing (mendTests e c index room marks report) ≡ 0
-unfolding mendTests SoundNames firstFailing
+unfolding mendTests SoundNames namesNumber namesTests went
 mend-free e c index room marks report s m i r l =
-    let w : Bool = roomy e c index && roomy e c room && leb reportSize (length report) in
-    rw (m, and-true (namesWhole e c)) (names-accepted e c (namesNumber e c) (test 17 w ∷ []) refl s ∙ rw (i, r, le-leb reportSize (length report) l))
-  where
-    and-true : (b : Bool) → (b && true) ≡ b
-    and-true true = refl
-    and-true false = refl
+    let t = went-passes (namesTests e c) (refl, (refl, (refl, tt))) (ap went s) in
+    passes-none (mendTests e c index room marks report)
+    (and-both (namesWhole e c) (goodMarks marks (parseChildren c)) (t .0) m, (t .1 .0, (t .1 .1 .0, (rw (i, r, le-leb reportSize (length report) l), tt))))

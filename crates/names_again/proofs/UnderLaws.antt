@@ -42,7 +42,7 @@ bytes-again seen after m n s p q h ms r =
 
 pub every-under-marks : EveryUnderMarks
 unfolding EveryUnderMarks EveryNamesMend EveryMend EveryBare mendedUnder mendedBytes left
-every-under-marks marks entries children report be bc h g ms =
+every-under-marks entries children marks report be bc h g ms =
     let es : List Entry = parseEntries entries in
     let cs : List Child = parseChildren children in
     let seen : (MdtFid → Bool) = seenBy marks cs in

@@ -42,28 +42,28 @@ EveryBare = (seen : MdtFid → Bool) (es : List Entry) (cs : List Child) → Bar
 
 -- what the tables say, mended under marks
 unfoldable pub mendedUnder : List ℕ → List ℕ → List ℕ → Mended
-mendedUnder marks entries children = mended (seenBy marks (parseChildren children)) (parseEntries entries) (parseChildren children)
+mendedUnder entries children marks = mended (seenBy marks (parseChildren children)) (parseEntries entries) (parseChildren children)
 
 -- of entries, children and report as lent, mended under marks to l
-pub record UnderMarks (marks entries children report : List ℕ) (l : Left) : Type 0 where
-  -- what is left is accepted again, says what the mending of the records leaves, and has the same directories visible
+pub record UnderMarks (entries children marks report : List ℕ) (l : Left) : Type 0 where
+  -- the tables that are left are accepted again and say what the mending leaves; its answer is given, its numbers are reported
   pub bytes : EveryMendOfBytes entries children marks l
-  pub mending : EveryMending (seenBy marks (parseChildren children)) (parseEntries entries) (parseChildren children) (mendedUnder marks entries children)
-  pub bare : BareStay (parseEntries entries) (parseChildren children) (mendedUnder marks entries children)
-  -- so are the answer and the numbers of the report
-  pub answer : l .answer ≡ mendedUnder marks entries children .answer
-  pub out : l .out ≡ sets report 0 (reportNumbers (mendedUnder marks entries children .report))
-  -- "a second pass under it, after a finished one, changes nothing": no byte, and it reports nothing
+  pub answer : l .answer ≡ mendedUnder entries children marks .answer
+  pub out : l .out ≡ sets report 0 (reportNumbers (mendedUnder entries children marks .report))
+  -- and it keeps what is promised
+  pub mending : EveryMending (seenBy marks (parseChildren children)) (parseEntries entries) (parseChildren children) (mendedUnder entries children marks)
+  pub bare : BareStay (parseEntries entries) (parseChildren children) (mendedUnder entries children marks)
+  -- "a second pass under it, after a finished one, changes nothing": no byte of the tables, nor of what else it is handed; and it reports nothing
   pub again : l .answer ≡ 0 → (ms r : List ℕ) →
       mendedBytes (seenBy marks (parseChildren (l .children))) (l .entries) (l .children) ms r
       ≡ left 0 (l .entries) (l .children) ms (sets r 0 (reportNumbers (quiet (length (parseEntries entries)))))
 
--- of tables that pass the check, and marks that fit them
+-- of tables that pass the check, and marks that fit them; ms is what is handed on as marks
 unfoldable pub EveryUnderMarks : Type 0
 EveryUnderMarks =
-    (marks entries children report : List ℕ) → Bytes entries → Bytes children → SoundNames entries children →
+    (entries children marks report : List ℕ) → Bytes entries → Bytes children → SoundNames entries children →
     goodMarks marks (parseChildren children) ≡ true → (ms : List ℕ) →
-    UnderMarks marks entries children report (mendedBytes (seenBy marks (parseChildren children)) entries children ms report)
+    UnderMarks entries children marks report (mendedBytes (seenBy marks (parseChildren children)) entries children ms report)
 
 -- ## The calls
 
@@ -75,17 +75,17 @@ went n = eqb n 0 || eqb n linkFull
 unfoldable pub AsLent : List ℕ → List ℕ → List ℕ → List ℕ → Left → Type 0
 AsLent entries children marks report l = went (l .answer) ≡ false → l ≡ left (l .answer) entries children marks report
 
--- the same call again, with its index and room, of what l leaves under marks, into a report that is long enough
+-- after a finished call lfsck_names_mend is not refused what it left, with the same index and room, and changes nothing
 unfoldable pub CallAgain : List ℕ → List ℕ → List ℕ → List ℕ → Left → Type 0
-CallAgain marks entries index room l =
+CallAgain entries index room marks l =
     l .answer ≡ 0 → (r : List ℕ) → reportSize ≤ length r →
     mendCall (l .entries) (l .children) index room marks r
     ≡ left 0 (l .entries) (l .children) marks (sets r 0 (reportNumbers (quiet (length (parseEntries entries)))))
 
 -- of lfsck_names_mend, that leaves l
 pub record MendCalled (entries children index room marks report : List ℕ) (l : Left) : Type 0 where
-  pub under : went (l .answer) ≡ true → UnderMarks marks entries children report l
-  pub again : CallAgain marks entries index room l
+  pub under : went (l .answer) ≡ true → UnderMarks entries children marks report l
+  pub again : CallAgain entries index room marks l
   pub marks-stay : l .marks ≡ marks
   pub refused : AsLent entries children marks report l
 
@@ -95,19 +95,19 @@ EveryMendCall =
     MendCalled entries children index room marks report (mendCall entries children index room marks report)
 
 -- "Visibility is judged once, as lent"
-unfoldable pub asLent : List ℕ → List ℕ
-asLent children = judged maxLevels (parseChildren children)
+unfoldable pub lentMarks : List ℕ → List ℕ
+lentMarks children = judged maxLevels (parseChildren children)
 
 -- of lfsck_names_pass, that leaves l
 pub record Passed (entries children index room marks report : List ℕ) (l : Left) : Type 0 where
-  -- the mending is under the marks that are judged, and they are the climbs of the tables as lent
-  pub under : went (l .answer) ≡ true → UnderMarks (asLent children) entries children report l
-  pub visible : (f : MdtFid) → seenBy (asLent children) (parseChildren children) f ≡ isVisible (climb maxLevels (parseChildren children) f)
-  -- "for any directory a longer or circular climb is 39"
+  -- a pass that is not refused mends under the marks that are judged of the tables as lent
+  pub under : went (l .answer) ≡ true → UnderMarks entries children (lentMarks children) report l
+  -- under them that is visible which the climb finds, and no climb is too long: "for any directory a longer or circular climb is 39"
+  pub visible : (f : MdtFid) → seenBy (lentMarks children) (parseChildren children) f ≡ isVisible (climb maxLevels (parseChildren children) f)
   pub climbed : went (l .answer) ≡ true → tooLong maxLevels (parseChildren children) ≡ false
-  -- the marks are handed on, one for each child
-  pub marks-front : went (l .answer) ≡ true → take (length (childRows children)) (l .marks) ≡ asLent children
-  pub again : CallAgain (asLent children) entries index room l
+  -- they are handed on, one for each child, and under them a finished pass can be repeated
+  pub marks-front : went (l .answer) ≡ true → take (length (childRows children)) (l .marks) ≡ lentMarks children
+  pub again : CallAgain entries index room (lentMarks children) l
   pub refused : AsLent entries children marks report l
 
 unfoldable pub EveryPass : Type 0
