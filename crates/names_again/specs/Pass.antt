@@ -1,5 +1,5 @@
 -- What is promised of the calls that mend, over the lent bytes and by the climb. Document 02, 2026-06.
-use Prim.Native.Nat.{ℕ, _≤_}
+use Prim.Native.Nat.{ℕ, _≤_, _<_}
 use mathlib.Core.Path.{_≡_}
 use mathlib.Core.Bool.{Bool, true, false, _||_}
 use mathlib.Core.List.{List}
@@ -30,13 +30,18 @@ MarksAreClimbs = (levels : ℕ) (cs : List Child) (f : MdtFid) → seenBy (judge
 
 -- ## Children without a FID
 
--- "where no entry has one either nothing of that child is mended": neither the child, nor an entry of it
-pub record BareStay (es : List Entry) (cs : List Child) (m : Mended) : Type 0 where
+-- "where no entry has one either nothing of that child is mended": of entries es and children cs, mended to m
+pub record BareStay (seen : MdtFid → Bool) (es : List Entry) (cs : List Child) (m : Mended) : Type 0 where
+  -- a child without self FID has none after it, where no entry of it, in a visible directory, has one
+  pub none : (r : ℕ) → isNone (childAt cs r .self) ≡ true →
+      ((i : ℕ) → i < length es → entryAt es i .child ≡ r → seen (entryAt es i .parent) ≡ true → isNone (entryAt es i .fid) ≡ true) →
+      isNone (childAt (m .children) r .self) ≡ true
+  -- one that has none after it is as it was, and so is an entry of it
   pub children : (r : ℕ) → isNone (childAt (m .children) r .self) ≡ true → childAt (m .children) r ≡ childAt cs r
   pub entries : (i : ℕ) → isNone (childOf (m .children) (entryAt es i) .self) ≡ true → entryAt (m .entries) i ≡ entryAt es i
 
 unfoldable pub EveryBare : Type 0
-EveryBare = (seen : MdtFid → Bool) (es : List Entry) (cs : List Child) → BareStay es cs (mended seen es cs)
+EveryBare = (seen : MdtFid → Bool) (es : List Entry) (cs : List Child) → BareStay seen es cs (mended seen es cs)
 
 -- ## A mending of the bytes
 
@@ -52,7 +57,7 @@ pub record UnderMarks (entries children marks report : List ℕ) (l : Left) : Ty
   pub out : l .out ≡ sets report 0 (reportNumbers (mendedUnder entries children marks .report))
   -- and it keeps what is promised
   pub mending : EveryMending (seenBy marks (parseChildren children)) (parseEntries entries) (parseChildren children) (mendedUnder entries children marks)
-  pub bare : BareStay (parseEntries entries) (parseChildren children) (mendedUnder entries children marks)
+  pub bare : BareStay (seenBy marks (parseChildren children)) (parseEntries entries) (parseChildren children) (mendedUnder entries children marks)
   -- "a second pass under it, after a finished one, changes nothing": no byte of the tables, nor of what else it is handed; and it reports nothing
   pub again : l .answer ≡ 0 → (ms r : List ℕ) →
       mendedBytes (seenBy marks (parseChildren (l .children))) (l .entries) (l .children) ms r
