@@ -85,6 +85,7 @@ module _ (entries children index room marks report : List ℕ) (be : Bytes entri
         under = λ w. u;
         visible = marks-are-climbs maxLevels (parseChildren children);
         climbed = λ w. f .climbed;
+        marks-left = λ w. refl;
         marks-front = λ w. marks-in-front maxLevels children marks (f .marks-long);
         again = call-again entries children index room js report _ u (f .index-roomy) (f .room-roomy);
         refused = λ w. absurd (true≢false (sym (mended-went (seenBy js (parseChildren children)) (parseEntries entries) (parseChildren children)) ∙ w));
@@ -96,6 +97,7 @@ module _ (entries children index room marks report : List ℕ) (be : Bytes entri
         under = λ w. absurd (nay w);
         visible = marks-are-climbs maxLevels (parseChildren children);
         climbed = λ w. absurd (nay w);
+        marks-left = λ w. absurd (nay w);
         marks-front = λ w. absurd (nay w);
         again = λ a r k. absurd (no a);
         refused = λ w. refl;

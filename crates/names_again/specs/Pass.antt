@@ -110,7 +110,8 @@ pub record Passed (entries children index room marks report : List ℕ) (l : Lef
   -- under them that is visible which the climb finds, and no climb is too long: "for any directory a longer or circular climb is 39"
   pub visible : (f : MdtFid) → seenBy (lentMarks children) (parseChildren children) f ≡ isVisible (climb maxLevels (parseChildren children) f)
   pub climbed : went (l .answer) ≡ true → tooLong maxLevels (parseChildren children) ≡ false
-  -- they are handed on, one for each child, and under them a finished pass can be repeated
+  -- they are handed on in front of what was lent, one for each child, and under them a finished pass can be repeated
+  pub marks-left : went (l .answer) ≡ true → l .marks ≡ sets marks 0 (lentMarks children)
   pub marks-front : went (l .answer) ≡ true → take (length (childRows children)) (l .marks) ≡ lentMarks children
   pub again : CallAgain entries index room (lentMarks children) l
   pub refused : AsLent entries children marks report l
