@@ -4,3 +4,8 @@ pub mod FitChanges
 pub mod FitSweeps
 pub mod FitTables
 pub mod Again
+pub mod ClimbLaws
+pub mod BareLaws
+pub mod UnderLaws
+pub mod RefusalLaws
+pub mod Pass

@@ -1,1 +1,1 @@
-// No code: tables that were accepted are accepted again after a mending, and the proof.
+// No code: what is promised of the calls that mend, over the lent bytes and by the climb, and the proof.
