@@ -44,12 +44,13 @@ loop-again c =
     let a = w .before .before .before .before .before .before .before .args in
     let cs = parseChildren (now (a .children)) in
     let s = seenBy (now (a .marks)) cs in
-    let i = w .loop .inv in (
+    let i = w .loop .inv in
+    let l = p .kept .1 .0 in (
       omega arith,
-      omega arith,
+      l ∙ i .1,
       omega (arith, p .ensures .2),
-      ready-again (now (a .entries)) (w .loop .children) _ (now (a .marks)) (now (a .index)) (a .n) (now (a .places)) (now (a .notes)) (i .3) (w .loop .r) (omega arith) (p .ensures .0) (p .ensures .3),
-      sees-again (now (a .entries)) (w .loop .children) _ (now (a .marks)) (now (a .index)) (a .n) (now (a .places)) (now (a .notes)) (i .3) (w .loop .r) (omega arith) (p .ensures .0) (p .ensures .3) ∙ i .4,
+      ready-again (now (a .entries)) (w .loop .children) _ (now (a .marks)) (now (a .index)) (a .n) (now (a .places)) (now (a .notes)) (i .3) (w .loop .r) l (p .ensures .0) (p .ensures .3),
+      sees-again (now (a .entries)) (w .loop .children) _ (now (a .marks)) (now (a .index)) (a .n) (now (a .places)) (now (a .notes)) (i .3) (w .loop .r) l (p .ensures .0) (p .ensures .3) ∙ i .4,
       swept-next s (parseEntries (now (a .entries))) cs (parseChildren (w .loop .children)) (w .loop .r) (w .loop .total) (i .5) _ (i .4) _ _
           (omega (arith, parsed-children (w .loop .children))) (p .ensures .0) (p .ensures .1),
     )
