@@ -50,7 +50,7 @@ enum {
 
 /* Tables: bytes of a row or an entry, and the most of them. */
 enum {
-    LFSCK_PARENT_BYTES = 3915,
+    LFSCK_PARENT_BYTES = 48075,
     LFSCK_OBJECT_BYTES = 46,
     LFSCK_RESERVE_BYTES = 16,
     LFSCK_PARENTS_MAX = 1024,
@@ -77,13 +77,13 @@ enum {
 
 /* Layouts. */
 enum {
-    LFSCK_SLOTS_MAX = 160,    /* slots of a layout */
-    LFSCK_OST_MAX = 65535,    /* index of an OST */
-    LFSCK_HEADER_V1 = 32,     /* bytes before the slots, version 1 */
-    LFSCK_HEADER_V3 = 48,     /* bytes before the slots, version 3 */
-    LFSCK_POOL_BYTES = 16,    /* bytes of a pool name, version 3 */
-    LFSCK_SLOT_BYTES = 24,    /* bytes of a slot */
-    LFSCK_LAYOUT_BYTES = 3888 /* bytes of the longest layout: 48 + 24 * 160 */
+    LFSCK_SLOTS_MAX = 2000,    /* slots of a layout */
+    LFSCK_OST_MAX = 65535,     /* index of an OST */
+    LFSCK_HEADER_V1 = 32,      /* bytes before the slots, version 1 */
+    LFSCK_HEADER_V3 = 48,      /* bytes before the slots, version 3 */
+    LFSCK_POOL_BYTES = 16,     /* bytes of a pool name, version 3 */
+    LFSCK_SLOT_BYTES = 24,     /* bytes of a slot */
+    LFSCK_LAYOUT_BYTES = 48048 /* bytes of the longest layout: 48 + 24 * 2000 */
 };
 
 /* The patterns: every slot names an object, or slots may be holes. */
@@ -100,8 +100,8 @@ enum {
 
 /* Intake from attribute dumps. */
 enum {
-    LFSCK_INTAKE_STATE = 4096, /* bytes of a state: the longest layout and 208 */
-    LFSCK_PIECE_MAX = 65536    /* bytes of the longest piece */
+    LFSCK_INTAKE_STATE = 48256, /* bytes of a state: the longest layout and 208 */
+    LFSCK_PIECE_MAX = 65536     /* bytes of the longest piece */
 };
 
 /* The namespace check. */

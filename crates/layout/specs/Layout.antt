@@ -141,14 +141,14 @@ knownPattern h = eqb (h .pattern) plainPattern || eqb (h .pattern) holePattern
 unfoldable pub withHoles : Header → Bool
 withHoles h = eqb (h .pattern) holePattern
 
--- "At most 160 slots"
+-- "Raise 160 to 2,000 slots"
 abbrev pub maxSlots : ℕ
-maxSlots = 160
+maxSlots = 2000
 
 unfoldable pub fewSlots : ℕ → Bool
 fewSlots n = leb n maxSlots
 
--- the bytes of the longest layout, which the room of a row holds: "3,888 bytes of room for the layout"
+-- the bytes of the longest layout, which the room of a row holds: 48 of header and 24 times the slots, "48,048 bytes"
 abbrev pub maxLayout : ℕ
 maxLayout = poolHeader + slotSize * maxSlots
 

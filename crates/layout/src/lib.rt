@@ -13,7 +13,7 @@ ghost use Rattle.layout.specs.Layout.{plainHeader, stripeCountAt, header
 ghost use Rattle.layout.specs.Answers.{readLayout, readSlot, rewriteAnswer, rewriteBytes};
 
 // The greatest number of slots.
-pub const MAX_SLOTS: usize = 160;
+pub const MAX_SLOTS: usize = 2000;
 
 // The greatest OST index.
 pub const MAX_INDEX: u32 = 65535;

@@ -26,11 +26,11 @@ selfAt = 1
 abbrev pub ownerSize : ℕ
 ownerSize = 8
 
--- "3,888 bytes of room for the layout"
+-- "the room of a parent row from 3,888 to 48,048 bytes"
 abbrev pub layoutRoom : ℕ
 layoutRoom = maxLayout
 
--- "Parent row, 3,915 bytes: used mark 1 byte, self FID 16, uid 4, gid 4, layout length 2, and 3,888 bytes of room"
+-- "Parent row: used mark 1 byte, self FID 16, uid 4, gid 4, layout length 2, and [..] room": 48,075 bytes
 abbrev pub ownerAt : ℕ
 ownerAt = selfAt + fidSize
 

@@ -40,7 +40,7 @@ pub const SLOT_OST_AT: usize = SLOT_GENERATION_AT + 4;
 pub const SLOT_BYTES: usize = SLOT_OST_AT + 4;
 
 /// The most slots.
-pub const MOST_SLOTS: usize = 160;
+pub const MOST_SLOTS: usize = 2_000;
 /// The greatest OST index.
 pub const LAST_OST: u32 = 65_535;
 /// The bytes of the longest layout.

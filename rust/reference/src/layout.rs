@@ -4,7 +4,7 @@ use crate::fid::{Fid, FidFault};
 use crate::take;
 
 /// The most slots that a layout may have.
-pub const MOST_SLOTS: usize = 160;
+pub const MOST_SLOTS: usize = 2_000;
 /// The greatest index of an OST.
 pub const LAST_OST: u32 = 65_535;
 /// The bytes of one slot.

@@ -5,7 +5,7 @@ use crate::layout::Layout;
 use crate::take;
 
 /// The bytes of a parent row.
-pub const PARENT_BYTES: usize = 3915;
+pub const PARENT_BYTES: usize = 48_075;
 /// The bytes of an object row.
 pub const OBJECT_BYTES: usize = 46;
 /// The bytes of a reserve entry.
