@@ -2,7 +2,15 @@
 // what a run that adopts makes of it: at index 1,999 a parent of 2,000 slots is made for it, at 2,000 its place can't be had.
 use capi_run::REPORT_SIZE;
 use fid::Fid;
+use layout::MAX_SLOTS;
+use layout::PLAIN_HEADER;
+use layout::SLOT_SIZE;
 use libc::STDOUT_FILENO;
+use tables::rows::PARENT_SIZE;
+use tables::rows::ROOM_AT;
+
+// The bytes of a layout of version 1 with all slots that there may be.
+const WIDEST: usize = PLAIN_HEADER + SLOT_SIZE * MAX_SLOTS;
 
 fn print_class(class: u64) {
     if class == 10 {
@@ -60,7 +68,7 @@ fn show_run(parents: &mut [u8], objects: &mut [u8]) {
     print_number(b", adopted ", report[8]);
 }
 
-// The slots of the layout that is 3,872 bytes long: 32 of header and 24 for each of 160.
+// The slots of a layout.
 fn show_layout(layout: &[u8]) {
     let mut fields = [0u64; 8];
     let answer = capi::layouts::lfsck_layout_read(layout, &mut fields);
@@ -71,7 +79,7 @@ fn show_layout(layout: &[u8]) {
 
 // One unused parent row, and object A with its claim.
 fn show(index: u32) {
-    let mut parents = [0u8; 3915];
+    let mut parents = [0u8; PARENT_SIZE];
     let mut objects = [0u8; 46];
     let mut out = [0u64; 4];
     objects[0] = 1;
@@ -84,10 +92,10 @@ fn show(index: u32) {
     io::write_all(STDOUT_FILENO, b", ");
     print_class(out[0]);
     show_run(&mut parents, &mut objects);
-    show_layout(&parents[27..3899]);
+    show_layout(&parents[ROOM_AT..ROOM_AT + WIDEST]);
 }
 
 fn main() {
-    show(159);
-    show(160);
+    show(1999);
+    show(2000);
 }

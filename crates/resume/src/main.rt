@@ -5,6 +5,8 @@ use layout::Header;
 use libc::STDOUT_FILENO;
 use rules::Report;
 use tables::Position;
+use tables::rows::PARENT_SIZE;
+use tables::rows::ROOM_AT;
 ghost use mathlib.Core.Path.{_≡_};
 ghost use Rattle.engine.specs.RunBytes.{runBytes};
 
@@ -101,8 +103,8 @@ fn object_name(oid: u32) -> Fid {
 }
 
 // The one parent row: file P, whose one slot names A on OST 3.
-fn one_file() -> [u8; 3915] {
-    let mut parents = [0u8; 3915];
+fn one_file() -> [u8; PARENT_SIZE] {
+    let mut parents = [0u8; PARENT_SIZE];
     let pool = [0u8; 0];
     let slots: [u64; 5] = [1, 0x2_4000_0400, 16, 0, 3];
     let header = Header {
@@ -116,7 +118,7 @@ fn one_file() -> [u8; 3915] {
     parents[0] = 1;
     fid::write_fid(&mut parents, 1, file_name());
     wire::put_le16(&mut parents, 25, 56);
-    layout_write::write(header, 1, &pool, &slots, &mut parents[27..3915]);
+    layout_write::write(header, 1, &pool, &slots, &mut parents[ROOM_AT..PARENT_SIZE]);
     parents
 }
 
@@ -135,7 +137,7 @@ fn wide(x: u8) -> u64 {
 }
 
 // Which object the slot names, and the used marks of the object rows.
-fn show_tables(parents: &[u8; 3915], objects: &[u8; 92]) {
+fn show_tables(parents: &[u8; PARENT_SIZE], objects: &[u8; 92]) {
     let named = fid::read_fid(parents, 59);
     print_number(b"  slot 0 names ", named.oid as u64);
     print_number(b"; object rows used: ", wide(objects[0]));

@@ -90,7 +90,7 @@ object-good x f =
 
 -- ## A table
 
-whole : (size most n : ℕ) (l : List ℕ) → 1 ≤ size → length l ≡ size * n → n ≤ most → wholeRows size most l ≡ true
+pub whole : (size most n : ℕ) (l : List ℕ) → 1 ≤ size → length l ≡ size * n → n ≤ most → wholeRows size most l ≡ true
 unfolding wholeRows
 whole size most n l p h k =
     let e : length l / size ≡ n = rw h (mul-div-right n p) in
