@@ -1,2 +1,3 @@
 pub mod SeenLaws
 pub mod Hold
+pub mod Earlier
