@@ -4,6 +4,8 @@ use bench::dump::{Dump as Long, Shape};
 use bench::plain::{IntakeState, intake_end, intake_feed};
 use difftest::Random;
 use difftest::dumps::{Dump, Flaw};
+use numbers::layout::MOST_SLOTS;
+use numbers::{object, parent};
 use reference::interface::{Feeding, STATE_BYTES};
 
 const DUMPS: usize = 60_000;
@@ -65,7 +67,7 @@ fn compare(dump: &Dump, size: usize) {
 /// rows that the reference says.
 #[test]
 fn a_long_dump_is_made_as_it_goes() {
-    for slots in [1, 160] {
+    for slots in [1, MOST_SLOTS] {
         let shape = Shape { slots, objects: 3 };
         expect_made(Long::of(shape, 100_000));
     }
@@ -73,7 +75,12 @@ fn a_long_dump_is_made_as_it_goes() {
 
 fn expect_made(mut long: Long) {
     let [files, objects] = long.entries();
-    let tables = || (vec![0; 3915 * files], vec![0; 46 * objects]);
+    let tables = || {
+        (
+            vec![0; parent::BYTES * files],
+            vec![0; object::BYTES * objects],
+        )
+    };
     let (mut whole, mut piece) = (Vec::new(), vec![0; 1000]);
     loop {
         match long.next(&mut piece) {
@@ -87,7 +94,7 @@ fn expect_made(mut long: Long) {
     let read = reference::intake::read(&whole, &owners, &mut ours.0, &mut ours.1);
     assert_eq!(read, Ok(()));
     let used = |table: &[u8], size: usize| table.chunks(size).all(|row| row[0] == 1);
-    assert!(used(&ours.0, 3915) && used(&ours.1, 46));
+    assert!(used(&ours.0, parent::BYTES) && used(&ours.1, object::BYTES));
     let mut state = IntakeState::new();
     for piece in whole.chunks(65_536) {
         let (files, objects) = (&mut theirs.0, &mut theirs.1);
