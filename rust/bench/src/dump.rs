@@ -14,6 +14,13 @@ pub struct Shape {
     pub objects: usize,
 }
 
+impl Shape {
+    /// The bytes of a file's layout.
+    pub fn layout(self) -> usize {
+        HEADER_THREE + self.slots * SLOT_BYTES
+    }
+}
+
 /// A dump whose pieces are made one after the other. All entries have an attribute that is skipped.
 pub struct Dump {
     shape: Shape,
@@ -71,8 +78,7 @@ fn block(shape: Shape) -> Vec<u8> {
     let mut text = String::from("# file: mnt/mdt/ROOT/home/alice/results/run\\0401/part.dat\n");
     text += &format!("trusted.link=0x{}\n", "d5".repeat(60));
     text += &format!("trusted.lma=0x{}\n", "01".repeat(24));
-    let layout = HEADER_THREE + shape.slots * SLOT_BYTES;
-    text += &format!("trusted.lov=0x{}\n\n", "5aF0e1".repeat(layout / 3));
+    text += &format!("trusted.lov=0x{}\n\n", "5aF0e1".repeat(shape.layout() / 3));
     for object in 0..shape.objects {
         text += &format!("# file: mnt/ost/O/240000400/d{object}/{object}\n");
         text += &format!("trusted.fid=0x{}\n", "0a".repeat([16, 32][object % 2]));

@@ -4,8 +4,6 @@ use numbers::fid::{BYTES as FID, ID_AT, VERSION_AT};
 use numbers::layout::{HEADER_ONE, HOLES, LAST_OST, MAGIC_ONE, SLOT_OST_AT};
 use numbers::{call, layout, link, object, parent, reserve};
 
-/// The slots of a file; the last file of a table may have fewer.
-const SLOTS: usize = layout::MOST_SLOTS;
 const PARENT: usize = parent::BYTES;
 const OBJECT: usize = object::BYTES;
 /// Where the slots of a layout of version 1 start in a parent row.
@@ -16,11 +14,59 @@ const FILES: u64 = 0x2_0000_0401;
 /// The sequence of objects.
 pub const OBJECTS: u64 = 0x2_4000_0400;
 /// An id above those of all objects, named and not.
-pub const PAST_OBJECTS: u64 = 3_000_000;
+pub const PAST_OBJECTS: u64 = 5_000_000;
+/// The first id of the reserve.
+const RESERVED: usize = 1_000_000;
+/// The first id of objects that slots name and that are not there.
+const ABSENT: usize = 2_000_000;
 
-/// The three tables of a call.
+/// How large tables are.
+#[derive(Clone, Copy, Debug, PartialEq, Eq)]
+pub struct Shape {
+    /// The slots of a file; the last file may have fewer.
+    pub file_slots: usize,
+    /// The slots of all files.
+    pub slots: usize,
+    /// The objects, each named by a slot.
+    pub objects: usize,
+    /// The FIDs of the reserve.
+    pub reserve: usize,
+}
+
+impl Shape {
+    /// A thousand files of 160 slots: two slots in five name an object.
+    pub const THOUSAND: Shape = Shape::files(1000, 160);
+    /// A thousand files of 1,000 slots: a slot in 15 names an object.
+    pub const MILLION: Shape = Shape::files(1000, 1000);
+    /// As many files as there may be, with as many slots as they may have.
+    pub const FULL: Shape = Shape::files(parent::MOST, layout::MOST_SLOTS);
+
+    /// So many files of so many slots, with as many objects and FIDs of the reserve as there may be.
+    pub const fn files(files: usize, file_slots: usize) -> Shape {
+        Shape {
+            file_slots,
+            slots: files * file_slots,
+            objects: object::MOST,
+            reserve: reserve::MOST,
+        }
+    }
+
+    /// The files.
+    pub fn count(self) -> usize {
+        self.slots.div_ceil(self.file_slots)
+    }
+
+    /// The slot that names the object of this number, over all files.
+    fn slot_of(self, object: usize) -> usize {
+        object * self.slots / self.objects
+    }
+}
+
+/// The three tables of a call, with their shape.
 #[derive(Clone, PartialEq, Eq)]
 pub struct Tables {
+    /// How large they are.
+    pub shape: Shape,
     /// The parent rows.
     pub parents: Vec<u8>,
     /// The object rows.
@@ -30,37 +76,31 @@ pub struct Tables {
 }
 
 impl Tables {
-    /// Files with so many slots in all, so many of them, evenly spread, with an object and the
-    /// others holes. Every file, slot and object is as it should be, the objects in the order
-    /// of their slots; no FID of the reserve is in use.
-    pub fn clean(slots: usize, objects: usize, reserve: usize) -> Tables {
+    /// Tables of a shape: the slots that name an object are evenly spread, and the others are holes.
+    /// Every file, slot and object is as it should be, the objects in the order of their slots; no
+    /// FID of the reserve is in use.
+    pub fn clean(shape: Shape) -> Tables {
+        let reserved = |number| fid(OBJECTS, (RESERVED + number) as u32, 0);
         let mut tables = Tables {
-            parents: Vec::new(),
-            objects: Vec::new(),
-            reserve: Vec::new(),
+            shape,
+            parents: Vec::with_capacity(PARENT * shape.count()),
+            objects: Vec::with_capacity(OBJECT * shape.objects),
+            reserve: (0..shape.reserve).flat_map(reserved).collect(),
         };
-        for first in (0..slots).step_by(SLOTS) {
-            tables.add_file(first / SLOTS, SLOTS.min(slots - first));
+        for file in 0..shape.count() {
+            let left = shape.slots - file * shape.file_slots;
+            tables.add_file(file, shape.file_slots.min(left));
         }
-        for number in 0..objects {
-            let slot = number * slots / objects;
-            tables.add_object(number, slot);
-        }
-        for number in 0..reserve {
-            let id = 1_000_000 + number;
-            tables.reserve.extend(fid(OBJECTS, id as u32, 0));
+        for number in 0..shape.objects {
+            tables.add_object(number, shape.slot_of(number));
         }
         tables
     }
 
-    /// A thousand full files with as many objects as there may be, one slot in a hundred
-    /// damaged or none.
-    pub fn thousand(damaged: bool) -> Tables {
-        let slots = 1000 * SLOTS;
-        let mut tables = Tables::clean(slots, object::MOST, reserve::MOST);
-        if damaged {
-            tables.damage(slots);
-        }
+    /// The same tables with damage.
+    pub fn damaged(shape: Shape) -> Tables {
+        let mut tables = Tables::clean(shape);
+        tables.damage();
         tables
     }
 
@@ -84,7 +124,7 @@ impl Tables {
     /// Adds an object to the slot of that number over all files.
     fn add_object(&mut self, number: usize, slot: usize) {
         let id = number as u32 + 1;
-        let (row, index) = (slot / SLOTS, slot % SLOTS);
+        let (row, index) = self.place(slot);
         let ost = number as u32 % (LAST_OST + 1);
         let bytes = self.slot_mut(slot);
         bytes[..FID].copy_from_slice(&fid(OBJECTS, id, 0));
@@ -98,15 +138,21 @@ impl Tables {
         self.objects.push(0);
     }
 
+    /// The row and the index of the slot of that number over all files.
+    fn place(&self, slot: usize) -> (usize, usize) {
+        (slot / self.shape.file_slots, slot % self.shape.file_slots)
+    }
+
     fn slot_mut(&mut self, slot: usize) -> &mut [u8] {
-        let at = PARENT * (slot / SLOTS) + SLOTS_AT + SLOT * (slot % SLOTS);
+        let (row, index) = self.place(slot);
+        let at = PARENT * row + SLOTS_AT + SLOT * index;
         &mut self.parents[at..at + SLOT]
     }
 
     /// Names an object in every hole; none of them is there.
-    pub fn fill(&mut self, slots: usize) {
-        for slot in 0..slots {
-            let name = fid(OBJECTS, (2_000_000 + slot) as u32, 0);
+    pub fn fill(&mut self) {
+        for slot in 0..self.shape.slots {
+            let name = fid(OBJECTS, (ABSENT + slot) as u32, 0);
             let bytes = self.slot_mut(slot);
             if bytes.iter().all(|&byte| byte == 0) {
                 bytes[..FID].copy_from_slice(&name);
@@ -115,12 +161,12 @@ impl Tables {
     }
 
     /// Damages as many objects as one slot in a hundred, evenly spread, in seven ways in turn.
-    pub fn damage(&mut self, slots: usize) {
-        let objects = self.objects.len() / OBJECT;
-        let count = slots / 100;
+    fn damage(&mut self) {
+        let objects = self.shape.objects;
+        let count = self.shape.slots / 100;
         for fault in 0..count {
             let number = fault * objects / count;
-            let slot = number * slots / objects;
+            let slot = self.shape.slot_of(number);
             let other = (number + objects / 2) % objects;
             let row = OBJECT * number;
             match fault % 7 {

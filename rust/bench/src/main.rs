@@ -3,23 +3,28 @@
 use std::io::Write;
 use std::time::Duration;
 
-use bench::dump::{Dump, Shape};
-use bench::input::{Names, OBJECTS, PAST_OBJECTS, Tables};
+use bench::dump::{self, Dump};
+use bench::input::{Names, OBJECTS, PAST_OBJECTS, Shape, Tables};
 use bench::measure::{Timed, Times, side_by_side, timed};
 use bench::namespace::Namespace;
 use bench::plain;
 use numbers::call::{self, END};
 use numbers::intake::{MOST_PIECE, STATE};
-use numbers::layout::MOST_SLOTS as SLOTS;
+use numbers::layout::MOST_SLOTS;
 use numbers::names::{MOST_LEVELS, WORKING};
-use numbers::{child, link, object, parent, reserve};
+use numbers::{child, link, object, parent};
 
 /// The ratio that the library is to keep to.
 const MOST_RATIO: f64 = 1.3;
 /// How often each measurement is taken, unless the command line says otherwise.
 const ROUNDS: usize = 3;
-/// Create and adopt.
-const POLICY: u64 = call::BOTH;
+/// Neither create nor adopt.
+const NEITHER: u64 = 0;
+/// The counts of a report that damage raises without create and adopt: those of BLANK, UNMATCHED,
+/// OWNER and WRONG-OST.
+const MENDED: [usize; 4] = [4, 5, 6, 9];
+/// Those that it raises with both: MULTIPLE, DANGLING and ORPHAN besides.
+const REPAIRED: [usize; 7] = [2, 3, 4, 5, 6, 8, 9];
 /// The sizes between which the growth is measured.
 const SIZES: [usize; 5] = [10_000, 20_000, 40_000, 80_000, 160_000];
 
@@ -43,17 +48,12 @@ const DUMP: usize = 1_000_000_000;
 /// The unused rows that are lent with each piece: more than one can fill.
 const LENT_FILES: usize = 128;
 const LENT_OBJECTS: usize = 256;
-/// The dumps: one of a site, where each slot has its object, and one that is nearly all layouts.
-const SHAPES: [Shape; 2] = [
-    Shape {
-        slots: 4,
-        objects: 4,
-    },
-    Shape {
-        slots: SLOTS,
-        objects: 8,
-    },
-];
+/// The dumps, by slots of a file and objects for each: one of a site, where each slot has its
+/// object, one that is mostly layouts, and one with the longest layouts that there are.
+const DUMPS: [[usize; 2]; 3] = [[4, 4], [160, 8], [MOST_SLOTS, 8]];
+
+/// How damaged tables are told from clean ones.
+const DAMAGED: &str = "one slot in a hundred damaged";
 
 /// Answer, position, report and tables after a run.
 type Ran = (u32, [u64; call::POSITION], [u64; call::REPORT], Tables);
@@ -67,12 +67,13 @@ fn main() {
     measure_check(rounds);
     let classes = measure_growth(rounds);
     measure_run(rounds);
+    measure_million(rounds);
     measure_listing(rounds);
     measure_keepers(rounds);
     measure_link(rounds);
     measure_names(rounds);
-    for shape in SHAPES {
-        measure_intake(shape, rounds);
+    for [slots, objects] in DUMPS {
+        measure_intake(dump::Shape { slots, objects }, rounds);
     }
     let [least, most] = [SIZES[0], SIZES[SIZES.len() - 1]];
     println!(
@@ -84,29 +85,36 @@ fn main() {
     );
 }
 
-/// The check of full tables.
+/// The check of as many files as there may be, of 160 slots and of as many as they may have.
 fn measure_check(rounds: usize) {
-    let slots = parent::MOST * SLOTS;
-    let mut tables = Tables::clean(slots, object::MOST, reserve::MOST);
-    tables.fill(slots);
-    let (parents, objects, reserve) = (&tables.parents, &tables.objects, &tables.reserve);
-    let times = side_by_side(
-        rounds,
-        || timed(|| lfsck_sys::check(parents, objects, reserve, POLICY, END)),
-        || timed(|| plain::check(parents, objects, reserve, POLICY, END)),
-    );
-    let what = "check: 1,024 files of 160 slots, 65,536 objects, 65,536 reserve FIDs";
-    print_line(what, times, "");
+    for shape in [Shape::files(parent::MOST, 160), Shape::FULL] {
+        let mut tables = Tables::clean(shape);
+        tables.fill();
+        let (parents, objects, reserve) = (&tables.parents, &tables.objects, &tables.reserve);
+        let times = side_by_side(
+            rounds,
+            || timed(|| lfsck_sys::check(parents, objects, reserve, call::BOTH, END)),
+            || timed(|| plain::check(parents, objects, reserve, call::BOTH, END)),
+        );
+        let reserve = grouped(shape.reserve);
+        let what = format!("check: {}, {reserve} reserve FIDs", told(shape));
+        print_line(&what, times, "");
+    }
 }
 
 /// The classes at each size, with the growth from the one before.
 fn measure_growth(rounds: usize) -> Vec<Times> {
     let mut all: Vec<Times> = Vec::new();
     for slots in SIZES {
-        let objects = slots * object::MOST / SIZES[SIZES.len() - 1];
-        let times = measure_classes(slots, objects, rounds);
+        let shape = Shape {
+            slots,
+            objects: slots * object::MOST / SIZES[SIZES.len() - 1],
+            reserve: 0,
+            ..Shape::THOUSAND
+        };
+        let times = measure_clean(shape, call::BOTH, rounds);
         let growth = all.last().map(|before| growth(*before, times));
-        let (slots, objects) = (grouped(slots), grouped(objects));
+        let (slots, objects) = (grouped(slots), grouped(shape.objects));
         let what = format!("classes of all positions: {slots} slots, {objects} objects, clean");
         print_line(&what, times, &growth.unwrap_or_default());
         all.push(times);
@@ -114,40 +122,56 @@ fn measure_growth(rounds: usize) -> Vec<Times> {
     all
 }
 
-/// The class of every position of clean tables: a run with create and adopt, which asks for
-/// each of them and changes nothing.
-fn measure_classes(slots: usize, objects: usize, rounds: usize) -> Times {
-    let tables = Tables::clean(slots, objects, 0);
+/// A whole run on clean tables, which changes nothing. With create and adopt it asks for the class
+/// of every position, with neither for those of headers and slots.
+fn measure_clean(shape: Shape, policy: u64, rounds: usize) -> Times {
+    let tables = Tables::clean(shape);
     side_by_side(
         rounds,
-        || unchanged(run(&tables, lfsck_run), &tables),
-        || unchanged(run(&tables, plain::run), &tables),
+        || unchanged(run(&tables, policy, lfsck_run), &tables),
+        || unchanged(run(&tables, policy, plain::run), &tables),
     )
 }
 
-/// What the tables of the line for a run, and of the one for all classes, are.
-const DAMAGED: &str = "1,000 files of 160 slots, 65,536 objects, one slot in a hundred damaged";
-
-/// A whole run on damaged tables.
-fn measure_run(rounds: usize) {
-    let tables = Tables::thousand(true);
-    let times = side_by_side(
+/// A whole run on damaged tables, with repairs of these counts.
+fn measure_damaged(shape: Shape, policy: u64, counts: &[usize], rounds: usize) -> Times {
+    let tables = Tables::damaged(shape);
+    side_by_side(
         rounds,
-        || repaired(run(&tables, lfsck_run)),
-        || repaired(run(&tables, plain::run)),
-    );
-    print_line(&format!("run, policy 3: {DAMAGED}"), times, "");
+        || repaired(run(&tables, policy, lfsck_run), counts),
+        || repaired(run(&tables, policy, plain::run), counts),
+    )
 }
 
-/// All classes of the same tables in one call.
+/// A whole run on damaged tables with create and adopt.
+fn measure_run(rounds: usize) {
+    let shape = Shape::THOUSAND;
+    let times = measure_damaged(shape, call::BOTH, &REPAIRED, rounds);
+    let what = format!("run, policy {}: {}, {DAMAGED}", call::BOTH, told(shape));
+    print_line(&what, times, "");
+}
+
+/// Whole runs on a million slots with neither create nor adopt.
+fn measure_million(rounds: usize) {
+    let shape = Shape::MILLION;
+    let what = format!("run, policy {NEITHER}: {}", told(shape));
+    let times = measure_clean(shape, NEITHER, rounds);
+    print_line(&format!("{what}, clean"), times, "");
+    let times = measure_damaged(shape, NEITHER, &MENDED, rounds);
+    print_line(&format!("{what}, {DAMAGED}"), times, "");
+}
+
+/// All classes of damaged tables in one call.
 fn measure_listing(rounds: usize) {
-    let tables = Tables::thousand(true);
+    let shape = Shape::THOUSAND;
+    let tables = Tables::damaged(shape);
     let times = side_by_side(
         rounds,
         || list(&tables, lfsck_classes),
         || list(&tables, plain::classes),
     );
-    print_line(&format!("all classes in one call: {DAMAGED}"), times, "");
+    let what = format!("all classes in one call: {}, {DAMAGED}", told(shape));
+    print_line(&what, times, "");
 }
 
 /// All classes by either side.
@@ -177,15 +201,19 @@ fn list(tables: &Tables, call: ListCall) -> Timed<Vec<u64>> {
     Timed { result: out, took }
 }
 
-/// Keepers asked for one after the other in a thousand full files: of objects that claim the slots
-/// that name them, and of FIDs that no slot names.
+/// Keepers asked for one after the other in a thousand files of which every slot names an object: of
+/// objects that claim the slots that name them, and of FIDs that no slot names.
 fn measure_keepers(rounds: usize) {
-    let slots = 1000 * SLOTS;
-    let mut tables = Tables::clean(slots, KEPT as usize, 0);
-    tables.fill(slots);
+    let shape = Shape {
+        objects: KEPT as usize,
+        reserve: 0,
+        ..Shape::THOUSAND
+    };
+    let mut tables = Tables::clean(shape);
+    tables.fill();
     let clean: Vec<u64> = (0..KEEPERS).map(|call| call % KEPT + 1).collect();
     let unnamed = (0..KEEPERS).map(|call| PAST_OBJECTS + call).collect();
-    let all = slots as u64;
+    let all = shape.slots as u64;
     for (what, ids, keeper) in [
         ("of a clean slot's object", clean, [1, 1]),
         ("of a FID that nothing names", unnamed, [0, all]),
@@ -196,8 +224,7 @@ fn measure_keepers(rounds: usize) {
             || keepers(&tables, &ids, keeper, plain::keeper),
         );
         let calls = grouped(KEEPERS as usize);
-        let what =
-            format!("keeper {what}, {calls} calls: 1,000 files of 160 slots, {KEPT} objects");
+        let what = format!("keeper {what}, {calls} calls: {}", told(shape));
         print_line(&what, times, "");
     }
 }
@@ -262,31 +289,22 @@ fn lfsck_run(
     lfsck_sys::run(parents, objects, reserve, policy, most, position, report)
 }
 
-/// Times a run with create and adopt from the start, which must get to the end.
-fn run(tables: &Tables, call: RunCall) -> Timed<Ran> {
-    let Tables {
-        mut parents,
-        mut objects,
-        reserve,
-    } = tables.clone();
+/// Times a run from the start, which must get to the end.
+fn run(tables: &Tables, policy: u64, call: RunCall) -> Timed<Ran> {
+    let mut after = tables.clone();
     let (mut position, mut report) = ([1, 0, 0], [0; call::REPORT]);
     let Timed { result, took } = timed(|| {
         call(
-            &mut parents,
-            &mut objects,
-            &reserve,
-            POLICY,
+            &mut after.parents,
+            &mut after.objects,
+            &after.reserve,
+            policy,
             u64::MAX,
             &mut position,
             &mut report,
         )
     });
     assert_eq!((result, position), (0, END));
-    let after = Tables {
-        parents,
-        objects,
-        reserve,
-    };
     Timed {
         result: (result, position, report, after),
         took,
@@ -301,26 +319,17 @@ fn unchanged(run: Timed<Ran>, before: &Tables) -> Timed<Ran> {
     run
 }
 
-/// A run that had repairs of each class that the damage brings.
-fn repaired(run: Timed<Ran>) -> Timed<Ran> {
+/// A run that had repairs of these counts of its report, and no others.
+fn repaired(run: Timed<Ran>, counts: &[usize]) -> Timed<Ran> {
     let (_, _, report, _) = &run.result;
-    let [
-        _,
-        own,
-        multiple,
-        dangling,
-        blank,
-        unmatched,
-        owner,
-        empty,
-        orphan,
-        wrong_ost,
-    ] = *report;
-    assert_eq!([own, empty], [0; 2]);
-    let all = [
-        multiple, dangling, blank, unmatched, owner, orphan, wrong_ost,
-    ];
-    assert!(all.iter().all(|&count| count > 100), "{report:?}");
+    for (at, &count) in report.iter().enumerate().skip(1) {
+        let is_so = if counts.contains(&at) {
+            count > 100
+        } else {
+            count == 0
+        };
+        assert!(is_so, "{report:?}");
+    }
     run
 }
 
@@ -517,7 +526,7 @@ fn pass(names: &Namespace, call: PassCall) -> Timed<Namespace> {
 }
 
 /// A dump of 1 GB, made piece by piece as it is taken in.
-fn measure_intake(shape: Shape, rounds: usize) {
+fn measure_intake(shape: dump::Shape, rounds: usize) {
     let dump = Dump::of(shape, DUMP);
     let [files, objects] = dump.entries();
     let owners = dump.owners();
@@ -534,22 +543,24 @@ fn measure_intake(shape: Shape, rounds: usize) {
         })
     };
     let times = side_by_side(rounds, library, plain);
-    let (files, objects, slots) = (grouped(files), grouped(objects), shape.slots);
+    let [files, objects, slots] = [files, objects, shape.slots].map(grouped);
     let what = format!("intake of 1 GB: {files} files of {slots} slots, {objects} objects");
     print_line(&what, times, "");
 }
 
 /// Times a reading of the dump, piece by piece, without the making of the pieces. After each piece
 /// the rows that it filled are counted and are unused again, so the memory is the same at all times.
-/// The result is what was filled: rows of both tables, and the sum of their bytes.
+/// The result is what was filled: rows of both tables, and the sum of their bytes; the bytes that
+/// both tables have in the end are added to it.
 fn take_in(
-    shape: Shape,
+    shape: dump::Shape,
     mut feed: impl FnMut(&[u8], &mut [u8], &mut [u8]) -> u32,
 ) -> Timed<[u64; 3]> {
     let mut dump = Dump::of(shape, DUMP);
     let mut piece = vec![0; MOST_PIECE];
     let mut files = vec![0; LENT_FILES * parent::BYTES];
     let mut objects = vec![0; LENT_OBJECTS * object::BYTES];
+    let file = parent::LAYOUT_AT + shape.layout();
     let (mut result, mut took) = ([0; 3], Duration::ZERO);
     loop {
         let length = dump.next(&mut piece);
@@ -559,26 +570,30 @@ fn take_in(
         let fed = timed(|| feed(&piece[..length], &mut files, &mut objects));
         assert_eq!(fed.result, 0);
         took += fed.took;
-        result[0] += empty(&mut files, parent::BYTES, &mut result[2]);
-        result[1] += empty(&mut objects, object::BYTES, &mut result[2]);
+        result[0] += empty(&mut files, parent::BYTES, file, &mut result[2]);
+        result[1] += empty(&mut objects, object::BYTES, object::BYTES, &mut result[2]);
     }
-    assert_eq!(
-        [result[0], result[1]],
-        dump.entries().map(|count| count as u64)
-    );
+    let entries = dump.entries().map(|count| count as u64);
+    assert_eq!(result[..2], entries);
+    result[2] += sum(&files) + sum(&objects);
     Timed { result, took }
 }
 
-/// Makes the filled rows of a table unused; how many they were, and the sum of their bytes.
-fn empty(table: &mut [u8], size: usize, sum: &mut u64) -> u64 {
-    let filled = table.chunks_mut(size).take_while(|row| row[0] == 1);
+/// Makes the filled rows of a table unused; how many they were. The bytes that an entry fills of a
+/// row are added to the sum.
+fn empty(table: &mut [u8], size: usize, filled: usize, all: &mut u64) -> u64 {
+    let rows = table.chunks_mut(size).take_while(|row| row[0] == 1);
     let mut count = 0;
-    for row in filled {
-        *sum += row.iter().map(|&byte| u64::from(byte)).sum::<u64>();
+    for row in rows {
+        *all += sum(&row[..filled]);
         row[0] = 0;
         count += 1;
     }
     count
+}
+
+fn sum(bytes: &[u8]) -> u64 {
+    bytes.iter().map(|&byte| u64::from(byte)).sum()
 }
 
 fn print_line(what: &str, times: Times, growth: &str) {
@@ -600,6 +615,13 @@ fn growth(before: Times, after: Times) -> String {
         factor(before.library, after.library),
         factor(before.plain, after.plain)
     )
+}
+
+/// What tables of a shape have.
+fn told(shape: Shape) -> String {
+    let numbers = [shape.count(), shape.file_slots, shape.objects].map(grouped);
+    let [files, slots, objects] = numbers;
+    format!("{files} files of {slots} slots, {objects} objects")
 }
 
 /// A number with a comma before each three digits.

@@ -1,10 +1,13 @@
 //! The plain algorithm does what the library does, so the comparison is a fair one.
 
+use bench::input::{Shape as Size, Tables};
 use bench::plain;
 use difftest::tables::{OBJECTS, Shape, damage, random_tables, to_bytes};
 use difftest::{Coverage, Random};
-use numbers::call;
+use numbers::call::{self, END, REPORT};
 use numbers::fid::FIRST_SEQUENCE;
+use numbers::layout::{HEADER_THREE, MOST_SLOTS, SLOT_BYTES};
+use numbers::{object, parent, reserve};
 use reference::fid::Fid;
 
 const SHAPE: Shape = Shape {
@@ -27,32 +30,92 @@ fn runs_are_those_of_the_library() {
         let mut start = [0; 3];
         assert_eq!(lfsck_sys::start(&parents, &objects, &mut start), 0);
 
-        let (mut library, mut plain) = ((parents.clone(), objects.clone()), (parents, objects));
-        let (mut position, mut report) = (start, [0; call::REPORT]);
-        let answer = lfsck_sys::run(
-            &mut library.0,
-            &mut library.1,
-            &reserve,
-            policy,
-            most,
-            &mut position,
-            &mut report,
-        );
-        let (mut plain_position, mut plain_report) = (start, [0; call::REPORT]);
-        let plain_answer = plain::run(
-            &mut plain.0,
-            &mut plain.1,
-            &reserve,
-            policy,
-            most,
-            &mut plain_position,
-            &mut plain_report,
-        );
-        assert_eq!(plain_answer, answer);
-        assert_eq!(plain_position, position);
-        assert_eq!(plain_report, report);
-        assert_eq!(plain, library);
+        let lent = (parents, objects);
+        compare_run(&lent, &reserve, policy, most, start);
     }
+}
+
+/// Answer, position and report of a run that both sides make alike, tables and all.
+fn compare_run(
+    lent: &(Vec<u8>, Vec<u8>),
+    reserve: &[u8],
+    policy: u64,
+    most: u64,
+    start: [u64; 3],
+) -> (u32, [u64; 3], [u64; REPORT]) {
+    let (mut position, mut report) = (start, [0; REPORT]);
+    let mut library = lent.clone();
+    let (parents, objects) = (&mut library.0, &mut library.1);
+    let answer = lfsck_sys::run(
+        parents,
+        objects,
+        reserve,
+        policy,
+        most,
+        &mut position,
+        &mut report,
+    );
+    let told = (answer, position, report);
+    let (mut position, mut report) = (start, [0; REPORT]);
+    let mut plain = lent.clone();
+    let (parents, objects) = (&mut plain.0, &mut plain.1);
+    let answer = plain::run(
+        parents,
+        objects,
+        reserve,
+        policy,
+        most,
+        &mut position,
+        &mut report,
+    );
+    assert_eq!((answer, position, report), told);
+    assert!(plain == library, "tables after a run of policy {policy}");
+    told
+}
+
+/// A whole run of both sides on tables of the benchmarks: the repairs by class.
+fn compare_whole(tables: Tables, policy: u64) -> [u64; call::COUNTED] {
+    let size = tables.shape;
+    let lent = (tables.parents, tables.objects);
+    let (answer, position, report) =
+        compare_run(&lent, &tables.reserve, policy, u64::MAX, [1, 0, 0]);
+    assert_eq!((answer, position), (0, END), "{size:?}, policy {policy}");
+    let steps = size.count() + size.slots + size.objects;
+    assert_eq!(report[0], steps as u64, "{size:?}, policy {policy}");
+    report[1..].try_into().expect("the counts")
+}
+
+#[test]
+fn small_tables_of_the_benchmarks_are_repaired_alike() {
+    for file_slots in [100, 160, 1000, MOST_SLOTS] {
+        let size = Size {
+            file_slots,
+            slots: 3 * file_slots + file_slots / 2,
+            objects: file_slots,
+            reserve: 100,
+        };
+        for policy in 0..=call::BOTH {
+            let counts = compare_whole(Tables::clean(size), policy);
+            assert_eq!(counts, [0; call::COUNTED], "{size:?}, policy {policy}");
+            let counts = compare_whole(Tables::damaged(size), policy);
+            assert_ne!(counts, [0; call::COUNTED], "{size:?}, policy {policy}");
+        }
+    }
+}
+
+#[test]
+fn a_million_clean_slots_need_nothing() {
+    let counts = compare_whole(Tables::clean(Size::MILLION), 0);
+    assert_eq!(counts, [0; call::COUNTED]);
+}
+
+/// There are 10,000 faults in seven ways in turn. With neither create nor adopt a run repairs those of
+/// four ways.
+#[test]
+fn a_million_damaged_slots_are_repaired_alike() {
+    let counts = compare_whole(Tables::damaged(Size::MILLION), 0);
+    let [blank, unmatched, owner, wrong_ost] = [1429, 1429, 1428, 1428];
+    assert_eq!(counts, [0, 0, 0, blank, unmatched, owner, 0, 0, wrong_ost]);
 }
 
 #[test]
@@ -127,30 +190,37 @@ fn random_numbers(fid: Fid, random: &mut Random) -> [u64; 2] {
     }
 }
 
+/// The bytes of a parent row up to a few behind the longest layout of these tables.
+const NEAR: usize = parent::LAYOUT_AT + HEADER_THREE + SLOT_BYTES * SHAPE.slots + 10;
+
 #[test]
 fn the_check_is_that_of_the_library() {
     let mut random = Random::for_test("plain check");
+    let mut answers = Coverage::of("plain check", [0, 11, 12, 13, 14, 16]);
     for _ in 0..20_000 {
         let (mut parents, mut objects) = to_bytes(&random_tables(SHAPE, &mut random), &mut random);
         let mut reserve: Vec<u8> = OBJECTS[..3].iter().flat_map(|fid| fid.to_bytes()).collect();
-        let table = match random.below(3) {
-            0 => &mut parents,
-            1 => &mut objects,
-            _ => &mut reserve,
+        let (table, size) = match random.below(3) {
+            0 => (&mut parents, parent::BYTES),
+            1 => (&mut objects, object::BYTES),
+            _ => (&mut reserve, reserve::BYTES),
         };
         if !table.is_empty() {
-            let near = table.len().min(3915 + 110);
-            let at = random.below(near);
+            let row = random.below(table.len() / size);
+            let at = size * row + random.below(size.min(NEAR));
             table[at] = random.any() as u8;
         }
         let position = [1, 2, 3, 4].map(|_| random.below(5) as u64);
         let [policy, stage, row, part] = position;
         let position = [stage, row, part];
-        assert_eq!(
-            plain::check(&parents, &objects, &reserve, policy, position),
-            lfsck_sys::check(&parents, &objects, &reserve, policy, position)
-        );
+        let answer = lfsck_sys::check(&parents, &objects, &reserve, policy, position);
+        let plain = plain::check(&parents, &objects, &reserve, policy, position);
+        assert_eq!(plain, answer);
+        if answer != 15 {
+            answers.met(answer);
+        }
     }
+    answers.require(100);
 }
 
 /// The numbers of a linkEA of a few records, and bytes for their names.

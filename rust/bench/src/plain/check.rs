@@ -4,7 +4,7 @@ use numbers::layout::LAST_OST;
 use numbers::object::SELF_AT;
 use numbers::{answer, call, object, parent, reserve};
 
-use super::bytes::{Fid, NO_FID, has_fid, is_used, number16, number32, row};
+use super::bytes::{Fid, NO_FID, has_fid, is_used, number16, number32};
 use super::layout;
 use super::position::exists;
 
@@ -78,12 +78,12 @@ fn is_good_object(row: &[u8]) -> bool {
 
 /// Whether no two used rows have the same FID: each is compared with all later ones.
 fn none_twice(table: &[u8], size: usize) -> bool {
-    let count = table.len() / size;
-    (0..count).all(|at| {
-        let own = row(table, size, at);
-        !is_used(own) || {
-            let fid = Fid::read(own, SELF_AT);
-            (at + 1..count).all(|later| !has_fid(row(table, size, later), fid))
+    let mut rows = table.chunks_exact(size);
+    while let Some(row) = rows.next() {
+        let fid = Fid::read(row, SELF_AT);
+        if is_used(row) && rows.clone().any(|later| has_fid(later, fid)) {
+            return false;
         }
-    })
+    }
+    true
 }

@@ -38,7 +38,9 @@ pub fn is_good(layout: &[u8]) -> bool {
         && (magic == MAGIC_ONE || magic == MAGIC_THREE)
         && (pattern == PLAIN || pattern == HOLES)
         && count <= MOST_SLOTS
-        && (0..count).all(|index| is_good_slot(slot(&layout[start..], index), pattern == HOLES))
+        && layout[start..]
+            .chunks_exact(SLOT_BYTES)
+            .all(|slot| is_good_slot(slot, pattern == HOLES))
 }
 
 /// Slot `index` of the bytes after the header.

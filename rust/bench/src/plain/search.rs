@@ -11,7 +11,7 @@ pub type Place = (usize, usize);
 
 /// The row of a FID.
 fn row_of(table: &[u8], size: usize, fid: Fid) -> Option<usize> {
-    (0..table.len() / size).find(|&at| has_fid(row(table, size, at), fid))
+    table.chunks_exact(size).position(|row| has_fid(row, fid))
 }
 
 pub fn object_row(objects: &[u8], fid: Fid) -> Option<usize> {
@@ -24,7 +24,7 @@ pub fn parent_row(parents: &[u8], fid: Fid) -> Option<usize> {
 
 /// The first unused row.
 pub fn unused(table: &[u8], size: usize) -> Option<usize> {
-    (0..table.len() / size).find(|&at| !is_used(row(table, size, at)))
+    table.chunks_exact(size).position(|row| !is_used(row))
 }
 
 /// Slot `index` of parent row `at`, if there is one.
@@ -78,10 +78,10 @@ fn first_naming(parents: &[u8], fid: Fid) -> Search {
 
 /// Whether a slot other than `place` names an object.
 pub fn is_named_else(parents: &[u8], fid: Fid, place: Place) -> bool {
-    (0..parents.len() / parent::BYTES).any(|at| {
-        let area = slot_area(row(parents, parent::BYTES, at));
-        (0..area.len() / SLOT_BYTES)
-            .any(|index| names(slot(area, index), fid) && (at, index) != place)
+    let mut rows = parents.chunks_exact(parent::BYTES).enumerate();
+    rows.any(|(at, row)| {
+        let mut slots = slot_area(row).chunks_exact(SLOT_BYTES).enumerate();
+        slots.any(|(index, slot)| names(slot, fid) && (at, index) != place)
     })
 }
 
