@@ -32,10 +32,11 @@ fn dumps_are_taken_in_alike() {
         for cut in [Cut::Few, Cut::Disturbed] {
             compare(&dump, cut, &mut seen, &mut random);
         }
-        if random.one_in(10) && dump.text.len() < 1000 {
+        let is_small = dump.parents.len() <= 2 * parent::BYTES;
+        if random.one_in(20) && dump.text.len() < 1000 && is_small {
             compare(&dump, Cut::SingleBytes, &mut seen, &mut random);
         }
-        if random.one_in(25) && dump.text.len() < 400 {
+        if random.one_in(50) && dump.text.len() < 400 && is_small {
             compare_at_every_cut(&dump, &mut seen, &mut random);
         }
     }
@@ -49,19 +50,21 @@ fn dumps_are_taken_in_alike() {
 fn random_dump(random: &mut Random) -> Dump {
     match random.below(4) {
         0 => Dump::good(random),
-        1 => Dump::with(&[random.pick(&Flaw::ALL)], random),
+        1 => Dump::with(&[Flaw::any(random)], random),
         _ => {
-            let flaws = [random.pick(&Flaw::ALL), random.pick(&Flaw::ALL)];
+            let flaws = [Flaw::any(random), Flaw::any(random)];
             Dump::with(&flaws, random)
         }
     }
 }
 
-/// The whole dump in one piece, then its end.
+/// The whole dump in one piece, or in pieces as long as they may be, then its end.
 fn compare_whole(dump: &Dump, seen: &mut Seen, random: &mut Random) {
     let mut both = Both::begin(dump);
     seen.cuts.met(Cut::Whole);
-    seen.feeds.met(both.feed(dump.text.len(), random));
+    let pieces = Cut::Whole.pieces(dump.text.len(), random);
+    let answers = pieces.into_iter().map(|piece| both.feed(piece, random));
+    seen.feeds.met(answers.last().expect("a piece"));
     seen.ends.met(both.end(random));
     let fault = both.require_whole();
     seen.note(dump, fault.as_ref(), both.has_filled());
