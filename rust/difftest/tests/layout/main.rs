@@ -133,11 +133,12 @@ fn note_write(numbers: &LayoutNumbers, short: bool, placeless: bool, answer: u32
 
 // Random layouts, as a program that breaks no rule but the greatest count would write them.
 
-/// How many slots: mostly few, now and then as many as there may be.
+/// How many slots: mostly few, now and then as many as there may be, or one more.
 fn random_count(random: &mut Random) -> usize {
-    match random.below(128) {
-        0 | 1 => MOST_SLOTS,
-        2 => random.below(MOST_SLOTS + 2),
+    match random.below(256) {
+        0..4 => MOST_SLOTS,
+        4 => MOST_SLOTS + 1,
+        5 | 6 => random.below(MOST_SLOTS + 2),
         _ => {
             let most = random.pick(&[2, 9, 9, 41, 162]);
             random.below(most)
