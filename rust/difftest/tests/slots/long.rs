@@ -10,7 +10,7 @@ use reference::class::{Class, Denial, Way, way_to};
 use reference::fid::Fid;
 use reference::layout::{Stripe, Version};
 use reference::position::Position;
-use reference::site::Site;
+use reference::site::{Place, Site};
 use reference::tables::{Claim, Object, Owner, Tables};
 
 use crate::sides;
@@ -147,7 +147,39 @@ fn lengthen(tables: &mut Tables, random: &mut Random) -> Option<usize> {
     for object in tables.objects.iter_mut().flatten() {
         claim_end(object, fid, count as u32, random);
     }
+    if random.one_in(4) {
+        let slot = random.pick(&[160.min(count - 1), count - 2, count - 1]);
+        put_fresh(tables, Place { row, slot });
+    }
     Some(row)
+}
+
+/// Puts a fresh object in a place that alone names it, and lets one that may hold data, which no
+/// slot names, claim the place.
+fn put_fresh(tables: &mut Tables, place: Place) {
+    let [Some(fresh), Some(other), ..] = &mut tables.objects[..] else {
+        return;
+    };
+    let fids = [fresh.fid, other.fid];
+    for file in tables.parents.iter_mut().flatten() {
+        for stripe in file.layout.slots.iter_mut().flatten() {
+            if fids.contains(&stripe.object) {
+                stripe.object = OBJECTS[TINY.fids];
+            }
+        }
+    }
+    let file = tables.parents[place.row].as_mut().expect("a file");
+    file.layout.slots[place.slot] = Some(Stripe {
+        object: fresh.fid,
+        generation: 0,
+        ost: fresh.ost,
+    });
+    let claim = Some(Claim {
+        parent: file.fid,
+        index: place.slot as u32,
+    });
+    (fresh.claim, fresh.fresh) = (claim, true);
+    (other.claim, other.fresh) = (claim, false);
 }
 
 /// Lets an object claim a slot about the end of a long layout, nothing, or what it claims.
