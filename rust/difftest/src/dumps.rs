@@ -231,11 +231,14 @@ fn fit(table: &mut Vec<u8>, size: usize, wanted: usize, strict: bool, random: &m
         order.insert(random.below(order.len() + 1), None);
     }
     if unused < wanted {
-        let rows = order.iter().flat_map(|row| match row {
-            Some(row) => table[row * size..][..size].to_vec(),
-            None => [vec![0], random.bytes(size - 1)].concat(),
-        });
-        *table = rows.collect();
+        let mut whole = vec![0; order.len() * size];
+        for (place, row) in whole.chunks_mut(size).zip(order) {
+            match row {
+                Some(row) => place.copy_from_slice(&table[row * size..][..size]),
+                None => random.fill(&mut place[1..]),
+            }
+        }
+        *table = whole;
     }
     if strict {
         let mut rows = table.chunks_mut(size).filter(|row| row[0] == 0);
