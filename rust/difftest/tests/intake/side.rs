@@ -66,8 +66,8 @@ impl<'dump> Both<'dump> {
         }
     }
 
-    /// Nothing was fed yet, again.
-    pub fn restart(&mut self) {
+    /// Nothing was fed yet, again. Gives the dump.
+    pub fn restart(&mut self) -> &'dump Dump {
         for tables in [&mut self.ours, &mut self.theirs] {
             tables.parents.clone_from(&self.dump.parents);
             tables.objects.clone_from(&self.dump.objects);
@@ -75,6 +75,7 @@ impl<'dump> Both<'dump> {
         self.feeding = Feeding::of(&self.dump.text, &self.dump.owners);
         self.state.fill(0);
         self.stopped = None;
+        self.dump
     }
 
     /// Whether a row was filled.
