@@ -29,18 +29,7 @@ fn full_tables_are_checked_alike() {
     );
     assert_eq!(steps, [1024 * 2_001 + 65_536]);
 
-    let mut last = full.clone();
-    put(&mut last.parents, 1023 * PARENT_BYTES + LAYOUT_AT, &[0; 4]);
-    expect_answer(&last, 13, "bad layout in the last parent row");
-
-    let mut last = full.clone();
-    let slot = last.parents.len() - SLOT_BYTES;
-    put(&mut last.parents, slot + 20, &[255; 4]);
-    expect_answer(
-        &last,
-        13,
-        "bad OST index in the last slot of the last parent row",
-    );
+    expect_bad_last_file(&full);
 
     let mut last = full.clone();
     put(&mut last.objects, 65_535 * 46 + 17, &[255; 4]);
@@ -55,13 +44,29 @@ fn full_tables_are_checked_alike() {
     expect_answer(&last, 15, "the first object's FID in the last row");
 
     let mut last = full.clone();
-    last.parents.copy_within(1..17, 1023 * PARENT_BYTES + 1);
-    expect_answer(&last, 15, "the first parent's FID in the last row");
-
-    let mut last = full.clone();
     last.position = [2, 65_536, 0];
     expect_answer(&last, 16, "a position past the last object row");
     println!("full tables in {:.1} s", started.elapsed().as_secs_f64());
+}
+
+/// The last parent row with a bad layout, a bad last slot and the FID of the first.
+fn expect_bad_last_file(full: &Case) {
+    let mut last = full.clone();
+    put(&mut last.parents, 1023 * PARENT_BYTES + LAYOUT_AT, &[0; 4]);
+    expect_answer(&last, 13, "bad layout in the last parent row");
+
+    let mut last = full.clone();
+    let slot = last.parents.len() - SLOT_BYTES;
+    put(&mut last.parents, slot + 20, &[255; 4]);
+    expect_answer(
+        &last,
+        13,
+        "bad OST index in the last slot of the last parent row",
+    );
+
+    let mut last = full.clone();
+    last.parents.copy_within(1..17, 1023 * PARENT_BYTES + 1);
+    expect_answer(&last, 15, "the first parent's FID in the last row");
 }
 
 #[test]
