@@ -64,6 +64,19 @@ static uint32_t feed(struct reading *r, const char *piece, size_t bytes)
                              r->objects, sizeof r->objects, r->out, 2);
 }
 
+/* Feeds any number of bytes, in pieces as long as they may be. */
+static uint32_t feed_all(struct reading *r, const char *text, size_t bytes)
+{
+    uint32_t answer = LFSCK_OK;
+
+    while (answer == LFSCK_OK && bytes > LFSCK_PIECE_MAX) {
+        answer = feed(r, text, LFSCK_PIECE_MAX);
+        text += LFSCK_PIECE_MAX;
+        bytes -= LFSCK_PIECE_MAX;
+    }
+    return answer == LFSCK_OK ? feed(r, text, bytes) : answer;
+}
+
 static uint32_t end(struct reading *r)
 {
     return lfsck_intake_end(r->state, LFSCK_INTAKE_STATE, r->out, 2);
@@ -151,7 +164,8 @@ static void test_fault(const char *name, const char *text, uint32_t number, uint
     struct reading after;
     int again;
 
-    check(name, feed(&r, text, strlen(text)) == number && r.out[0] == line && r.out[1] == MARK);
+    check(name,
+          feed_all(&r, text, strlen(text)) == number && r.out[0] == line && r.out[1] == MARK);
     after = r;
     again = feed(&r, "", 0) == number && feed(&r, dump, DUMP) == number && end(&r) == number;
     check("and again, with nothing changed", again && same(&r, &after));
@@ -169,6 +183,24 @@ static void test_cut_off(const char *name, const char *text, uint64_t line)
 #define LMA "trusted.lma=0x000000000000000001040000020000000100000000000000\n"
 #define LOV "trusted.lov=0x\n"
 #define FID "trusted.fid=0x01040000020000000100000000000000\n"
+
+/* A layout as long as the room fills the row to its end. */
+static void test_full_room(const char *zeros, char *text)
+{
+    struct reading r = begun();
+    struct reading before = r;
+    uint8_t *row = before.parents;
+
+    sprintf(text, "# file: a\n" LMA "trusted.lov=0x%s\n\n", zeros);
+    check("a layout as long as the room", feed_all(&r, text, strlen(text)) == LFSCK_OK);
+    memset(row + PARENT_LAYOUT, 0, LFSCK_LAYOUT_BYTES);
+    check("it fills the room",
+          r.parents[PARENT_LENGTH] == LFSCK_LAYOUT_BYTES % 256 &&
+              r.parents[PARENT_LENGTH + 1] == LFSCK_LAYOUT_BYTES / 256 &&
+              memcmp(r.parents + PARENT_LAYOUT, row + PARENT_LAYOUT, LFSCK_LAYOUT_BYTES) == 0);
+    check("the next row stays", memcmp(r.parents + LFSCK_PARENT_BYTES, row + LFSCK_PARENT_BYTES,
+                                       LFSCK_PARENT_BYTES) == 0);
+}
 
 static void test_faults(void)
 {
@@ -189,6 +221,7 @@ static void test_faults(void)
     memset(zeros, '0', sizeof zeros - 1);
     sprintf(text, "# file: a\n" LMA "trusted.lov=0x%s\n\n", zeros);
     test_fault("a layout that is too long", text, LFSCK_NO_FIT, 4);
+    test_full_room(zeros + 2, text);
     test_cut_off("an entry that is not closed", "# file: a\n" LOV, 1);
     test_cut_off("a line that has not ended", "# file", 1);
 }

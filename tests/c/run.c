@@ -114,44 +114,68 @@ static void test_redirect(void)
 }
 
 /* P is absent, and A, which may hold data, claims a slot of it. */
-static struct input orphan(uint8_t index)
+static struct input orphan(uint16_t index)
 {
     struct input in = sound();
 
     memset(in.parents, 0, LFSCK_PARENT_BYTES);
-    in.objects[LFSCK_OBJECT_BYTES + OBJECT_CLAIM + 12] = index;
+    in.objects[LFSCK_OBJECT_BYTES + OBJECT_CLAIM + 12] = index % 256;
+    in.objects[LFSCK_OBJECT_BYTES + OBJECT_CLAIM + 13] = index / 256;
     in.policy = LFSCK_ADOPT;
     return in;
 }
 
-/* E10: a parent of 160 slots is made, with A in the last. */
-static void test_made_parent(void)
+/* P's row as adoption makes it: holes, and A in this slot, the last. */
+static void make_row(uint8_t *made, size_t index)
 {
-    struct input in = orphan(159);
-    struct input before;
-    uint64_t report[10];
-    uint8_t made[LFSCK_PARENT_BYTES] = {1};
     uint8_t *layout = made + PARENT_LAYOUT;
+    size_t slots = index + 1;
+    size_t bytes = 32 + 24 * slots;
 
+    memset(made, 0, LFSCK_PARENT_BYTES);
+    made[0] = 1;
     memcpy(made + PARENT_SELF, p, 16);
-    made[PARENT_LENGTH] = (32 + 24 * 160) % 256;
-    made[PARENT_LENGTH + 1] = (32 + 24 * 160) / 256;
+    made[PARENT_LENGTH] = bytes % 256;
+    made[PARENT_LENGTH + 1] = bytes / 256;
     memcpy(layout, e2, 32);
     layout[7] = 0x40;
-    layout[28] = 160;
-    memcpy(layout + 32 + 24 * 159, e2 + 32, 24);
-    check("E10, index 159", run(&in, 99, 3, report, 10) == LFSCK_OK);
-    check("a parent of 160 slots", memcmp(in.parents, made, sizeof made) == 0);
+    layout[28] = slots % 256;
+    layout[29] = slots / 256;
+    memcpy(layout + 32 + 24 * index, e2 + 32, 24);
+}
+
+/* A's claim on this index of P, which is absent: P is made, with A in its last slot. */
+static void expect_made(const char *name, uint16_t index)
+{
+    struct input in = orphan(index);
+    uint64_t report[10];
+    uint8_t made[LFSCK_PARENT_BYTES];
+
+    make_row(made, index);
+    check(name, run(&in, 99, 3, report, 10) == LFSCK_OK &&
+                    memcmp(in.parents, made, sizeof made) == 0);
     check("it is counted as ORPHAN", report[LFSCK_REPORT_STEPS] == 4 &&
                                          report[LFSCK_REPORT_ORPHAN] == 1);
+}
 
-    in = orphan(160);
+/* E10: a parent of 2,000 slots is made, and none of 2,001. */
+static void test_made_parent(void)
+{
+    struct input in;
+    struct input before;
+    uint64_t report[10];
+
+    expect_made("index 159: a parent of 160 slots", 159);
+    expect_made("index 160: a parent of 161 slots", 160);
+    expect_made("E10, index 1,999: a parent of 2,000 slots", 1999);
+
+    in = orphan(2000);
     memcpy(&before, &in, sizeof before);
-    check("E10, index 160", run(&in, 99, 3, report, 10) == LFSCK_OK);
+    check("E10, index 2,000", run(&in, 99, 3, report, 10) == LFSCK_OK);
     check("CONFLICT, no change", memcmp(in.parents, before.parents, sizeof in.parents) == 0 &&
                                      memcmp(in.objects, before.objects, sizeof in.objects) == 0);
 
-    in = orphan(159);
+    in = orphan(1999);
     in.parents_bytes = 0;
     in.position[0] = LFSCK_STAGE_OBJECTS;
     check("no parent row", run(&in, 99, 3, report, 10) == LFSCK_NO_PARENT_ROW);

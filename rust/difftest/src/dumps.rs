@@ -7,7 +7,7 @@ mod owners;
 mod value;
 
 use crate::Random;
-use crate::tables::{TINY, random_tables, to_bytes};
+use crate::tables::{Shape, TINY, random_tables, to_bytes};
 use entry::Entry;
 pub use flaw::Flaw;
 use numbers::{object, parent};
@@ -115,7 +115,7 @@ impl Dump {
     /// A dump of so many entries, now and then with a flaw in one of them.
     pub fn long(entries: usize, random: &mut Random) -> Dump {
         let mut draft = Draft::of(entries, random);
-        let flaw = random.pick(&Flaw::ALL);
+        let flaw = Flaw::any(random);
         let flaws = if random.one_in(2) { &[flaw][..] } else { &[] };
         for flaw in flaws {
             let at = entries - 1 - random.below(entries / 4);
@@ -177,7 +177,7 @@ impl Draft {
 
     /// Tables with as many unused rows as the entries need, or a few more.
     fn tables(&mut self, random: &mut Random) -> (Vec<u8>, Vec<u8>) {
-        let (mut parents, mut objects) = to_bytes(&random_tables(TINY, random), random);
+        let (mut parents, mut objects) = to_bytes(&random_tables(BEFORE, random), random);
         if random.one_in(2) {
             mark_used(&mut parents, parent::BYTES);
             mark_used(&mut objects, object::BYTES);
@@ -208,6 +208,9 @@ impl Draft {
     }
 }
 
+/// The tables before an intake, with few files: they are copied and compared with each call.
+const BEFORE: Shape = Shape { parents: 2, ..TINY };
+
 /// Makes every row used; what stands in it is left to the check.
 fn mark_used(table: &mut [u8], size: usize) {
     for row in table.chunks_mut(size) {
@@ -221,12 +224,21 @@ fn mark_used(table: &mut [u8], size: usize) {
 /// Adds unused rows of any bytes until there are enough; where it is strict, takes from those that
 /// are too many.
 fn fit(table: &mut Vec<u8>, size: usize, wanted: usize, strict: bool, random: &mut Random) {
-    let unused = |table: &[u8]| table.chunks(size).filter(|row| row[0] == 0).count();
-    while unused(table) < wanted {
-        let mut row = random.bytes(size);
-        row[0] = 0;
-        let at = random.below(table.len() / size + 1) * size;
-        table.splice(at..at, row);
+    let unused = table.chunks(size).filter(|row| row[0] == 0).count();
+    // The rows that stand, by their numbers, and the new ones among them.
+    let mut order: Vec<Option<usize>> = (0..table.len() / size).map(Some).collect();
+    for _ in unused..wanted {
+        order.insert(random.below(order.len() + 1), None);
+    }
+    if unused < wanted {
+        let mut whole = vec![0; order.len() * size];
+        for (place, row) in whole.chunks_mut(size).zip(order) {
+            match row {
+                Some(row) => place.copy_from_slice(&table[row * size..][..size]),
+                None => random.fill(&mut place[1..]),
+            }
+        }
+        *table = whole;
     }
     if strict {
         let mut rows = table.chunks_mut(size).filter(|row| row[0] == 0);

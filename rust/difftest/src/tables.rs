@@ -1,5 +1,7 @@
 //! Random tables that pass the check, from few FIDs, so that rows, slots and claims meet.
 
+use std::hint::black_box;
+
 use crate::Random;
 use numbers::fid::VERSION_AT;
 use numbers::layout::{LAST_OST, MOST_SLOTS, POOL_BYTES};
@@ -31,6 +33,15 @@ pub const OBJECTS: [Fid; 10] = [
     Fid::new(0x2_8000_0400, 3),
     Fid::new(0x2_4000_0400, 1),
 ];
+
+/// The most slots, as an index: that of the first slot that no layout has.
+const MOST: u32 = MOST_SLOTS as u32;
+
+/// Indices far past the slots of small layouts, which a longer one can have.
+pub const FAR: [u32; 5] = [159, 160, 161, MOST - 2, MOST - 1];
+
+/// Indices that no layout has.
+pub const TOO_FAR: [u32; 4] = [MOST, MOST + 1, 65_536, u32::MAX];
 
 /// How large random tables can be: rows, slots of a layout, and FIDs that are drawn from.
 #[derive(Clone, Copy, Debug)]
@@ -181,11 +192,11 @@ fn random_claim(
     Some(random.pick(&among))
 }
 
-/// An index that a slot can have, or now and then one at or past the bounds.
+/// An index that a slot can have, or now and then one far past it, which a slot can have or not.
 fn random_index(shape: Shape, random: &mut Random) -> u32 {
-    const MOST: u32 = MOST_SLOTS as u32;
-    match random.below(16) {
-        0 => random.pick(&[MOST - 1, MOST, MOST + 1, 65_536, u32::MAX]),
+    match random.below(32) {
+        0 => random.pick(&FAR),
+        1 => random.pick(&TOO_FAR),
         _ => random.below(shape.slots + 1) as u32,
     }
 }
@@ -249,6 +260,54 @@ pub fn to_bytes(tables: &Tables, random: &mut Random) -> (Vec<u8>, Vec<u8>) {
         }
     }
     (parents, objects)
+}
+
+/// Both tables as bytes, and a copy of them that is lent.
+pub struct Lent {
+    /// The parent table.
+    pub parents: Vec<u8>,
+    /// The object table.
+    pub objects: Vec<u8>,
+    copy: (Vec<u8>, Vec<u8>),
+}
+
+impl Lent {
+    /// These tables, not lent yet.
+    pub fn new(parents: Vec<u8>, objects: Vec<u8>) -> Lent {
+        let copy = (parents.clone(), objects.clone());
+        Lent {
+            parents,
+            objects,
+            copy,
+        }
+    }
+
+    /// Puts other objects beside the same files.
+    pub fn set_objects(&mut self, objects: Vec<u8>) {
+        self.copy.1.clone_from(&objects);
+        self.objects = objects;
+    }
+
+    /// Lends the copy to a call, which must leave all of it as it was. Gives the call's answer.
+    pub fn to<Answer>(&self, call: impl FnOnce(&[u8], &[u8]) -> Answer) -> Answer {
+        let (parents, objects) = black_box(&self.copy);
+        let answer = call(parents, objects);
+        let (parents, objects) = black_box(&self.copy);
+        assert!(
+            parents == &self.parents && objects == &self.objects,
+            "tables changed"
+        );
+        answer
+    }
+
+    /// The tables for a message; large ones only by their lengths.
+    pub fn describe(&self) -> String {
+        let lengths = [self.parents.len(), self.objects.len()];
+        if lengths.iter().sum::<usize>() > 16 * PARENT_BYTES {
+            return format!("tables of {lengths:?} bytes");
+        }
+        describe(&self.parents, &self.objects)
+    }
 }
 
 /// Now and then damages tables so that most of them no longer pass the check, with any of its

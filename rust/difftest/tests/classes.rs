@@ -1,12 +1,12 @@
 //! The class of every position of random tables, in which few FIDs meet in every way.
 
-use std::hint::black_box;
 use std::time::Instant;
 
 use difftest::indices::Indexed;
-use difftest::tables::{TINY, damage, describe, random_tables, to_bytes};
+use difftest::tables::{FAR, Lent, TINY, TOO_FAR, damage, random_tables, to_bytes};
 use difftest::{Coverage, Random};
 use numbers::call;
+use numbers::layout::MOST_SLOTS;
 use reference::class::{Class, Denial, Way, way_to};
 use reference::fid::Fid;
 use reference::interface;
@@ -26,6 +26,8 @@ struct Seen {
     keepers: Coverage<Kept>,
     ways: Coverage<Way>,
     denials: Coverage<Denial>,
+    /// Indices far past the slots of these layouts, and whether an orphan can have the place.
+    far: Coverage<(u32, &'static str)>,
 }
 
 /// Over which other slots, and against what claim, a keeper was chosen.
@@ -81,6 +83,7 @@ impl Seen {
                     Denial::OtherSlot,
                 ],
             ),
+            far: Coverage::of("places far away", far_places()),
         }
     }
 
@@ -92,7 +95,17 @@ impl Seen {
         self.keepers.require(1000);
         self.ways.require(200);
         self.denials.require(200);
+        self.far.require(20);
     }
+}
+
+/// Where an index is far, what there is to be done or in the way.
+fn far_places() -> impl Iterator<Item = (u32, &'static str)> {
+    let ways = ["a file to be made", "a layout to grow", "a plain layout"];
+    let some = FAR
+        .into_iter()
+        .flat_map(move |at| ways.map(|way| (at, way)));
+    some.chain(TOO_FAR.map(|at| (at, "no such slot")))
 }
 
 #[test]
@@ -103,17 +116,17 @@ fn every_position_is_classed_alike() {
     while seen.classes.total() < CLASSES {
         let tables = random_tables(TINY, &mut random);
         let (parents, objects) = to_bytes(&tables, &mut random);
+        let lent = Lent::new(parents, objects);
         let site = Site::new(tables);
         note_keepers(&site, &mut seen);
         note_places(&site, &mut seen);
         for position in Position::all(site.tables()) {
-            let numbers = position.to_numbers();
-            compare(&parents, &objects, numbers, &mut random, &mut seen);
+            compare(&lent, position.to_numbers(), &mut random, &mut seen);
             if let Some(slot) = Indexed::at(&site, position) {
                 seen.indices.met(slot);
             }
         }
-        compare_refusals(parents, objects, &mut random, &mut seen);
+        compare_refusals(lent, &mut random, &mut seen);
     }
     println!(
         "{} classes in {:.1} s",
@@ -124,32 +137,18 @@ fn every_position_is_classed_alike() {
 }
 
 /// Asks both sides for a class and compares the answer and whatever was lent.
-fn compare(
-    parents: &[u8],
-    objects: &[u8],
-    position: [u64; 3],
-    random: &mut Random,
-    seen: &mut Seen,
-) {
+fn compare(lent: &Lent, position: [u64; 3], random: &mut Random, seen: &mut Seen) {
     let room = random.pick(&[4, 4, 4, 4, 4, 4, 5, 6, 3, 0]);
     let places = random.numbers(room);
     let (mut ours, mut theirs) = (places.clone(), places);
-    let lent = (parents.to_vec(), objects.to_vec());
-    let answer = {
-        let (parents, objects) = black_box(&lent);
-        lfsck_sys::class(parents, objects, position, &mut theirs)
-    };
-    let expected = interface::class(parents, objects, position, &mut ours);
+    let answer =
+        lent.to(|parents, objects| lfsck_sys::class(parents, objects, position, &mut theirs));
+    let expected = interface::class(&lent.parents, &lent.objects, position, &mut ours);
     assert_eq!(
         (answer, &theirs),
         (expected, &ours),
         "class at {position:?} of {}",
-        describe(parents, objects)
-    );
-    let (parents_after, objects_after) = black_box(&lent);
-    assert!(
-        parents_after == parents && objects_after == objects,
-        "tables changed"
+        lent.describe()
     );
     seen.answers.met(answer);
     match answer {
@@ -161,21 +160,21 @@ fn compare(
 }
 
 /// A position that is not there, and tables that do not pass the check.
-fn compare_refusals(
-    mut parents: Vec<u8>,
-    mut objects: Vec<u8>,
-    random: &mut Random,
-    seen: &mut Seen,
-) {
+fn compare_refusals(lent: Lent, random: &mut Random, seen: &mut Seen) {
     let row = random.below(4) as u64;
-    let part = random.pick(&[0, 1, 2, 4, 161, u64::MAX]);
+    let part = random.pick(&[0, 1, 2, 4, MOST_SLOTS as u64 + 1, u64::MAX]);
     let position = [random.below(5) as u64, row, part];
-    compare(&parents, &objects, position, random, seen);
-    if !damage(&mut parents, &mut objects, random) {
-        return;
+    compare(&lent, position, random, seen);
+    let Lent {
+        mut parents,
+        mut objects,
+        ..
+    } = lent;
+    if damage(&mut parents, &mut objects, random) {
+        let damaged = Lent::new(parents, objects);
+        compare(&damaged, position, random, seen);
+        compare(&damaged, [1, 0, 0], random, seen);
     }
-    compare(&parents, &objects, position, random, seen);
-    compare(&parents, &objects, [1, 0, 0], random, seen);
 }
 
 /// Counts how the keeper of each object that a slot names was chosen.
@@ -226,10 +225,25 @@ fn note_places(site: &Site, seen: &mut Seen) {
         let class = Class::at(site, Position::Object { row });
         let claim = object.as_ref().and_then(|object| object.claim);
         if let (Some(Class::Orphan | Class::Conflict), Some(claim)) = (class, claim) {
-            match way_to(site, claim) {
+            let way = way_to(site, claim);
+            match way {
                 Ok(way) => seen.ways.met(way),
                 Err(denial) => seen.denials.met(denial),
             }
+            if FAR.contains(&claim.index) || TOO_FAR.contains(&claim.index) {
+                seen.far.met((claim.index, far_place(way)));
+            }
         }
+    }
+}
+
+/// A way to a place that is far past the slots of a layout, in words.
+fn far_place(way: Result<Way, Denial>) -> &'static str {
+    match way {
+        Ok(Way::MakeParent) => "a file to be made",
+        Ok(Way::Grow) => "a layout to grow",
+        Err(Denial::Plain) => "a plain layout",
+        Err(Denial::Index) => "no such slot",
+        other => panic!("{other:?} of a place that is far away"),
     }
 }

@@ -1,9 +1,10 @@
 //! The classes from a position on, in one call: with any room, from positions that are there and
 //! from others, and beside the class that is asked at each position alone.
 
-use difftest::tables::{TINY, damage, describe, random_tables, to_bytes};
+use difftest::tables::{self, TINY, damage, random_tables, to_bytes};
 use difftest::{Coverage, Random};
 use numbers::call::{CLASS, CLASSES};
+use numbers::layout::MOST_SLOTS;
 use reference::interface;
 use reference::position::Position;
 
@@ -85,45 +86,50 @@ fn classes_are_listed_alike() {
     let mut seen = Seen::nothing();
     for _ in 0..TABLES {
         let tables = random_tables(TINY, &mut random);
-        let (mut parents, mut objects) = to_bytes(&tables, &mut random);
+        let (parents, objects) = to_bytes(&tables, &mut random);
+        let rows = tables::Lent::new(parents, objects);
         let positions: Vec<[u64; 3]> = Position::all(&tables).map(Position::to_numbers).collect();
-        compare_whole(&parents, &objects, &positions, &mut random, &mut seen);
-        compare_in_a_row(&parents, &objects, &positions, &mut random, &mut seen);
+        compare_whole(&rows, &positions, &mut random, &mut seen);
+        compare_in_a_row(&rows, &positions, &mut random, &mut seen);
         for _ in 0..3 {
             let lent = random_lent(&positions, &mut random);
-            compare(&parents, &objects, lent, &mut seen);
+            compare(&rows, lent, &mut seen);
         }
+        let tables::Lent {
+            mut parents,
+            mut objects,
+            ..
+        } = rows;
         if damage(&mut parents, &mut objects, &mut random) {
             let lent = random_lent(&positions, &mut random);
-            compare(&parents, &objects, lent, &mut seen);
+            compare(&tables::Lent::new(parents, objects), lent, &mut seen);
         }
     }
     seen.require();
 }
 
 /// Asks both sides and compares the answer and whatever was lent; gives both.
-fn compare(parents: &[u8], objects: &[u8], lent: Lent, seen: &mut Seen) -> (u32, Lent) {
+fn compare(rows: &tables::Lent, lent: Lent, seen: &mut Seen) -> (u32, Lent) {
     let (mut ours, mut theirs) = (lent.clone(), lent.clone());
-    let tables = (parents.to_vec(), objects.to_vec());
     let Lent {
         position,
         out,
         done,
     } = &mut theirs;
-    let answer = lfsck_sys::classes(&tables.0, &tables.1, position, out, done);
+    let answer =
+        rows.to(|parents, objects| lfsck_sys::classes(parents, objects, position, out, done));
     let Lent {
         position,
         out,
         done,
     } = &mut ours;
-    let expected = interface::classes(parents, objects, position, out, done);
+    let expected = interface::classes(&rows.parents, &rows.objects, position, out, done);
     assert_eq!(
         (answer, &theirs),
         (expected, &ours),
         "{lent:?} of {}",
-        describe(parents, objects)
+        rows.describe()
     );
-    assert!(tables.0 == parents && tables.1 == objects, "tables changed");
     seen.answers.met(answer);
     match answer {
         0 => seen.told(&lent, &theirs),
@@ -141,7 +147,7 @@ fn compare(parents: &[u8], objects: &[u8], lent: Lent, seen: &mut Seen) -> (u32,
 /// Anything to lend: mostly a position that is there and a place for the number told.
 fn random_lent(positions: &[[u64; 3]], random: &mut Random) -> Lent {
     let mut position = if random.one_in(4) {
-        let part = random.pick(&[0, 1, 2, 4, 161, u64::MAX]);
+        let part = random.pick(&[0, 1, 2, 4, MOST_SLOTS as u64 + 1, u64::MAX]);
         vec![random.below(5) as u64, random.below(4) as u64, part]
     } else {
         random.pick(positions).to_vec()
@@ -162,8 +168,7 @@ fn random_lent(positions: &[[u64; 3]], random: &mut Random) -> Lent {
 
 /// One call from the start with room for all: the class that is asked at each position alone.
 fn compare_whole(
-    parents: &[u8],
-    objects: &[u8],
+    rows: &tables::Lent,
     positions: &[[u64; 3]],
     random: &mut Random,
     seen: &mut Seen,
@@ -175,20 +180,20 @@ fn compare_whole(
         out: random.numbers(CLASS * count + rest),
         done: random.numbers(1),
     };
-    let (answer, told) = compare(parents, objects, lent, seen);
+    let (answer, told) = compare(rows, lent, seen);
     assert_eq!((answer, told.done[0]), (0, count as u64));
     assert_eq!(told.position, [3, 0, 0]);
     for (&position, class) in positions[..count].iter().zip(told.out.chunks(CLASS)) {
         let mut alone = [0; CLASS];
-        assert_eq!(lfsck_sys::class(parents, objects, position, &mut alone), 0);
+        let answer = lfsck_sys::class(&rows.parents, &rows.objects, position, &mut alone);
+        assert_eq!(answer, 0);
         assert_eq!(class, alone, "class at {position:?}");
     }
 }
 
 /// Calls in a row, each from where the last one left off: what one call tells.
 fn compare_in_a_row(
-    parents: &[u8],
-    objects: &[u8],
+    rows: &tables::Lent,
     positions: &[[u64; 3]],
     random: &mut Random,
     seen: &mut Seen,
@@ -203,7 +208,7 @@ fn compare_in_a_row(
             out: random.numbers(room),
             done: random.numbers(1),
         };
-        let (answer, after) = compare(parents, objects, lent, seen);
+        let (answer, after) = compare(rows, lent, seen);
         assert_eq!(answer, 0);
         told.extend_from_slice(&after.out[..CLASS * after.done[0] as usize]);
         assert_eq!(after.position, positions[told.len() / CLASS]);
@@ -211,6 +216,7 @@ fn compare_in_a_row(
     }
     let mut whole = vec![0; CLASS * count];
     let (mut start, mut done) = (positions[0], [0]);
+    let (parents, objects) = (&rows.parents, &rows.objects);
     let answer = lfsck_sys::classes(parents, objects, &mut start, &mut whole, &mut done);
     assert_eq!((answer, done), (0, [count as u64]));
     assert_eq!(told, whole);

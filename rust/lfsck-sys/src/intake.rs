@@ -25,7 +25,7 @@ unsafe extern "C" {
 }
 
 /// Reads the next piece of a dump, at most 65,536 bytes, and fills a row for each entry that it
-/// closes. The state is 4,096 bytes, all zero to begin; `owners` is the whole owners file. With
+/// closes. The state is 48,256 bytes, all zero to begin; `owners` is the whole owners file. With
 /// 33 to 37 the line is written to `out`, 1 number. Answers 0, 11, 16, 17 or 33 to 37.
 pub fn intake_feed(
     state: &mut [u8],

@@ -9,6 +9,12 @@ pub const MOST_SLOTS: usize = 2_000;
 pub const LAST_OST: u32 = 65_535;
 /// The bytes of one slot.
 pub const SLOT_BYTES: usize = 24;
+/// The bytes before the slots, version 1.
+const HEADER_ONE: usize = 32;
+/// The bytes before the slots, version 3.
+const HEADER_THREE: usize = 48;
+/// The bytes of the longest layout: version 3 with the most slots.
+pub const MOST_BYTES: usize = HEADER_THREE + SLOT_BYTES * MOST_SLOTS;
 
 const MAGIC_ONE: u32 = 0x0BD1_0BD0;
 const MAGIC_THREE: u32 = 0x0BD3_0BD0;
@@ -89,8 +95,8 @@ impl Version {
     /// The bytes of the header.
     pub fn header_bytes(self) -> usize {
         match self {
-            Version::One => 32,
-            Version::Three(_) => 48,
+            Version::One => HEADER_ONE,
+            Version::Three(_) => HEADER_THREE,
         }
     }
 }
@@ -199,7 +205,7 @@ impl Layout {
             Version::One => MAGIC_ONE,
             Version::Three(_) => MAGIC_THREE,
         };
-        let mut bytes = Vec::with_capacity(48 + SLOT_BYTES * self.slots.len());
+        let mut bytes = Vec::with_capacity(HEADER_THREE + SLOT_BYTES * self.slots.len());
         bytes.extend(magic.to_le_bytes());
         bytes.extend(self.pattern().to_le_bytes());
         bytes.extend(self.own_id.to_le_bytes());
@@ -312,12 +318,16 @@ mod tests {
     }
 
     #[test]
-    fn slots_are_160_at_most() {
-        let mut layout = layout_of_e2();
-        layout.slots = vec![layout.slots[0]; 160];
-        assert_eq!(Layout::parse(&layout.encode()), Ok(layout.clone()));
-        layout.slots.push(layout.slots[0]);
-        assert_eq!(Layout::parse(&layout.encode()), Err(Fault::Count));
+    fn slots_are_2000_at_most() {
+        for (version, bytes) in [(Version::One, 48_032), (Version::Three([7; 16]), 48_048)] {
+            let mut layout = layout_of_e2();
+            layout.version = version;
+            layout.slots = vec![layout.slots[0]; 2_000];
+            assert_eq!(layout.encode().len(), bytes);
+            assert_eq!(Layout::parse(&layout.encode()), Ok(layout.clone()));
+            layout.slots.push(layout.slots[0]);
+            assert_eq!(Layout::parse(&layout.encode()), Err(Fault::Count));
+        }
     }
 
     #[test]

@@ -35,6 +35,8 @@ pub struct Site {
     named_by: BTreeMap<Fid, BTreeSet<Place>>,
     written_parents: BTreeSet<usize>,
     written_objects: BTreeSet<usize>,
+    /// The files in whose place others were put, as they were at first.
+    replaced: BTreeMap<usize, Parent>,
 }
 
 impl Site {
@@ -50,6 +52,7 @@ impl Site {
             named_by: BTreeMap::new(),
             written_parents: BTreeSet::new(),
             written_objects: BTreeSet::new(),
+            replaced: BTreeMap::new(),
         };
         for (row, parent) in tables.parents.into_iter().enumerate() {
             if let Some(parent) = parent {
@@ -73,6 +76,7 @@ impl Site {
                     places.remove(&place);
                 }
             }
+            self.replaced.entry(row).or_insert(before);
         }
         for (place, stripe) in named_in(row, &parent) {
             self.named_by
@@ -83,6 +87,12 @@ impl Site {
         self.parent_rows.insert(parent.fid, row);
         self.tables.parents[row] = Some(parent);
         self.written_parents.insert(row);
+    }
+
+    /// The files in whose place others were put since this was last asked, by their rows and as
+    /// they were then.
+    pub fn take_replaced(&mut self) -> BTreeMap<usize, Parent> {
+        std::mem::take(&mut self.replaced)
     }
 
     /// Puts an object in a row, or nothing, in place of the one that stands there.

@@ -37,22 +37,21 @@ pub fn step(
     policy: Policy,
     reserve: &[Fid],
 ) -> Result<Option<Class>, Stop> {
-    let before = site.tables().parents.clone();
     let repaired = repair(site, position, policy, reserve)?;
-    raise_generations(site, &before);
+    raise_generations(site);
     Ok(repaired)
 }
 
 /// Every file that was there before a step and has other slots after it, or another number of
 /// them, gets the next generation.
-fn raise_generations(site: &mut Site, before: &[Option<Parent>]) {
-    for (row, parent) in before.iter().enumerate() {
-        let Some(parent) = parent else { continue };
+fn raise_generations(site: &mut Site) {
+    for (row, parent) in site.take_replaced() {
         let after = site.parent(row).map(|parent| &parent.layout.slots);
         if after != Some(&parent.layout.slots) {
             change_parent(site, row, |parent| parent.layout.raise_generation());
         }
     }
+    site.take_replaced();
 }
 
 /// The repair of the class at a position, without the generations.

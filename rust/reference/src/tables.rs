@@ -1,11 +1,11 @@
 //! The two tables: files with their layouts, and objects.
 
 use crate::fid::Fid;
-use crate::layout::Layout;
+use crate::layout::{self, Layout};
 use crate::take;
 
-/// The bytes of a parent row.
-pub const PARENT_BYTES: usize = 48_075;
+/// The bytes of a parent row, its room as long as the longest layout.
+pub const PARENT_BYTES: usize = LAYOUT_AT + layout::MOST_BYTES;
 /// The bytes of an object row.
 pub const OBJECT_BYTES: usize = 46;
 /// The bytes of a reserve entry.
@@ -126,5 +126,16 @@ impl Object {
         bytes.extend(claim.to_bytes());
         bytes.push(self.fresh.into());
         row.copy_from_slice(&bytes);
+    }
+}
+
+#[cfg(test)]
+mod tests {
+    use super::*;
+
+    #[test]
+    fn a_row_is_as_the_paper_counts_it() {
+        assert_eq!(layout::MOST_BYTES, 48_048);
+        assert_eq!(PARENT_BYTES, 48_075);
     }
 }

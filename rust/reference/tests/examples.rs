@@ -296,25 +296,28 @@ fn e9_without_create_the_orphan_is_in_conflict() {
 }
 
 #[test]
-fn e10_an_absent_parent_is_made_up_to_index_159() {
+fn e10_an_absent_parent_is_made_up_to_index_1999() {
     let claiming = |index| {
         Tables::default()
             .unused_parent()
             .object(C, Some((P, index)))
     };
-    let mut tables = claiming(159);
-    assert_eq!(tables.class(2, 0, 0), bare(ORPHAN));
-    assert_eq!(tables.run(2, &[]), Run::to_end(2, repairs(0, 0, 1)));
-    let slots = tables.named(0);
-    assert_eq!(slots.len(), 160);
-    assert_eq!(slots[159], Some(C));
-    assert!(slots[..159].iter().all(Option::is_none));
-
-    let mut tables = claiming(160);
-    let before = tables.clone();
-    assert_eq!(tables.class(2, 0, 0), bare(CONFLICT));
-    assert_eq!(tables.run(2, &[]), Run::to_end(2, [0; 9]));
-    assert_eq!(tables, before);
+    for index in [159, 160, 1_999] {
+        let mut tables = claiming(index);
+        assert_eq!(tables.class(2, 0, 0), bare(ORPHAN));
+        assert_eq!(tables.run(2, &[]), Run::to_end(2, repairs(0, 0, 1)));
+        let slots = tables.named(0);
+        assert_eq!(slots.len() as u32, index + 1);
+        assert_eq!(slots.last(), Some(&Some(C)));
+        assert_eq!(slots.iter().flatten().count(), 1);
+    }
+    for index in [2_000, 2_001] {
+        let mut tables = claiming(index);
+        let before = tables.clone();
+        assert_eq!(tables.class(2, 0, 0), bare(CONFLICT));
+        assert_eq!(tables.run(2, &[]), Run::to_end(2, [0; 9]));
+        assert_eq!(tables, before);
+    }
 }
 
 #[test]

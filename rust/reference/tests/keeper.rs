@@ -181,7 +181,7 @@ fn an_index_at_the_count_has_no_slot() {
         found(&claiming(2), A),
         (Claimed::AtCount, [0, 2, 0], second)
     );
-    for index in [3, 160, u32::MAX] {
+    for index in [3, 1_999, 2_000, u32::MAX] {
         let expected = (Claimed::PastCount, [0, 2, 0], second);
         assert_eq!(found(&claiming(index), A), expected);
     }

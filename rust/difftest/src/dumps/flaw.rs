@@ -72,6 +72,15 @@ impl Flaw {
         Flaw::NoRow,
     ];
 
+    /// Any of them; one with a long line rarely.
+    pub fn any(random: &mut Random) -> Flaw {
+        let flaw = random.pick(&Flaw::ALL);
+        if flaw == Flaw::LongLov && !random.one_in(8) {
+            return Flaw::any(random);
+        }
+        flaw
+    }
+
     /// The number that it has alone.
     pub fn number(self) -> u32 {
         match self {

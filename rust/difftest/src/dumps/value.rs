@@ -10,9 +10,10 @@ use numbers::intake::ROOM;
 pub fn line(name: &str, value: &[u8], traits: &mut Vec<Trait>, random: &mut Random) -> Vec<u8> {
     let mut line = format!("trusted.{name}=0x").into_bytes();
     let case = random.below(3);
+    line.reserve(2 * value.len());
     for byte in value {
-        let digits = format!("{byte:02x}");
-        line.extend(digits.bytes().map(|digit| match case {
+        let digits = [byte >> 4, byte & 15].map(|digit| b"0123456789abcdef"[usize::from(digit)]);
+        line.extend(digits.map(|digit| match case {
             0 => digit,
             1 => digit.to_ascii_uppercase(),
             _ if random.one_in(2) => digit.to_ascii_uppercase(),
@@ -49,11 +50,11 @@ pub fn claim(traits: &mut Vec<Trait>, random: &mut Random) -> Vec<u8> {
 /// A layout that can be read, or any bytes.
 pub fn layout(traits: &mut Vec<Trait>, random: &mut Random) -> Vec<u8> {
     match random.below(40) {
-        0 => {
+        0 if random.one_in(10) => {
             traits.push(Trait::FullLov);
             random.bytes(ROOM)
         }
-        1..4 => {
+        0..4 => {
             traits.push(Trait::EmptyLov);
             Vec::new()
         }

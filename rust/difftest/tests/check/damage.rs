@@ -1,7 +1,8 @@
 //! Damages to a case, each of one field.
 
-use super::Case;
+use super::{COUNTS, Case, LENGTHS};
 use difftest::Random;
+use numbers::layout::MOST_SLOTS;
 use reference::fid::FIRST_SEQUENCE;
 use reference::layout::SLOT_BYTES;
 use reference::tables::{LAYOUT_AT, OBJECT_BYTES, PARENT_BYTES, RESERVE_BYTES};
@@ -148,16 +149,13 @@ impl Damage {
             ParentGid => random.fill(&mut row[21..25]),
             LayoutLength => {
                 let length = u16::from_le_bytes([row[25], row[26]]);
-                let other = random.pick(&[
-                    0,
-                    1,
-                    length.wrapping_sub(1),
-                    length.wrapping_add(1),
-                    length ^ 256,
-                    3888,
-                    3889,
-                    u16::MAX,
-                ]);
+                let near = [length.wrapping_sub(1), length.wrapping_add(1), length ^ 256];
+                let bounds = LENGTHS.map(|bound| bound as u16);
+                let other = match random.below(3) {
+                    0 => random.pick(&[0, 1, u16::MAX]),
+                    1 => random.pick(&near),
+                    _ => random.pick(&bounds),
+                };
                 put(row, 25, &other.to_le_bytes());
                 (other != length).then_some(())?;
             }
@@ -193,13 +191,12 @@ impl Damage {
             StripeSize => random.fill(&mut room[24..28]),
             StripeCount => {
                 let count = u16::from_le_bytes([room[28], room[29]]);
-                let other = random.pick(&[
-                    count.wrapping_sub(1),
-                    count.wrapping_add(1),
-                    count ^ 256,
-                    160,
-                    161,
-                ]);
+                let near = [count.wrapping_sub(1), count.wrapping_add(1), count ^ 256];
+                let bounds = COUNTS.map(|bound| bound as u16);
+                let other = match random.below(2) {
+                    0 => random.pick(&near),
+                    _ => random.pick(&bounds),
+                };
                 put(room, 28, &other.to_le_bytes());
             }
             LayoutGeneration => random.fill(&mut room[30..32]),
@@ -308,9 +305,9 @@ impl Damage {
             _ => {
                 *part = match (*stage, random.below(3)) {
                     (1, 0) => parts_of(&case.parents, *row)?,
-                    (1, 1) => 161 + random.below(3) as u64,
+                    (1, 1) => (MOST_SLOTS + 1 + random.below(3)) as u64,
                     (2 | 3, 0) => 1,
-                    (2 | 3, 1) => 1 + random.below(161) as u64,
+                    (2 | 3, 1) => 1 + random.below(MOST_SLOTS + 1) as u64,
                     _ => random.pick(&far) | *part,
                 };
             }

@@ -4,12 +4,11 @@ use std::time::Instant;
 
 use super::damage::put;
 use super::{Case, OfTables, compare_check, compare_tables};
-use difftest::Random;
 use difftest::tables::OBJECTS;
 use reference::check::{MOST_OBJECTS, MOST_PARENTS, MOST_RESERVE};
 use reference::fid::Fid;
 use reference::interface;
-use reference::layout::{Layout, Stripe, Version};
+use reference::layout::{Layout, MOST_SLOTS, SLOT_BYTES, Stripe, Version};
 use reference::tables::{
     LAYOUT_AT, OBJECT_BYTES, Object, Owner, PARENT_BYTES, Parent, RESERVE_BYTES,
 };
@@ -18,15 +17,19 @@ use reference::tables::{
 fn full_tables_are_checked_alike() {
     let started = Instant::now();
     let full = full_case();
-    assert_eq!(full.parents.len(), 1024 * 3915);
+    assert_eq!(full.parents.len(), 1024 * 48_075);
     assert_eq!(full.objects.len(), 65_536 * 46);
     assert_eq!(full.reserve.len(), 65_536 * 16);
     expect_answer(&full, 0, "full tables");
     compare_start_and_steps(&full, 0);
+    let mut steps = [0];
+    assert_eq!(
+        lfsck_sys::steps(&full.parents, &full.objects, &mut steps),
+        0
+    );
+    assert_eq!(steps, [1024 * 2_001 + 65_536]);
 
-    let mut last = full.clone();
-    put(&mut last.parents, 1023 * 3915 + LAYOUT_AT, &[0; 4]);
-    expect_answer(&last, 13, "bad layout in the last parent row");
+    expect_bad_last_file(&full);
 
     let mut last = full.clone();
     put(&mut last.objects, 65_535 * 46 + 17, &[255; 4]);
@@ -41,13 +44,29 @@ fn full_tables_are_checked_alike() {
     expect_answer(&last, 15, "the first object's FID in the last row");
 
     let mut last = full.clone();
-    last.parents.copy_within(1..17, 1023 * 3915 + 1);
-    expect_answer(&last, 15, "the first parent's FID in the last row");
-
-    let mut last = full.clone();
     last.position = [2, 65_536, 0];
     expect_answer(&last, 16, "a position past the last object row");
     println!("full tables in {:.1} s", started.elapsed().as_secs_f64());
+}
+
+/// The last parent row with a bad layout, a bad last slot and the FID of the first.
+fn expect_bad_last_file(full: &Case) {
+    let mut last = full.clone();
+    put(&mut last.parents, 1023 * PARENT_BYTES + LAYOUT_AT, &[0; 4]);
+    expect_answer(&last, 13, "bad layout in the last parent row");
+
+    let mut last = full.clone();
+    let slot = last.parents.len() - SLOT_BYTES;
+    put(&mut last.parents, slot + 20, &[255; 4]);
+    expect_answer(
+        &last,
+        13,
+        "bad OST index in the last slot of the last parent row",
+    );
+
+    let mut last = full.clone();
+    last.parents.copy_within(1..17, 1023 * PARENT_BYTES + 1);
+    expect_answer(&last, 15, "the first parent's FID in the last row");
 }
 
 #[test]
@@ -105,11 +124,12 @@ fn tables_without_rows_are_checked_alike() {
 
 /// Library and reference answer what the paper says.
 fn expect_answer(case: &Case, answer: u32, what: &str) {
-    assert_eq!(compare_check(case), answer, "{what}");
+    assert_eq!(compare_check(case, &case.clone()), answer, "{what}");
 }
 
 fn compare_start_and_steps(case: &Case, answer: u32) {
-    let mut random = Random::new(1);
+    let lent = case.clone();
+    let both = (case, &lent);
     for (needed, library, reference) in [
         (
             3,
@@ -118,7 +138,7 @@ fn compare_start_and_steps(case: &Case, answer: u32) {
         ),
         (1, lfsck_sys::steps, interface::steps),
     ] {
-        let got = compare_tables(case, 4, needed, library, reference, &mut random);
+        let got = compare_tables(both, &[7; 4], needed, library, reference);
         assert_eq!(got, answer, "{needed} numbers of {}", case.describe());
     }
 }
@@ -148,7 +168,7 @@ fn full_parent(row: u32) -> Parent {
     let fid = Fid::new(0x2_0000_0401, row + 1);
     let stripe = |slot| {
         Some(Stripe {
-            object: Fid::new(0x2_4000_0400, 160 * row + slot + 1),
+            object: Fid::new(0x2_4000_0400, MOST_SLOTS as u32 * row + slot + 1),
             generation: 0,
             ost: slot,
         })
@@ -163,7 +183,7 @@ fn full_parent(row: u32) -> Parent {
             own_sequence: fid.sequence,
             stripe_size: 1_048_576,
             generation: 0,
-            slots: (0..160).map(stripe).collect(),
+            slots: (0..MOST_SLOTS as u32).map(stripe).collect(),
         },
     }
 }
@@ -171,7 +191,7 @@ fn full_parent(row: u32) -> Parent {
 fn full_object(row: u32) -> Object {
     Object {
         fid: Fid::new(0x2_4000_0400, row + 1),
-        ost: row % 160,
+        ost: row % MOST_SLOTS as u32,
         owner: Owner { uid: 0, gid: 0 },
         claim: None,
         fresh: false,

@@ -8,8 +8,10 @@ use std::hint::black_box;
 use std::time::Instant;
 
 use damage::Damage;
-use difftest::tables::{OBJECTS, Shape, random_tables, to_bytes};
+use difftest::tables::{OBJECTS, Shape, describe, random_tables, to_bytes};
 use difftest::{Coverage, Random};
+use numbers::layout::{COUNT_AT, HEADER_ONE, MOST_BYTES, MOST_SLOTS, SLOT_BYTES};
+use numbers::parent;
 use reference::check::{Faults, faults};
 use reference::interface;
 use reference::position::Position;
@@ -47,7 +49,18 @@ struct Seen {
     damages: Coverage<Damage>,
     positions: Coverage<&'static str>,
     policies: Coverage<u64>,
+    /// Lengths and slot counts in used rows, at the bounds.
+    bounds: Coverage<(&'static str, usize)>,
 }
+
+/// Lengths at the bounds: the longest layouts of both versions, and one that is too long.
+const LENGTHS: [usize; 3] = [
+    HEADER_ONE + SLOT_BYTES * MOST_SLOTS,
+    MOST_BYTES,
+    MOST_BYTES + 1,
+];
+/// Slot counts at the bound, and at one that is none.
+const COUNTS: [usize; 5] = [160, 161, MOST_SLOTS - 1, MOST_SLOTS, MOST_SLOTS + 1];
 
 impl Seen {
     fn nothing() -> Seen {
@@ -63,6 +76,31 @@ impl Seen {
             damages: Coverage::of("damages alone", Damage::ALL.iter().copied()),
             positions: Coverage::of("good positions", places),
             policies: Coverage::of("good policies", 0..=3),
+            bounds: Coverage::of(
+                "numbers of rows at the bounds",
+                LENGTHS
+                    .map(|length| ("length", length))
+                    .into_iter()
+                    .chain(COUNTS.map(|count| ("slots", count))),
+            ),
+        }
+    }
+
+    /// Counts the lengths and slot counts of used rows that are at the bounds.
+    fn note_bounds(&mut self, case: &Case) {
+        let rows = case.parents.chunks_exact(parent::BYTES);
+        for row in rows.filter(|row| row[0] == 1) {
+            let number = |at: usize| usize::from(u16::from_le_bytes([row[at], row[at + 1]]));
+            let (length, count) = (
+                number(parent::LENGTH_AT),
+                number(parent::LAYOUT_AT + COUNT_AT),
+            );
+            if LENGTHS.contains(&length) {
+                self.bounds.met(("length", length));
+            }
+            if COUNTS.contains(&count) {
+                self.bounds.met(("slots", count));
+            }
         }
     }
 
@@ -75,6 +113,7 @@ impl Seen {
         self.damages.require(100);
         self.positions.require(100);
         self.policies.require(100);
+        self.bounds.require(20);
     }
 }
 
@@ -100,6 +139,7 @@ fn small_tables_are_checked_alike() {
                 }
             }
         }
+        seen.note_bounds(&case);
         compare(&case, &mut random, &mut seen);
     }
     println!(
@@ -119,7 +159,8 @@ fn expect(case: &Case, number: Option<u32>, what: impl std::fmt::Debug) {
 // Comparisons. Each lends the same to both sides and compares the answer and whatever was lent.
 
 fn compare(case: &Case, random: &mut Random, seen: &mut Seen) {
-    let answer = compare_check(case);
+    let lent = case.clone();
+    let answer = compare_check(case, &lent);
     seen.check.met(answer);
     let numbers = case.faults();
     for &other in &numbers {
@@ -128,8 +169,10 @@ fn compare(case: &Case, random: &mut Random, seen: &mut Seen) {
         }
     }
     let room = random.below(6);
-    let start = compare_tables(case, room, 3, lfsck_sys::start, interface::start, random);
-    let steps = compare_tables(case, room, 1, lfsck_sys::steps, interface::steps, random);
+    let places = random.numbers(room);
+    let both = (case, &lent);
+    let start = compare_tables(both, &places, 3, lfsck_sys::start, interface::start);
+    let steps = compare_tables(both, &places, 1, lfsck_sys::steps, interface::steps);
     seen.start.met(start);
     seen.steps.met(steps);
     if room == 0 && start < 17 {
@@ -137,10 +180,10 @@ fn compare(case: &Case, random: &mut Random, seen: &mut Seen) {
     }
 }
 
-fn compare_check(case: &Case) -> u32 {
-    let lent = case.clone();
+/// The second case is a copy of the first, and is lent.
+fn compare_check(case: &Case, lent: &Case) -> u32 {
     let answer = {
-        let lent = black_box(&lent);
+        let lent = black_box(lent);
         lfsck_sys::check(
             &lent.parents,
             &lent.objects,
@@ -157,25 +200,23 @@ fn compare_check(case: &Case) -> u32 {
         case.position,
     );
     assert_eq!(answer, expected, "check of {}", case.describe());
-    assert!(black_box(&lent) == case, "the check changed its input");
+    assert!(black_box(lent) == case, "the check changed its input");
     answer
 }
 
 type OfTables = fn(&[u8], &[u8], &mut [u64]) -> u32;
 
+/// The second case is a copy of the first, and is lent with these places.
 fn compare_tables(
-    case: &Case,
-    room: usize,
+    (case, lent): (&Case, &Case),
+    places: &[u64],
     needed: usize,
     library: OfTables,
     reference: OfTables,
-    random: &mut Random,
 ) -> u32 {
-    let places = random.numbers(room);
-    let (mut ours, mut theirs) = (places.clone(), places);
-    let lent = case.clone();
+    let (mut ours, mut theirs) = (places.to_vec(), places.to_vec());
     let answer = {
-        let lent = black_box(&lent);
+        let lent = black_box(lent);
         library(&lent.parents, &lent.objects, &mut theirs)
     };
     let expected = reference(&case.parents, &case.objects, &mut ours);
@@ -185,7 +226,7 @@ fn compare_tables(
         "{needed} numbers of {}",
         case.describe()
     );
-    assert!(black_box(&lent) == case, "tables changed");
+    assert!(black_box(lent) == case, "tables changed");
     answer
 }
 
@@ -202,11 +243,14 @@ impl Case {
 
     /// The case for a message; large tables only by their lengths.
     fn describe(&self) -> String {
-        if self.parents.len() + self.objects.len() > 100_000 {
+        let (policy, position) = (self.policy, self.position);
+        if self.parents.len() > 16 * parent::BYTES {
             let lengths = [self.parents.len(), self.objects.len(), self.reserve.len()];
-            return format!("tables of {lengths:?} bytes at {:?}", self.position);
+            return format!("tables of {lengths:?} bytes at {position:?}");
         }
-        format!("{self:02x?}")
+        let tables = describe(&self.parents, &self.objects);
+        let reserve = &self.reserve;
+        format!("{tables}, reserve {reserve:02x?}, policy {policy}, at {position:?}")
     }
 }
 

@@ -3,7 +3,7 @@
 
 use difftest::dumps::Dump;
 use difftest::{Coverage, Random};
-use numbers::intake::STATE;
+use numbers::intake::{MOST_PIECE, ROOM, STATE};
 use numbers::{object, parent};
 
 use crate::random_dump;
@@ -30,9 +30,9 @@ const EDGES: [u64; 24] = [
     34,
     37,
     38,
-    3888,
-    3889,
-    3890,
+    ROOM as u64,
+    ROOM as u64 + 1,
+    ROOM as u64 + 2,
     u32::MAX as u64,
     (1 << 63) - 1,
     1 << 63,
@@ -107,9 +107,11 @@ impl<'dump> Call<'dump> {
         }
     }
 
-    /// After a piece.
-    fn after(mut self, piece: &[u8]) -> Call<'dump> {
-        self.feed(piece);
+    /// After these bytes, in pieces as long as they may be.
+    fn after(mut self, bytes: &[u8]) -> Call<'dump> {
+        for piece in bytes.chunks(MOST_PIECE) {
+            self.feed(piece);
+        }
         self
     }
 
@@ -141,7 +143,9 @@ fn states_of_any_bytes_do_no_harm() {
     let mut past = 0;
     for _ in 0..STATES {
         let dump = random_dump(&mut random);
+        // The rest is one piece.
         let from = random.below(dump.text.len() + 1);
+        let from = from.max(dump.text.len().saturating_sub(MOST_PIECE));
         let mut call = Call::begin(&dump).after(&dump.text[..from]);
         let change = random.pick(&Change::ALL);
         change.make(&mut call.state, &mut random);

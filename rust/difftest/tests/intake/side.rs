@@ -17,12 +17,27 @@ pub struct Both<'dump> {
     ours: Tables,
     theirs: Tables,
     state: Vec<u8>,
+    /// What a reading that has stopped left, state and tables.
+    stopped: Option<(Vec<u8>, Tables)>,
+    /// What the definition says of the whole dump: its tables and its fault.
+    whole: Option<(Tables, Option<Fault>)>,
 }
 
 #[derive(Clone, Debug, PartialEq)]
 struct Tables {
     parents: Vec<u8>,
     objects: Vec<u8>,
+}
+
+impl Tables {
+    /// That of the files, or that of the objects.
+    fn table(&mut self, files: bool) -> &mut Vec<u8> {
+        if files {
+            &mut self.parents
+        } else {
+            &mut self.objects
+        }
+    }
 }
 
 /// What is lent beside the tables, so that a call can be made to be refused.
@@ -46,7 +61,21 @@ impl<'dump> Both<'dump> {
             ours: tables.clone(),
             theirs: tables,
             state: vec![0; STATE_BYTES],
+            stopped: None,
+            whole: None,
         }
+    }
+
+    /// Nothing was fed yet, again. Gives the dump.
+    pub fn restart(&mut self) -> &'dump Dump {
+        for tables in [&mut self.ours, &mut self.theirs] {
+            tables.parents.clone_from(&self.dump.parents);
+            tables.objects.clone_from(&self.dump.objects);
+        }
+        self.feeding = Feeding::of(&self.dump.text, &self.dump.owners);
+        self.state.fill(0);
+        self.stopped = None;
+        self.dump
     }
 
     /// Whether a row was filled.
@@ -59,11 +88,17 @@ impl<'dump> Both<'dump> {
         let piece = self.dump.text[self.feeding.fed()..][..bytes].to_vec();
         // After a fault, and with a piece that is too long, nothing is to change.
         let quiet = self.feeding.stopped().is_some() || bytes > 65_536;
-        let before = quiet.then(|| (self.state.clone(), self.theirs.clone()));
+        if quiet && self.stopped.is_none() {
+            self.stopped = Some((self.state.clone(), self.theirs.clone()));
+        }
         let answer = self.call(self.dump.owners.len(), &piece, &room(random));
-        if let Some((state, tables)) = before {
-            let unchanged = state == self.state && tables == self.theirs;
+        if let Some((state, tables)) = &self.stopped {
+            let unchanged = state == &self.state && tables == &self.theirs;
             assert!(unchanged, "{answer} and changed: {:?}", self.dump);
+        }
+        // Reading goes on after a piece that was too long.
+        if self.feeding.stopped().is_none() {
+            self.stopped = None;
         }
         answer
     }
@@ -140,9 +175,9 @@ impl<'dump> Both<'dump> {
             }
         }
         seen.refused.met(refused);
-        let after = (self.state.clone(), self.theirs.clone(), self.feeding.fed());
+        let (state, tables, fed) = before;
         assert!(
-            before == after,
+            state == self.state && tables == self.theirs && fed == self.feeding.fed(),
             "{refused:?} changed something: {:?}",
             self.dump
         );
@@ -150,21 +185,26 @@ impl<'dump> Both<'dump> {
 
     /// A table that is 11: not whole rows, or a mark above 1 in some row.
     fn refuse_table(&mut self, random: &mut Random) {
-        let sound = self.theirs.clone();
-        let (table, size) = match random.one_in(2) {
-            true => (&mut self.theirs.parents, parent::BYTES),
-            false => (&mut self.theirs.objects, object::BYTES),
-        };
-        let rows = table.len() / size;
-        match rows > 0 && random.one_in(2) {
-            true => table[random.below(rows) * size] = random.pick(&[2, 128, 255]),
-            false => table.push(0),
+        let files = random.one_in(2);
+        let size = if files { parent::BYTES } else { object::BYTES };
+        let rows = self.theirs.table(files).len() / size;
+        let mark = (rows > 0 && random.one_in(2)).then(|| random.below(rows) * size);
+        let bad = random.pick(&[2, 128, 255]);
+        let mut good = 0;
+        for tables in [&mut self.ours, &mut self.theirs] {
+            match mark {
+                Some(at) => good = std::mem::replace(&mut tables.table(files)[at], bad),
+                None => tables.table(files).push(0),
+            }
         }
-        self.ours = self.theirs.clone();
         let answer = self.call(self.dump.owners.len(), b"", &[]);
         expect_answer(answer, 11);
-        assert!(self.theirs == self.ours, "a refused table changed");
-        (self.ours, self.theirs) = (sound.clone(), sound);
+        for tables in [&mut self.ours, &mut self.theirs] {
+            match mark {
+                Some(at) => tables.table(files)[at] = good,
+                None => assert_eq!(tables.table(files).pop(), Some(0)),
+            }
+        }
     }
 
     /// A state of another length.
@@ -180,24 +220,24 @@ impl<'dump> Both<'dump> {
 
     /// Tables, answer and line after the whole dump are those of the definition on it, whose fault
     /// is handed out.
-    pub fn require_whole(&self) -> Option<Fault> {
-        let (mut parents, mut objects) = (self.dump.parents.clone(), self.dump.objects.clone());
-        let fault = intake::read(
-            &self.dump.text,
-            &self.dump.owners,
-            &mut parents,
-            &mut objects,
-        );
-        let whole = Tables { parents, objects };
-        assert!(whole == self.theirs, "tables of {:?}", self.dump);
-        let fault = fault.err();
+    pub fn require_whole(&mut self) -> Option<&Fault> {
+        let dump = self.dump;
+        let (whole, fault) = self.whole.get_or_insert_with(|| read_whole(dump));
+        assert!(whole == &self.theirs, "tables of {dump:?}");
         let told = fault.as_ref();
         let (answer, line) = told.map_or((0, 7), |fault| (fault.answer, fault.line));
         let mut out = [7];
         assert_eq!(lfsck_sys::intake_end(&self.state, &mut out), answer);
-        assert_eq!(out, [line], "{:?}", self.dump);
-        fault
+        assert_eq!(out, [line], "{dump:?}");
+        told
     }
+}
+
+/// The tables after a dump by the definition, and its fault.
+fn read_whole(dump: &Dump) -> (Tables, Option<Fault>) {
+    let (mut parents, mut objects) = (dump.parents.clone(), dump.objects.clone());
+    let fault = intake::read(&dump.text, &dump.owners, &mut parents, &mut objects).err();
+    (Tables { parents, objects }, fault)
 }
 
 fn library(lent: Lent, tables: &mut Tables) -> u32 {

@@ -6,12 +6,11 @@ mod asked;
 mod limits;
 mod seen;
 
-use std::hint::black_box;
 use std::time::Instant;
 
 use asked::{Asked, bad_fid, known, questions};
 use difftest::Random;
-use difftest::tables::{OBJECTS, Shape, TINY, damage, describe, random_tables, to_bytes};
+use difftest::tables::{Lent, OBJECTS, Shape, TINY, damage, random_tables, to_bytes};
 use numbers::call::KEEPER;
 use reference::check::read_tables;
 use reference::fid::Fid;
@@ -32,13 +31,6 @@ const WIDE: Shape = Shape {
     fids: 10,
 };
 
-/// Both tables as they are lent.
-#[derive(Clone, Copy, Debug)]
-struct Lent<'a> {
-    parents: &'a [u8],
-    objects: &'a [u8],
-}
-
 #[test]
 fn keepers_are_found_alike() {
     let started = Instant::now();
@@ -48,10 +40,7 @@ fn keepers_are_found_alike() {
         let shape = random.pick(&[TINY, TINY, WIDE]);
         let tables = random_tables(shape, &mut random);
         let (parents, objects) = to_bytes(&tables, &mut random);
-        let lent = Lent {
-            parents: &parents,
-            objects: &objects,
-        };
+        let lent = Lent::new(parents, objects);
         let site = Site::new(tables);
         for (asked, fid) in questions(site.tables(), &mut random) {
             let is_short = random.one_in(8);
@@ -60,12 +49,12 @@ fn keepers_are_found_alike() {
             } else {
                 long(&mut random)
             };
-            let told = ask(lent, (asked, fid), room, &mut random, &mut seen);
+            let told = ask(&lent, (asked, fid), room, &mut random, &mut seen);
             if let Some(numbers) = told {
                 hold(&site, fid, numbers, &mut seen);
             }
         }
-        ask_damaged(site.tables(), parents, objects, &mut random, &mut seen);
+        ask_damaged(site.tables(), lent, &mut random, &mut seen);
     }
     let took = started.elapsed().as_secs_f64();
     println!("{} questions in {took:.1} s", seen.questions());
@@ -75,7 +64,7 @@ fn keepers_are_found_alike() {
 /// Asks both sides, compares the answer and whatever was lent, and holds the answer to the order of
 /// the refusals. Gives the numbers that were told.
 fn ask(
-    lent: Lent,
+    lent: &Lent,
     (asked, fid): (Asked, [u64; 2]),
     room: usize,
     random: &mut Random,
@@ -83,7 +72,7 @@ fn ask(
 ) -> Option<[u64; KEEPER]> {
     let places = random.numbers(room);
     let (answer, after) = compare(lent, fid, &places);
-    let (_, faults) = read_tables(lent.parents, lent.objects);
+    let (_, faults) = read_tables(&lent.parents, &lent.objects);
     let fault = faults.first().copied().unwrap_or(0);
     let (is_bad, is_short) = (asked.is_bad(), room < KEEPER);
     assert_eq!(answer, first_of(fault, is_bad, is_short), "{asked:?}");
@@ -116,24 +105,16 @@ fn first_of(fault: u32, is_bad: bool, is_short: bool) -> u32 {
 }
 
 /// The answer of both sides, and what was lent to be written after the call.
-fn compare(lent: Lent, [sequence, id]: [u64; 2], places: &[u64]) -> (u32, Vec<u64>) {
+fn compare(lent: &Lent, [sequence, id]: [u64; 2], places: &[u64]) -> (u32, Vec<u64>) {
     let (mut ours, mut theirs) = (places.to_vec(), places.to_vec());
-    let copy = (lent.parents.to_vec(), lent.objects.to_vec());
-    let answer = {
-        let (parents, objects) = black_box(&copy);
-        lfsck_sys::keeper(parents, objects, sequence, id, &mut theirs)
-    };
-    let expected = interface::keeper(lent.parents, lent.objects, sequence, id, &mut ours);
+    let answer =
+        lent.to(|parents, objects| lfsck_sys::keeper(parents, objects, sequence, id, &mut theirs));
+    let expected = interface::keeper(&lent.parents, &lent.objects, sequence, id, &mut ours);
     assert_eq!(
         (answer, &theirs),
         (expected, &ours),
         "keeper of {sequence:#x}:{id:#x} in {}",
-        words_for(lent)
-    );
-    let (parents, objects) = black_box(&copy);
-    assert!(
-        parents == lent.parents && objects == lent.objects,
-        "tables changed"
+        lent.describe()
     );
     let written = if answer == 0 { KEEPER } else { 0 };
     assert_eq!(
@@ -142,15 +123,6 @@ fn compare(lent: Lent, [sequence, id]: [u64; 2], places: &[u64]) -> (u32, Vec<u6
         "written past the keeper"
     );
     (answer, theirs)
-}
-
-/// The tables for a message; large ones only by their lengths.
-fn words_for(lent: Lent) -> String {
-    let lengths = [lent.parents.len(), lent.objects.len()];
-    if lengths.iter().sum::<usize>() > 100_000 {
-        return format!("tables of {lengths:?} bytes");
-    }
-    describe(lent.parents, lent.objects)
 }
 
 /// What was told is the keeper that the site knows and the length of the walk, within the bound.
@@ -183,27 +155,23 @@ fn slot_count(tables: &Tables) -> usize {
 }
 
 /// Damaged tables, asked for a good FID and for a bad one, with room and without.
-fn ask_damaged(
-    tables: &Tables,
-    mut parents: Vec<u8>,
-    mut objects: Vec<u8>,
-    random: &mut Random,
-    seen: &mut Seen,
-) {
+fn ask_damaged(tables: &Tables, lent: Lent, random: &mut Random, seen: &mut Seen) {
+    let Lent {
+        mut parents,
+        mut objects,
+        ..
+    } = lent;
     if !damage(&mut parents, &mut objects, random) {
         return;
     }
-    let lent = Lent {
-        parents: &parents,
-        objects: &objects,
-    };
+    let lent = Lent::new(parents, objects);
     let known = known(tables);
     let fid = known.first().copied().unwrap_or(OBJECTS[0]);
     let good = (Asked::Known, [fid.sequence, fid.id.into()]);
     let bad = bad_fid(fid, random);
     for question in [good, bad] {
         for room in [short(random), long(random)] {
-            ask(lent, question, room, random, seen);
+            ask(&lent, question, room, random, seen);
         }
     }
 }

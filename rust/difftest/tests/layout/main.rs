@@ -1,5 +1,5 @@
 //! The layout functions of the library and of the reference on random layouts: sound, cut,
-//! stretched and damaged, of both versions and patterns and of 0 to 161 slots.
+//! stretched and damaged, of both versions and patterns and of 0 to 2,001 slots.
 
 mod rewrite;
 mod seen;
@@ -16,7 +16,7 @@ use reference::fid::{FIRST_SEQUENCE, Fid, LAST_SEQUENCE};
 use reference::interface;
 use reference::layout::{Layout, SLOT_BYTES, Stripe, Version};
 use rewrite::compare_rewrite;
-use seen::Seen;
+use seen::{LENGTHS, Seen};
 
 const LAYOUTS: usize = 500_000;
 
@@ -25,9 +25,13 @@ fn layouts_are_read_and_written_alike() {
     let started = Instant::now();
     let mut random = Random::for_test("layout");
     let mut seen = Seen::nothing();
-    for _ in 0..LAYOUTS {
-        let layout = random_layout(&mut random);
-        seen.slot_counts.met(layout.slots.len());
+    // Every number of slots once, then mostly few of them.
+    let counts = (0..=MOST_SLOTS + 1).map(Some);
+    let any = std::iter::repeat(None);
+    for count in counts.chain(any).take(LAYOUTS) {
+        let count = count.unwrap_or_else(|| random_count(&mut random));
+        let layout = random_layout(count, &mut random);
+        seen.slot_counts.met(count);
         let mut bytes = layout.encode();
         let change = if random.one_in(2) {
             Change::None
@@ -61,8 +65,13 @@ fn compare_read(bytes: &[u8], random: &mut Random, seen: &mut Seen) {
     assert_eq!((answer, &theirs), (expected, &ours), "read {bytes:02x?}");
     assert_eq!(black_box(&input), bytes, "read changed the layout");
     seen.read.met(answer);
-    if let Err(rule) = Layout::parse(bytes) {
+    let rule = Layout::parse(bytes).err();
+    if let Some(rule) = rule {
         seen.read_rules.met(rule);
+    }
+    let length = (bytes.len(), if rule.is_none() { "read" } else { "refused" });
+    if LENGTHS.contains(&length) {
+        seen.lengths.met(length);
     }
 }
 
@@ -124,18 +133,25 @@ fn note_write(numbers: &LayoutNumbers, short: bool, placeless: bool, answer: u32
 
 // Random layouts, as a program that breaks no rule but the greatest count would write them.
 
-fn random_layout(random: &mut Random) -> Layout {
+/// How many slots: mostly few, now and then as many as there may be, or one more.
+fn random_count(random: &mut Random) -> usize {
+    match random.below(256) {
+        0..4 => MOST_SLOTS,
+        4 => MOST_SLOTS + 1,
+        5 | 6 => random.below(MOST_SLOTS + 2),
+        _ => {
+            let most = random.pick(&[2, 9, 9, 41, 162]);
+            random.below(most)
+        }
+    }
+}
+
+fn random_layout(count: usize, random: &mut Random) -> Layout {
     let holes_allowed = random.one_in(2);
     let version = if random.one_in(2) {
         Version::One
     } else {
         Version::Three(random.bytes(16).try_into().expect("16 bytes"))
-    };
-    let count = if random.one_in(16) {
-        MOST_SLOTS
-    } else {
-        let most = random.pick(&[2, 9, 9, 41, MOST_SLOTS + 2]);
-        random.below(most)
     };
     Layout {
         version,
@@ -188,8 +204,8 @@ fn random_index(bytes: &[u8], random: &mut Random) -> u64 {
         0 => about as u64,
         1 => u64::MAX - random.below(3) as u64,
         2 => random.any(),
-        3 => random.below(170) as u64,
-        4 => about.saturating_sub(1) as u64,
+        3 => random.below(MOST_SLOTS + 10) as u64,
+        4 | 5 => about.saturating_sub(1) as u64,
         _ => random.below(about.max(1)) as u64,
     }
 }
@@ -262,9 +278,9 @@ impl Change {
         match self {
             Change::None => (),
             Change::Cut => bytes.truncate(random.below(bytes.len())),
-            Change::CutShort => bytes.truncate(bytes.len() - 1 - random.below(24)),
+            Change::CutShort => bytes.truncate(bytes.len() - one_or_more(24, random)),
             Change::Stretched => {
-                let more = 1 + random.below(30);
+                let more = one_or_more(30, random);
                 bytes.extend(random.bytes(more));
             }
             Change::StretchedBySlot => {
@@ -305,6 +321,15 @@ impl Change {
             ),
             _ => unreachable!("{self:?} is no change to a slot"),
         }
+    }
+}
+
+/// Often 1, else at most so many.
+fn one_or_more(most: usize, random: &mut Random) -> usize {
+    if random.one_in(3) {
+        1
+    } else {
+        1 + random.below(most)
     }
 }
 
@@ -389,11 +414,12 @@ impl LayoutNumbers {
 
     /// One number changed, or one amount.
     fn damage(&mut self, random: &mut Random) {
+        const MOST: u64 = MOST_SLOTS as u64;
         match random.below(12) {
             0 => self.fields[0] = random.pick(&[0, 1, 2, 3, 4, 1 << 32 | 1, u64::MAX]),
             1 => self.fields[1] = random.pick(&[0, 1, 2, 0x4000_0000, 0x4000_0001, 1 << 32 | 1]),
             2 => self.fields[4] = random.pick(&[u64::from(u32::MAX), 1 << 32, u64::MAX]),
-            3 => self.fields[5] = random.pick(&[0, 1, 160, 161, 1 << 16, u64::MAX]),
+            3 => self.fields[5] = random.pick(&[0, 1, MOST, MOST + 1, 1 << 16, u64::MAX]),
             4 => self.fields[5] = self.fields[5].wrapping_add(random.pick(&[1, u64::MAX, 1 << 16])),
             5 => self.fields[6] = random.pick(&[65_535, 65_536, u64::MAX]),
             6 => resize(&mut self.fields, random),

@@ -139,7 +139,7 @@ fn kind_of_raise(generation: u16, equal: bool) -> &'static str {
 /// Which rule refused a rewrite, and whether an index past the count was refused with it.
 fn note_refusal(bytes: &[u8], index: u64, slot: &[u64], seen: &mut Seen) {
     let Ok(layout) = Layout::parse(bytes) else {
-        if index > 161 {
+        if index > MOST_SLOTS as u64 {
             seen.rewrite_order.met("bad layout");
         }
         return;

@@ -3,6 +3,7 @@
 use crate::Change;
 use crate::rewrite::{GENERATIONS, PLACES, REWRITES};
 use difftest::Coverage;
+use numbers::layout::MOST_SLOTS;
 use reference::fid::FidFault;
 use reference::layout::Fault;
 
@@ -24,7 +25,21 @@ pub struct Seen {
     pub write_order: Coverage<&'static str>,
     pub changes: Coverage<Change>,
     pub slot_counts: Coverage<usize>,
+    /// Lengths at the bounds, and what becomes of them.
+    pub lengths: Coverage<(usize, &'static str)>,
 }
+
+/// The longest layouts of both versions, lengths beside them, and those of one slot more.
+pub const LENGTHS: [(usize, &str); 8] = [
+    (48_031, "refused"),
+    (48_032, "read"),
+    (48_033, "refused"),
+    (48_047, "refused"),
+    (48_048, "read"),
+    (48_049, "refused"),
+    (48_056, "refused"),
+    (48_072, "refused"),
+];
 
 /// Reasons for 17, and 13 that comes before it.
 const WRITE_ORDER: [&str; 4] = [
@@ -75,12 +90,13 @@ impl Seen {
             rewrites: Coverage::of("rewritten slots", REWRITES),
             generations: Coverage::of("generations of rewritten layouts", GENERATIONS),
             places: Coverage::of(
-                "first bytes of changed slots, and whether it is slot 159",
+                "first bytes of changed slots, and whether it is slot 1,999",
                 PLACES,
             ),
             write_order: Coverage::of("13 before 17 and reasons for 17 in the writer", WRITE_ORDER),
             changes: Coverage::of("changes to the bytes", Change::ALL),
-            slot_counts: Coverage::of("slot counts", 0..=161),
+            slot_counts: Coverage::of("slot counts", 0..=MOST_SLOTS + 1),
+            lengths: Coverage::of("lengths at the bounds", LENGTHS),
         }
     }
 
@@ -100,5 +116,6 @@ impl Seen {
         self.write_order.require(1);
         self.changes.require(1);
         self.slot_counts.require(1);
+        self.lengths.require(1);
     }
 }

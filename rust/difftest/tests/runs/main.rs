@@ -8,6 +8,7 @@ mod generations;
 mod seen;
 mod side;
 
+use std::rc::Rc;
 use std::time::Instant;
 
 use demand::{List, Scenario, Uncut, check_unchanged};
@@ -22,6 +23,9 @@ use side::{Call, Outcome, Side, State};
 
 /// The calls, without those that go step by step to compare with.
 const CALLS: u64 = 220_000;
+
+/// A call of so many steps goes through a layout that has grown far.
+const LONG: u64 = 150;
 
 const TINY: Shape = Shape {
     parents: 4,
@@ -88,7 +92,10 @@ fn random_scenario(random: &mut Random) -> Scenario {
     let tables = random_tables(TINY, random);
     let (parents, objects) = to_bytes(&tables, random);
     Scenario {
-        state: State { parents, objects },
+        state: State {
+            parents: Rc::new(parents),
+            objects,
+        },
         reserve: random_reserve(random),
         policy: random.pick(&[0, 1, 2, 3, 3]),
         report_room: random.pick(&[REPORT, REPORT, REPORT + 1, REPORT + 4]),
@@ -143,13 +150,31 @@ fn call_run(
     note_turn(list, last, seen);
     let (call, outcome) = list.run(side, from, most);
     note_outcome(list, &call, &outcome, seen);
-    if random.one_in(4) {
-        seen.note_call(&list.retrace(side, &call, &outcome));
-        seen.turns.met("retraced");
-    }
+    retrace(list, side, (&call, &outcome), random, seen);
     let answer = outcome.answer;
     list.go_on(call, outcome);
     answer
+}
+
+/// Now and then takes the steps of a call one by one; those of a long one rarely.
+fn retrace(
+    list: &mut List,
+    side: &mut Side,
+    (call, outcome): (&Call, &Outcome),
+    random: &mut Random,
+    seen: &mut Seen,
+) {
+    let is_long = outcome.steps() >= LONG;
+    if is_long {
+        seen.long.met("made");
+    }
+    if random.one_in(if is_long { 16 } else { 4 }) {
+        seen.note_call(&list.retrace(side, call, outcome));
+        seen.turns.met("retraced");
+        if is_long {
+            seen.long.met("retraced");
+        }
+    }
 }
 
 fn note_turn(list: &List, last: Option<u32>, seen: &mut Seen) {

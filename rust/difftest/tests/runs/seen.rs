@@ -5,10 +5,12 @@ use crate::generations::{self, Cause, Effect, effect_of, effects, kinds_of_call}
 use crate::side::{Outcome, State};
 use difftest::Coverage;
 use difftest::indices::Indexed;
+use difftest::tables::FAR;
 use numbers::call::COUNTED;
 use reference::check::{Faults, read_reserve, read_tables};
 use reference::class::{Class, Way, way_to};
 use reference::fid::Fid;
+use reference::layout::Version;
 use reference::position::Position;
 use reference::site::Site;
 use reference::tables::Claim;
@@ -34,6 +36,10 @@ pub struct Seen {
     pub refusals: Coverage<&'static str>,
     /// Whatever else a list is to have.
     pub turns: Coverage<&'static str>,
+    /// The slots of layouts that an adoption made or let grow far, and how it did.
+    pub lengths: Coverage<(u32, &'static str)>,
+    /// Calls that go through a layout that has grown far.
+    pub long: Coverage<&'static str>,
 }
 
 const REPAIRS: [&str; COUNTED] = [
@@ -99,6 +105,8 @@ impl Seen {
             reserve: Coverage::of("redirects", REDIRECTS),
             refusals: Coverage::of("refused calls", crate::REFUSALS),
             turns: Coverage::of("lists", TURNS),
+            lengths: Coverage::of("adoptions to so many slots", lengths()),
+            long: Coverage::of("calls through long layouts", ["made", "retraced"]),
         }
     }
 
@@ -115,6 +123,8 @@ impl Seen {
         self.reserve.require(20);
         self.refusals.require(100);
         self.turns.require(100);
+        self.lengths.require(5);
+        self.long.require(5);
     }
 
     /// Counts the repairs and stops of an uncut run.
@@ -148,11 +158,31 @@ impl Seen {
     fn note_step(&mut self, scenario: &Scenario, site: &Site, at: &[u64], outcome: &Outcome) {
         if let Some(class) = repaired(outcome) {
             self.repairs.met(class);
-            if class == "MULTIPLE" {
-                self.note_redirect(scenario, site);
+            match class {
+                "MULTIPLE" => self.note_redirect(scenario, site),
+                "ORPHAN" => self.note_length(site, at),
+                _ => (),
             }
         }
         self.note_stop(scenario, site, at, outcome.answer);
+    }
+
+    /// How many slots an adoption leads to, where it makes a file or lets one grow far.
+    fn note_length(&mut self, site: &Site, at: &[u64]) {
+        let orphan = site.object(at[1] as usize).and_then(|orphan| orphan.claim);
+        let claim = orphan.expect("an orphan has a claim");
+        if !FAR.contains(&claim.index) {
+            return;
+        }
+        let how = match way_to(site, claim) {
+            Ok(Way::MakeParent) => "made",
+            Ok(Way::Grow) => match version_of(site, claim) {
+                Version::One => "grown, version 1",
+                Version::Three(_) => "grown, version 3",
+            },
+            _ => return,
+        };
+        self.lengths.met((claim.index + 1, how));
     }
 
     /// Which FIDs a redirect passed over.
@@ -193,6 +223,20 @@ impl Seen {
             self.stops.met("22 of a redirect");
         }
     }
+}
+
+/// What adoption leads to at each far index.
+fn lengths() -> impl Iterator<Item = (u32, &'static str)> {
+    let ways = ["made", "grown, version 1", "grown, version 3"];
+    FAR.into_iter()
+        .flat_map(move |index| ways.map(|way| (index + 1, way)))
+}
+
+/// The version of the claimed file's layout.
+fn version_of(site: &Site, claim: Claim) -> Version {
+    let row = site.parent_row(claim.parent);
+    let parent = row.and_then(|row| site.parent(row)).expect("a file");
+    parent.layout.version
 }
 
 /// The class that a step repaired, if any.

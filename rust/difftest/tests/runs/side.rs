@@ -1,6 +1,7 @@
 //! The two sides of the comparison, and what a call lends them.
 
 use std::hint::black_box;
+use std::rc::Rc;
 
 use crate::demand::check_not_destroyed;
 use difftest::Random;
@@ -10,10 +11,10 @@ use numbers::{object, parent};
 use reference::interface;
 use reference::tables::{OBJECT_BYTES, PARENT_BYTES};
 
-/// Both tables as bytes.
+/// Both tables as bytes. States whose files are the same bytes may share them.
 #[derive(Clone, PartialEq)]
 pub struct State {
-    pub parents: Vec<u8>,
+    pub parents: Rc<Vec<u8>>,
     pub objects: Vec<u8>,
 }
 
@@ -43,34 +44,42 @@ pub struct Side {
     pub name: &'static str,
     run: Run,
     pub log: Vec<(Call, Outcome)>,
+    /// The parent table that is lent, and the one that it is a copy of.
+    lent: Vec<u8>,
+    copied: Rc<Vec<u8>>,
 }
 
 impl Side {
     pub fn library() -> Side {
-        Side {
-            name: "library",
-            run: lfsck_sys::run,
-            log: Vec::new(),
-        }
+        Side::new("library", lfsck_sys::run)
     }
 
     pub fn reference() -> Side {
+        Side::new("reference", interface::run)
+    }
+
+    fn new(name: &'static str, run: Run) -> Side {
         Side {
-            name: "reference",
-            run: interface::run,
+            name,
+            run,
             log: Vec::new(),
+            lent: Vec::new(),
+            copied: Rc::default(),
         }
     }
 
     /// Makes a call on a copy of the tables. No call, in a list or not, destroys data.
     pub fn call(&mut self, before: &State, call: &Call) -> Outcome {
-        let mut state = before.clone();
+        if !Rc::ptr_eq(&self.copied, &before.parents) {
+            self.lent.clone_from(&before.parents);
+        }
+        let mut objects = before.objects.clone();
         let mut position = call.position.clone();
         let mut report = call.report.clone();
         let reserve = call.reserve.clone();
         let answer = (self.run)(
-            &mut state.parents,
-            &mut state.objects,
+            &mut self.lent,
+            &mut objects,
             black_box(&reserve),
             call.policy,
             call.most,
@@ -82,6 +91,13 @@ impl Side {
             "{}: a run changed the reserve",
             self.name
         );
+        self.copied = if *before.parents == self.lent {
+            before.parents.clone()
+        } else {
+            Rc::new(self.lent.clone())
+        };
+        let parents = self.copied.clone();
+        let state = State { parents, objects };
         check_not_destroyed(before, &state);
         let outcome = Outcome {
             answer,
@@ -118,17 +134,19 @@ impl State {
             mut objects,
         } = self.clone();
         match random.below(7) {
-            0 => parents.truncate(parents.len().saturating_sub(1)),
+            0 => {
+                Rc::make_mut(&mut parents).pop();
+            }
             1 => objects.push(0),
             2 => objects.iter_mut().take(1).for_each(|mark| *mark |= 2),
             // The lengths of all layouts, the versions of all objects.
-            3 => parents
+            3 => Rc::make_mut(&mut parents)
                 .chunks_mut(PARENT_BYTES)
                 .for_each(|row| row[parent::LENGTH_AT] ^= 1),
             4 => objects
                 .chunks_mut(OBJECT_BYTES)
                 .for_each(|row| row[object::SELF_AT + VERSION_AT] = 1),
-            5 => parents.extend_from_within(..),
+            5 => Rc::make_mut(&mut parents).extend_from_within(..),
             _ => objects.extend_from_within(..),
         }
         State { parents, objects }

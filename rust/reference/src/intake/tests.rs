@@ -584,7 +584,7 @@ impl Lent {
 
 #[test]
 fn refusals_of_what_is_lent_come_in_their_order() {
-    assert_eq!(STATE_BYTES, 4096);
+    assert_eq!(STATE_BYTES, 48_256);
     assert_eq!(lent(|_| ()), 0);
     assert_eq!(lent(|lent| lent.piece = 65_537), 11);
     assert_eq!(lent(|lent| lent.parents.truncate(1)), 11);
