@@ -5,9 +5,10 @@
 use std::fs;
 use std::path::Path;
 
+use crate::answers::require_wide;
 use crate::digest::Digest;
 use crate::disk::{Disk, trouble};
-use crate::history::{Deed, Entry, Group, LOG};
+use crate::history::{Conversion, Deed, Entry, Group, LOG};
 use crate::journal::{Change, Edit};
 use crate::lock::{Share, lock};
 use crate::mended::Mended;
@@ -16,7 +17,7 @@ use crate::outcome::Failure;
 use crate::permissions::{Access, Permissions};
 use crate::quoted::on_one_line;
 use crate::save::{self, MOST_LOG, OF_CASE, OF_NAMES, SAMPLE_LINK};
-use crate::saved::{self, POSITION, Saved};
+use crate::saved::{self, EDITION, Held, POSITION, Saved};
 use crate::slices::Run;
 use crate::tables::{Table, Tables, Together};
 
@@ -143,6 +144,13 @@ impl Case {
         })
     }
 
+    /// The tables as they stand, where the parent rows are as wide as this edition's.
+    pub fn wide_tables(&self) -> Result<Tables, Failure> {
+        let tables = self.tables()?;
+        require_wide(&tables)?;
+        Ok(tables)
+    }
+
     /// The tables of names as they stand; none where the case has neither.
     pub fn names(&self) -> Result<Option<Names>, Failure> {
         let read = |table: Table| self.find(table.file(), table.most_bytes());
@@ -164,17 +172,27 @@ impl Case {
         ))
     }
 
-    /// The saved position, if there is one.
+    /// What stands in the file of the saved position.
+    pub fn held(&self) -> Result<Held, Failure> {
+        let bytes = self.find(POSITION, saved::MOST_BYTES)?;
+        Ok(bytes.map_or(Held::Nothing, |bytes| Held::of(&bytes)))
+    }
+
+    /// The saved position of this edition, if there is one.
     pub fn position(&self) -> Result<Option<Saved>, Failure> {
-        let Some(bytes) = self.find(POSITION, saved::MOST_BYTES)? else {
-            return Ok(None);
+        let path = self.disk.path(POSITION);
+        let refused = |what: &str| {
+            let path = path.display();
+            Failure::refused(format!("{path}: {what}; --from-start begins without it"))
         };
-        match Saved::parse(&bytes) {
-            Some(saved) => Ok(Some(saved)),
-            None => Err(Failure::refused(format!(
-                "{}: this is no saved position; --from-start begins without it",
-                self.disk.path(POSITION).display()
+        match self.held()? {
+            Held::Nothing => Ok(None),
+            Held::Own(saved) => Ok(Some(saved)),
+            Held::Other(edition) => Err(refused(&format!(
+                "saved by {edition}; this is edition {EDITION}, and no run is taken up across \
+                 editions"
             ))),
+            Held::Broken => Err(refused("this is no saved position")),
         }
     }
 
@@ -224,10 +242,14 @@ impl Case {
 
     /// Looks for what would stop a save of these tables, before there is something to save.
     pub fn prepare<Of: Together>(&self, tables: &Of) -> Result<(), Failure> {
+        self.prepare_for(tables, Of::CHANGED_BY)
+    }
+
+    fn prepare_for<Of: Together>(&self, tables: &Of, what: &str) -> Result<(), Failure> {
         let [one, other] = tables.lengths();
         // The journal with both, and one new file beside its old one.
         let room = one + other + one.max(other) + LOG_ROOM;
-        save::prepare(&self.disk, room, Of::CHANGED_BY)
+        save::prepare(&self.disk, room, what)
     }
 
     /// Saves what a run has changed of the tables and the position, with an entry in the log
@@ -250,7 +272,26 @@ impl Case {
                 .map(Box::new),
         };
         let line = (old != new).then(|| Entry::new(deed, old, new).line());
+        line.iter()
+            .try_for_each(|line| self.require_log_room(line))?;
         let position = self.position_change(Some(saved))?;
+        self.save(old, new, position, line)
+    }
+
+    /// Saves parent rows that were made wider, with an entry in the log, and removes the saved
+    /// position, all or none. Without such rows the position alone goes.
+    pub fn save_conversion(
+        &self,
+        old: &Tables,
+        new: &Tables,
+        conversion: Option<Conversion>,
+    ) -> Result<(), Failure> {
+        self.prepare_for(new, "conversion")?;
+        let entry = |conversion| Entry::new(Deed::Conversion(conversion), old, new);
+        let line = conversion.map(|conversion| entry(conversion).line());
+        line.iter()
+            .try_for_each(|line| self.require_log_room(line))?;
+        let position = self.position_change(None)?;
         self.save(old, new, position, line)
     }
 
@@ -286,13 +327,11 @@ impl Case {
             of: undone.group(),
         };
         let line = Entry::new(deed, old, new).line();
+        self.require_log_room(&line)?;
         let position = match &undone.deed {
             Deed::Run { saved, .. } => self.position_change(saved.as_deref())?,
-            Deed::Mending(_) => {
-                self.require_log_room(&line)?;
-                None
-            }
-            Deed::Undo { .. } => return Ok(()),
+            Deed::Mending(_) => None,
+            Deed::Conversion(_) | Deed::Undo { .. } => return Ok(()),
         };
         self.save(old, new, position, Some(line))
     }
@@ -426,7 +465,7 @@ mod tests {
         let name = format!("lfsck-offline-case-{name}-{}", std::process::id());
         let directory = std::env::temp_dir().join(name);
         let tables = Tables {
-            parents: vec![0; 3915],
+            parents: vec![0; numbers::parent::BYTES],
             objects: vec![0; 46],
             reserve: vec![1; 16],
         };

@@ -48,7 +48,7 @@ pub fn classes(
     json: bool,
     bar: &Bar,
 ) -> Result<Outcome, Failure> {
-    let tables = Case::open(directory)?.tables()?;
+    let tables = Case::open(directory)?.wide_tables()?;
     let site = Site::new(&tables);
     let filter = &options.filter;
     let admitted = Position::all(&site).filter(|position| filter.admits(&site, *position));
