@@ -55,10 +55,11 @@ pub fn classes(
     let positions: Vec<Position> = admitted.collect();
     let mut summary = Summary::default();
     let mut findings = Vec::new();
+    let listed = !options.summary || options.exit_code;
     let classes = classes_at(&tables, &site, &positions, bar)?;
     for (position, class) in positions.into_iter().zip(classes) {
         summary.add(&site, position, class);
-        if filter.lists(class) {
+        if listed && filter.lists(class) {
             findings.push(Finding::new(&site, position, class));
         }
     }

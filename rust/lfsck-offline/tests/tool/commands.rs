@@ -6,7 +6,7 @@ use reference::class::Class;
 use reference::position::Position;
 use reference::site::Reason;
 
-use crate::bytes::{object, object_row, parent_row};
+use crate::bytes::{PARENT, object, object_row, parent_row};
 use crate::json::Value;
 use crate::oracle;
 use crate::tool::{Case, TOOL, Told};
@@ -116,9 +116,9 @@ fn sound_tables_are_said_to_be_sound() {
 fn every_row_at_fault_is_listed() {
     let case = Case::sample("check-faults");
     case.edit("parents.tbl", |bytes| {
-        bytes[3915 + 27] = 0;
-        bytes[2 * 3915 + 25] = 57;
-        bytes[8 * 3915] = 7;
+        bytes[PARENT + 27] = 0;
+        bytes[2 * PARENT + 25] = 57;
+        bytes[8 * PARENT] = 7;
     });
     case.edit("objects.tbl", |bytes| {
         bytes[46 + 19] = 1;
