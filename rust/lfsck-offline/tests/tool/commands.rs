@@ -465,6 +465,7 @@ fn there_is_help_for_every_command() {
         ("show", "DIR"),
         ("log", "DIR"),
         ("undo", "DIR"),
+        ("convert", "DIR"),
         ("names", "DIR"),
         ("link", "FILE"),
     ] {
@@ -487,7 +488,8 @@ fn the_man_page_has_what_the_help_has() {
     };
     let mut help = String::new();
     for command in [
-        "sample", "intake", "check", "classes", "run", "show", "log", "undo", "names", "link",
+        "sample", "intake", "check", "classes", "run", "show", "log", "undo", "convert", "names",
+        "link",
     ] {
         let mut tool = std::process::Command::new(TOOL);
         let told: Told = tool.args([command, "--help"]).output().unwrap().into();
