@@ -249,7 +249,8 @@ impl Case {
         let [one, other] = tables.lengths();
         // The journal with both, and one new file beside its old one.
         let room = one + other + one.max(other) + LOG_ROOM;
-        save::prepare(&self.disk, room, what)
+        save::prepare(&self.disk, room, what)?;
+        self.require_log_room(LOG_ROOM)
     }
 
     /// Saves what a run has changed of the tables and the position, with an entry in the log
@@ -272,8 +273,7 @@ impl Case {
                 .map(Box::new),
         };
         let line = (old != new).then(|| Entry::new(deed, old, new).line());
-        line.iter()
-            .try_for_each(|line| self.require_log_room(line))?;
+        self.require_log_room(line.as_ref().map_or(0, String::len))?;
         let position = self.position_change(Some(saved))?;
         self.save(old, new, position, line)
     }
@@ -289,8 +289,7 @@ impl Case {
         self.prepare_for(new, "conversion")?;
         let entry = |conversion| Entry::new(Deed::Conversion(conversion), old, new);
         let line = conversion.map(|conversion| entry(conversion).line());
-        line.iter()
-            .try_for_each(|line| self.require_log_room(line))?;
+        self.require_log_room(line.as_ref().map_or(0, String::len))?;
         let position = self.position_change(None)?;
         self.save(old, new, position, line)
     }
@@ -298,14 +297,14 @@ impl Case {
     /// Saves what a mending has changed of the names, with an entry in the log, all or none.
     pub fn save_mending(&self, old: &Names, new: &Names, mended: Mended) -> Result<(), Failure> {
         let line = Entry::new(Deed::Mending(mended), old, new).line();
-        self.require_log_room(&line)?;
+        self.require_log_room(line.len())?;
         self.save(old, new, None, Some(line))
     }
 
-    /// The log can still be read with another line.
-    fn require_log_room(&self, line: &str) -> Result<(), Failure> {
+    /// The log can still be read with so many bytes more.
+    fn require_log_room(&self, more: usize) -> Result<(), Failure> {
         let length = self.disk.length(LOG)?.unwrap_or(0);
-        if length + line.len() as u64 <= MOST_LOG as u64 {
+        if length + more as u64 <= MOST_LOG as u64 {
             return Ok(());
         }
         let path = self.disk.path(LOG);
@@ -327,7 +326,7 @@ impl Case {
             of: undone.group(),
         };
         let line = Entry::new(deed, old, new).line();
-        self.require_log_room(&line)?;
+        self.require_log_room(line.len())?;
         let position = match &undone.deed {
             Deed::Run { saved, .. } => self.position_change(saved.as_deref())?,
             Deed::Mending(_) => None,
@@ -549,6 +548,28 @@ mod tests {
         assert!(failure.message.contains(LOG), "{failure:?}");
         assert!(failure.message.ends_with("nothing is saved"), "{failure:?}");
         assert_eq!(case.names().expect("the names"), Some(old));
+        fs::remove_dir_all(&directory).expect("the directory");
+    }
+
+    /// The same of a run and of a conversion, also before there is something to save.
+    #[test]
+    fn a_log_without_room_for_a_run_is_left() {
+        let (case, old, directory) = case("log-room");
+        let mut new = old.clone();
+        new.objects[1] = 1;
+        let log = fs::File::create(directory.join(LOG)).expect("the file");
+        log.set_len(MOST_LOG as u64 - 100).expect("the length");
+        let saved = Saved::new([3, 0, 0], 0, &new);
+        let run = case.save_run(&old, &new, &saved, [1, 0, 0], RUN);
+        let conversion = Conversion::of_rows(1);
+        let conversion = case.save_conversion(&old, &new, Some(conversion));
+        for refused in [run, conversion, case.prepare(&old)] {
+            let failure = refused.expect_err("a refusal");
+            assert!(failure.message.contains(LOG), "{failure:?}");
+            assert!(failure.message.ends_with("nothing is saved"), "{failure:?}");
+        }
+        assert_eq!(case.tables().expect("the tables"), old);
+        assert!(!case.disk.has(POSITION) && !case.disk.has(JOURNAL));
         fs::remove_dir_all(&directory).expect("the directory");
     }
 

@@ -153,6 +153,7 @@ fn a_check_says_what_the_rows_are() {
         assert!(told.starts_with(lines), "{told}");
         let report = case.json(&["check"], 2);
         assert_eq!(report.number("answer"), 11);
+        assert_eq!(report.number("parent_rows"), count as u64);
         assert_eq!(report.list("faults").len(), 1);
         assert_eq!(report.list("faults")[0].get("row"), &Value::Null);
         // What else is at fault is told beside it.
