@@ -185,10 +185,10 @@ Usage: lfsck-offline run DIR [--create] [--adopt] [--steps N] [--from-start]
 Repairs step by step and saves tables and position together. Goes on from the
 saved position if policy, reserve and tables are those that it was saved with,
 else begins at the start and says why. A position that another edition saved is
-refused: no run is taken up across editions, and this is edition 2026-07. SELF, BLANK, UNMATCHED, WRONG-OST and
-OWNER are repaired under every policy. A step that changes a slot of a file that
-was there, or the number of its slots, raises the generation of its layout by
-one.
+refused: no run is taken up across editions, and this is edition 2026-07. SELF,
+BLANK, UNMATCHED, WRONG-OST and OWNER are repaired under every policy. A step
+that changes a slot of a file that was there, or the number of its slots, raises
+the generation of its layout by one.
 
   --create       make objects for slots that have none of their own
                  (MULTIPLE, DANGLING)

@@ -61,6 +61,9 @@ fn a_case_of_an_earlier_edition_is_converted() {
     let before = case.files();
     assert_eq!(before["parents.tbl"].len(), 4 * NARROW);
     case.run(&["check"]).expect(2);
+    case.run(&["undo"]).expect_line(2, "convert DIR");
+    case.run(&["run", "--adopt"]).expect_line(2, "convert DIR");
+    assert_eq!(case.files(), before);
     let log = before
         .get(LOG)
         .map_or(0, |log| log.split(|&it| it == b'\n').count() - 1);
@@ -69,6 +72,7 @@ fn a_case_of_an_earlier_edition_is_converted() {
                  edition before 2026-07, with at most 160 slots, is thrown away.\n";
     assert_eq!((told.out.as_str(), told.err.as_str()), (words, ""));
     let after = case.files();
+    assert!(after["parents.tbl"] == fs::read(WIDE).expect("the table"));
     assert!(!after.contains_key(POSITION) && !after.contains_key(JOURNAL));
     expect_others(&case, &before);
     let told = case.json(&["log"], 0);
@@ -87,18 +91,26 @@ fn a_case_of_an_earlier_edition_is_converted() {
     case.run(&["check"]).expect(0);
 }
 
-/// The rows in the repository are those that a run of the edition before changed; without its
-/// changes they are what intake made.
+/// The log that version 0.6.0 wrote is read before and after: a run, its undo, and whole rows.
 #[test]
-fn the_widened_rows_are_those_of_an_intake() {
-    let case = earlier("convert-site");
-    let wide = fs::read(WIDE).expect("the table");
-    assert_eq!(wide.len(), 4 * PARENT);
-    case.write("parents.tbl", &narrowed(&wide));
+fn the_log_of_an_earlier_edition_is_read() {
+    let case = earlier("convert-log");
+    let log = String::from_utf8(case.read(LOG)).expect("a text");
+    assert_eq!(log.matches("\"version\":\"0.6.0\"").count(), 2);
+    let row = log.split("\"old\":\"").nth(1).expect("a row");
+    assert_eq!(row.find('"'), Some(2 * NARROW));
+    let told = case.run(&["log"]).expect(0).out;
+    let line = "  [0x200000401:0x1:0x0]       -  -                        generation raised from 0 \
+                to 1\n";
+    assert!(told.contains(line), "{told}");
+    let story = case.run(&["log", "0x200000401:1"]).expect(0).out;
+    assert!(story.contains("WRONG-OST"), "{story}");
     let report = case.json(&["convert"], 0);
     assert_eq!(report.number("parent_rows"), 4);
     assert_eq!(report.get("position_removed"), &Value::Bool(true));
-    assert!(case.read("parents.tbl") == wide);
+    let after = case.run(&["log"]).expect(0).out;
+    assert!(after.starts_with(&told) && after.len() > told.len());
+    assert_eq!(case.run(&["log", "0x200000401:1"]).expect(0).out, story);
 }
 
 /// A run after it begins at the start, and is the run over the wide tables.
@@ -256,6 +268,8 @@ fn rows_of_no_edition_are_refused() {
 #[test]
 fn a_kill_at_any_operation_leaves_the_old_or_the_new_case() {
     let (case, _) = sample("convert-kill");
+    // The log is there before.
+    case.run(&["names", "--mend"]).expect(0);
     let old = case.files();
     case.run(&["convert"]).expect(0);
     let new = timeless(&case.files());

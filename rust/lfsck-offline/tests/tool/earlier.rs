@@ -177,7 +177,7 @@ fn rows_of_no_edition_are_not_taken_for_narrow_ones() {
         ),
         (
             1025 * NARROW,
-            "22500 bytes after the last whole row of 48075 bytes",
+            "22650 bytes after the last whole row of 48075 bytes",
         ),
         (
             PARENT + NARROW,
