@@ -17,7 +17,7 @@ use crate::tables::{Table, Tables, Together};
 use crate::why::{self, Search};
 
 /// So many bytes of parent rows are lent in all, once at least.
-const MOST_LENT: usize = 1 << 30;
+const MOST_LENT: usize = 1 << 28;
 
 /// What the library answers for an object.
 #[derive(Clone, Copy, Debug, PartialEq, Eq)]

@@ -115,7 +115,10 @@ pub fn expect_order(operations: &[String], changed: &[&str]) {
         assert!(name == JOURNAL || places[0] > log[3], "{name}");
     }
     let removed = at(&format!("remove {JOURNAL}"));
-    let last = operations.iter().rposition(|it| it.starts_with("rename"));
+    let position = format!("remove {POSITION}");
+    let last = operations
+        .iter()
+        .rposition(|it| it.starts_with("rename") || *it == position);
     assert_eq!(last, Some(removed - 2));
     for directory_synced in [committed + 1, removed - 1, removed + 1] {
         assert_eq!(operations[directory_synced], "sync .");
