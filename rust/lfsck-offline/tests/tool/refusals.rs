@@ -144,7 +144,7 @@ fn a_table_that_is_too_long_is_refused() {
 
 #[test]
 fn a_table_of_broken_rows_is_refused() {
-    let case = Case::with("broken-rows", &[0; 3916], &[0; 45], &[0; 17]);
+    let case = Case::with("broken-rows", &[0; PARENT + 1], &[0; 45], &[0; 17]);
     let told = case.run(&["check"]).expect(2);
     for line in [
         "parents.tbl, length: 1 byte after the last whole row",
