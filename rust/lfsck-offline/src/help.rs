@@ -356,3 +356,30 @@ with the name in the dump; the case stays.
 Exit status: 0 the tables are sound, 2 a dump is refused or the tables are not
 sound.
 ";
+
+#[cfg(test)]
+mod tests {
+    use numbers::{layout, parent};
+
+    use super::*;
+    use crate::narrow;
+    use crate::saved::EDITION;
+
+    /// A number of four digits or more as people write it.
+    fn grouped(number: usize) -> String {
+        format!("{},{:03}", number / 1000, number % 1000)
+    }
+
+    /// The edition and the sizes of rows in the help are those of the code.
+    #[test]
+    fn the_help_has_the_edition_and_its_sizes() {
+        let convert = Topic::Convert.text();
+        for text in [Topic::Run.text(), convert] {
+            assert!(text.contains(EDITION), "{text}");
+        }
+        for number in [narrow::BYTES, parent::BYTES, layout::MOST_SLOTS] {
+            assert!(convert.contains(&grouped(number)), "{number}");
+        }
+        assert!(convert.contains(&format!("at most {} slots", narrow::SLOTS)));
+    }
+}

@@ -132,6 +132,24 @@ fn a_run_afterwards_begins_at_the_start() {
     assert_eq!(whats.collect::<Vec<_>>(), ["conversion", "run", "undo"]);
 }
 
+/// Why no run is taken up across editions: what was in CONFLICT for its index there, behind the
+/// position at the end, is adopted here.
+#[test]
+fn what_was_in_conflict_for_its_index_may_be_adopted() {
+    let objects = object_row(0x30, (9, 160));
+    let case = Case::with("convert-index", &[0; NARROW], &objects, b"");
+    let at_end = "position 3 0 0\npolicy 2\n";
+    case.write(POSITION, position("3", at_end, &case.files()).as_bytes());
+    case.run(&["run", "--adopt"]).expect_line(2, "convert DIR");
+    case.run(&["convert"]).expect(0);
+    let start = case.files();
+    let report = case.json(&["run", "--adopt"], 0);
+    assert_eq!(report.get("repairs").number("ORPHAN"), 1);
+    oracle::run(&start, 2, u64::MAX).expect_in(&case);
+    let shown = case.json(&["show", "0x200000401:9"], 0);
+    assert_eq!(shown.get("file").number("slots"), 161);
+}
+
 #[test]
 fn a_conversion_is_not_taken_back() {
     let (case, _) = sample("convert-undo");
