@@ -85,7 +85,7 @@ fn earlier_log(log: &str, version: &str, tables: [&[u8]; 2]) -> String {
     })
 }
 
-/// The sample after 3 steps of a run of a version, which mended the own id of a file.
+/// The sample after 4 steps of a run of a version, which mended the own id of a file.
 fn left(name: &str, (version, format): (&str, &str)) -> Case {
     let case = Case::sample(name);
     let start = case.read("parents.tbl");
