@@ -1,11 +1,12 @@
 //! The library's numbers in words.
 
-use numbers::answer;
+use numbers::answer::{self, OK};
 
 use crate::bar::{Bar, Work};
 use crate::faults::{Fault, faults};
 use crate::name_faults::name_faults;
 use crate::names::Names;
+use crate::narrow;
 use crate::outcome::Failure;
 use crate::tables::Tables;
 
@@ -54,6 +55,15 @@ pub fn require_sound(tables: &Tables, bar: &Bar) -> Result<(), Failure> {
     bar.turn_to(CHECKING);
     match tables.check() {
         0 => Ok(()),
+        number => Err(refusal(number, tables)),
+    }
+}
+
+/// Ends a command on tables with rows of the edition before.
+pub fn require_wide(tables: &Tables) -> Result<(), Failure> {
+    let number = narrow::rows(&tables.parents).map_or(OK, |_| tables.check());
+    match number {
+        OK => Ok(()),
         number => Err(refusal(number, tables)),
     }
 }

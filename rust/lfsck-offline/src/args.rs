@@ -35,6 +35,8 @@ pub enum Command {
     Log(Option<Fid>),
     /// Take the last run or mending back.
     Undo,
+    /// Widen the rows of the edition before.
+    Convert,
     /// List the findings of names, or mend them.
     Names(NamesOptions),
     /// Print a linkEA.
@@ -316,6 +318,7 @@ impl Words {
             Topic::Log if self.places.is_empty() => Command::Log(None),
             Topic::Log => Command::Log(Some(self.shown()?)),
             Topic::Undo => Command::Undo,
+            Topic::Convert => Command::Convert,
             Topic::Names => Command::Names(self.names_options()?),
             Topic::Intake => Command::Intake(self.intake_options()?),
             Topic::All | Topic::Link => Command::Help(topic),
@@ -502,6 +505,14 @@ mod tests {
         let one = Command::Log(Some(Fid::new(0x2_0000_0401, 1)));
         assert_eq!(call("log d 0x200000401:1 --json").command, one);
         assert_eq!(call("undo d").command, Command::Undo);
+    }
+
+    #[test]
+    fn a_conversion_has_no_options_of_its_own() {
+        assert_eq!(call("convert d").command, Command::Convert);
+        assert!(call("convert --json d").json);
+        expect_refused(&["convert", "convert d e", "convert d --dry-run", "convert -"]);
+        expect_refused(&["convert d --from-start", "convert d --mend"]);
     }
 
     #[test]

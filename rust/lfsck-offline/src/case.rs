@@ -5,9 +5,10 @@
 use std::fs;
 use std::path::Path;
 
+use crate::answers::require_wide;
 use crate::digest::Digest;
 use crate::disk::{Disk, trouble};
-use crate::history::{Deed, Entry, Group, LOG};
+use crate::history::{Conversion, Deed, Entry, Group, LOG};
 use crate::journal::{Change, Edit};
 use crate::lock::{Share, lock};
 use crate::mended::Mended;
@@ -16,7 +17,7 @@ use crate::outcome::Failure;
 use crate::permissions::{Access, Permissions};
 use crate::quoted::on_one_line;
 use crate::save::{self, MOST_LOG, OF_CASE, OF_NAMES, SAMPLE_LINK};
-use crate::saved::{self, POSITION, Saved};
+use crate::saved::{self, EDITION, Held, POSITION, Saved};
 use crate::slices::Run;
 use crate::tables::{Table, Tables, Together};
 
@@ -143,6 +144,13 @@ impl Case {
         })
     }
 
+    /// The tables as they stand, where the parent rows are as wide as this edition's.
+    pub fn wide_tables(&self) -> Result<Tables, Failure> {
+        let tables = self.tables()?;
+        require_wide(&tables)?;
+        Ok(tables)
+    }
+
     /// The tables of names as they stand; none where the case has neither.
     pub fn names(&self) -> Result<Option<Names>, Failure> {
         let read = |table: Table| self.find(table.file(), table.most_bytes());
@@ -164,17 +172,27 @@ impl Case {
         ))
     }
 
-    /// The saved position, if there is one.
+    /// What stands in the file of the saved position.
+    pub fn held(&self) -> Result<Held, Failure> {
+        let bytes = self.find(POSITION, saved::MOST_BYTES)?;
+        Ok(bytes.map_or(Held::Nothing, |bytes| Held::of(&bytes)))
+    }
+
+    /// The saved position of this edition, if there is one.
     pub fn position(&self) -> Result<Option<Saved>, Failure> {
-        let Some(bytes) = self.find(POSITION, saved::MOST_BYTES)? else {
-            return Ok(None);
+        let path = self.disk.path(POSITION);
+        let refused = |what: &str| {
+            let path = path.display();
+            Failure::refused(format!("{path}: {what}; --from-start begins without it"))
         };
-        match Saved::parse(&bytes) {
-            Some(saved) => Ok(Some(saved)),
-            None => Err(Failure::refused(format!(
-                "{}: this is no saved position; --from-start begins without it",
-                self.disk.path(POSITION).display()
+        match self.held()? {
+            Held::Nothing => Ok(None),
+            Held::Own(saved) => Ok(Some(saved)),
+            Held::Other(edition) => Err(refused(&format!(
+                "saved by {edition}; this is edition {EDITION}, and no run is taken up across \
+                 editions"
             ))),
+            Held::Broken => Err(refused("this is no saved position")),
         }
     }
 
@@ -224,10 +242,15 @@ impl Case {
 
     /// Looks for what would stop a save of these tables, before there is something to save.
     pub fn prepare<Of: Together>(&self, tables: &Of) -> Result<(), Failure> {
+        self.prepare_for(tables, Of::CHANGED_BY)
+    }
+
+    fn prepare_for<Of: Together>(&self, tables: &Of, what: &str) -> Result<(), Failure> {
         let [one, other] = tables.lengths();
         // The journal with both, and one new file beside its old one.
         let room = one + other + one.max(other) + LOG_ROOM;
-        save::prepare(&self.disk, room, Of::CHANGED_BY)
+        save::prepare(&self.disk, room, what)?;
+        self.require_log_room(LOG_ROOM)
     }
 
     /// Saves what a run has changed of the tables and the position, with an entry in the log
@@ -250,21 +273,38 @@ impl Case {
                 .map(Box::new),
         };
         let line = (old != new).then(|| Entry::new(deed, old, new).line());
+        self.require_log_room(line.as_ref().map_or(0, String::len))?;
         let position = self.position_change(Some(saved))?;
+        self.save(old, new, position, line)
+    }
+
+    /// Saves parent rows that were made wider, with an entry in the log, and removes the saved
+    /// position, all or none. Without such rows the position alone goes.
+    pub fn save_conversion(
+        &self,
+        old: &Tables,
+        new: &Tables,
+        conversion: Option<Conversion>,
+    ) -> Result<(), Failure> {
+        self.prepare_for(new, "conversion")?;
+        let entry = |conversion| Entry::new(Deed::Conversion(conversion), old, new);
+        let line = conversion.map(|conversion| entry(conversion).line());
+        self.require_log_room(line.as_ref().map_or(0, String::len))?;
+        let position = self.position_change(None)?;
         self.save(old, new, position, line)
     }
 
     /// Saves what a mending has changed of the names, with an entry in the log, all or none.
     pub fn save_mending(&self, old: &Names, new: &Names, mended: Mended) -> Result<(), Failure> {
         let line = Entry::new(Deed::Mending(mended), old, new).line();
-        self.require_log_room(&line)?;
+        self.require_log_room(line.len())?;
         self.save(old, new, None, Some(line))
     }
 
-    /// The log can still be read with another line.
-    fn require_log_room(&self, line: &str) -> Result<(), Failure> {
+    /// The log can still be read with so many bytes more.
+    fn require_log_room(&self, more: usize) -> Result<(), Failure> {
         let length = self.disk.length(LOG)?.unwrap_or(0);
-        if length + line.len() as u64 <= MOST_LOG as u64 {
+        if length + more as u64 <= MOST_LOG as u64 {
             return Ok(());
         }
         let path = self.disk.path(LOG);
@@ -286,13 +326,11 @@ impl Case {
             of: undone.group(),
         };
         let line = Entry::new(deed, old, new).line();
+        self.require_log_room(line.len())?;
         let position = match &undone.deed {
             Deed::Run { saved, .. } => self.position_change(saved.as_deref())?,
-            Deed::Mending(_) => {
-                self.require_log_room(&line)?;
-                None
-            }
-            Deed::Undo { .. } => return Ok(()),
+            Deed::Mending(_) => None,
+            Deed::Conversion(_) | Deed::Undo { .. } => return Ok(()),
         };
         self.save(old, new, position, Some(line))
     }
@@ -426,7 +464,7 @@ mod tests {
         let name = format!("lfsck-offline-case-{name}-{}", std::process::id());
         let directory = std::env::temp_dir().join(name);
         let tables = Tables {
-            parents: vec![0; 3915],
+            parents: vec![0; numbers::parent::BYTES],
             objects: vec![0; 46],
             reserve: vec![1; 16],
         };
@@ -510,6 +548,28 @@ mod tests {
         assert!(failure.message.contains(LOG), "{failure:?}");
         assert!(failure.message.ends_with("nothing is saved"), "{failure:?}");
         assert_eq!(case.names().expect("the names"), Some(old));
+        fs::remove_dir_all(&directory).expect("the directory");
+    }
+
+    /// The same of a run and of a conversion, also before there is something to save.
+    #[test]
+    fn a_log_without_room_for_a_run_is_left() {
+        let (case, old, directory) = case("log-room");
+        let mut new = old.clone();
+        new.objects[1] = 1;
+        let log = fs::File::create(directory.join(LOG)).expect("the file");
+        log.set_len(MOST_LOG as u64 - 100).expect("the length");
+        let saved = Saved::new([3, 0, 0], 0, &new);
+        let run = case.save_run(&old, &new, &saved, [1, 0, 0], RUN);
+        let conversion = Conversion::of_rows(1);
+        let conversion = case.save_conversion(&old, &new, Some(conversion));
+        for refused in [run, conversion, case.prepare(&old)] {
+            let failure = refused.expect_err("a refusal");
+            assert!(failure.message.contains(LOG), "{failure:?}");
+            assert!(failure.message.ends_with("nothing is saved"), "{failure:?}");
+        }
+        assert_eq!(case.tables().expect("the tables"), old);
+        assert!(!case.disk.has(POSITION) && !case.disk.has(JOURNAL));
         fs::remove_dir_all(&directory).expect("the directory");
     }
 

@@ -2,6 +2,7 @@
 
 mod check;
 mod classes;
+mod convert;
 mod intake;
 mod link;
 mod log;
@@ -40,6 +41,7 @@ pub fn execute(call: &Call) -> Result<Outcome, Failure> {
         Command::Log(None) => log::log(directory, json),
         Command::Log(Some(fid)) => log::story(directory, *fid, json),
         Command::Undo => undo::undo(directory, json),
+        Command::Convert => convert::convert(directory, json, &bar),
         Command::Names(options) => names::names(directory, *options, json, &bar),
         Command::Link(source) => link::link(source, json),
         Command::Intake(options) => intake::intake(directory, options, json, &bar),

@@ -14,6 +14,7 @@ use numbers::object::{CLAIM_AT, FRESH_AT, OST_AT, SELF_AT};
 use numbers::parent::{LAYOUT_AT, LENGTH_AT};
 
 use crate::fid::{Fid, number16, number32};
+use crate::narrow;
 use crate::tables::{Table, Tables, Together};
 
 /// Something that is wrong with a table.
@@ -72,7 +73,11 @@ type Known = HashMap<Fid, usize>;
 pub fn faults(tables: &Tables) -> Vec<Fault> {
     let mut list = Vec::new();
     for table in Table::ALL {
-        list.extend(length_fault(table, tables.of(table)));
+        let bytes = tables.of(table);
+        list.extend(length_fault(table, bytes));
+        if is_narrow(table, bytes) {
+            continue;
+        }
         let mut known = Known::new();
         for (row, bytes) in tables.rows(table).enumerate() {
             let mut row = Row {
@@ -90,10 +95,22 @@ pub fn faults(tables: &Tables) -> Vec<Fault> {
     list
 }
 
+/// The rows are those of the edition before, where no row of this one begins.
+fn is_narrow(table: Table, bytes: &[u8]) -> bool {
+    table == Table::Parents && narrow::rows(bytes).is_some()
+}
+
 /// Whole rows, and not too many.
 pub fn length_fault(table: Table, bytes: &[u8]) -> Option<Fault> {
     let (size, most) = (table.row_bytes(), table.most_bytes());
-    let reason = if bytes.len() > most {
+    let reason = if is_narrow(table, bytes) {
+        format!(
+            "the rows have {} bytes, those of an edition with at most {} slots; \
+             lfsck-offline convert DIR widens them to {size} bytes",
+            narrow::BYTES,
+            narrow::SLOTS
+        )
+    } else if bytes.len() > most {
         format!("the file is longer than {most} bytes, which are the most rows there may be")
     } else if !bytes.len().is_multiple_of(size) {
         let rest = match bytes.len() % size {
@@ -294,7 +311,12 @@ mod tests {
             let mut tables = random_case(&mut random);
             for _ in 0..random.below(4) {
                 match random.below(3) {
-                    0 => damage(&mut tables.parents, 3915, 110, &mut random),
+                    0 => damage(
+                        &mut tables.parents,
+                        numbers::parent::BYTES,
+                        110,
+                        &mut random,
+                    ),
                     1 => damage(&mut tables.objects, 46, 46, &mut random),
                     _ => damage(&mut tables.reserve, 16, 16, &mut random),
                 }

@@ -228,7 +228,7 @@ mod tests {
             let (parents, objects) = to_bytes(&random_tables(SHAPE, &mut random), &mut random);
             let reserve = OBJECTS.iter().flat_map(|fid| fid.to_bytes()).collect();
             let tables = Tables {
-                parents: [parents, vec![0; 3915]].concat(),
+                parents: [parents, vec![0; numbers::parent::BYTES]].concat(),
                 objects: [objects, vec![0; 46 * 3]].concat(),
                 reserve,
             };

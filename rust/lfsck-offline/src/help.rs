@@ -21,6 +21,8 @@ pub enum Topic {
     Log,
     /// `undo`.
     Undo,
+    /// `convert`.
+    Convert,
     /// `names`.
     Names,
     /// `link`.
@@ -41,6 +43,7 @@ impl Topic {
             "show" => Topic::Show,
             "log" => Topic::Log,
             "undo" => Topic::Undo,
+            "convert" => Topic::Convert,
             "names" => Topic::Names,
             "link" => Topic::Link,
             "intake" => Topic::Intake,
@@ -59,6 +62,7 @@ impl Topic {
             Topic::Show => SHOW,
             Topic::Log => LOG,
             Topic::Undo => UNDO,
+            Topic::Convert => CONVERT,
             Topic::Names => NAMES,
             Topic::Link => LINK,
             Topic::Intake => INTAKE,
@@ -98,6 +102,7 @@ also have names: entries.tbl and children.tbl.
   names DIR      list where names and files disagree, and mend that (--mend)
   log DIR [FID]  tell what the runs changed, and when; of FID, also why
   undo DIR       take the last run or mending back
+  convert DIR    make a case of an earlier edition one of this edition
   link FILE      print a linkEA: under which names a file stands in directories
 
   help COMMAND   tell how a command is used
@@ -127,7 +132,8 @@ Usage: lfsck-offline check DIR [--json]
 Says whether the tables are sound. Where they are not, prints the lowest number
 that applies and what it means, and every row at fault with field and reason.
 
-  11  table not whole rows, too long, or a mark not 0 or 1
+  11  table not whole rows, too long, or a mark not 0 or 1; where the rows are
+      those of an earlier edition it says so, and convert widens them
   13  layout against the rules
   14  bad FID, object index or claim, or fresh without claim
   15  a FID twice among used parents, or twice among used objects
@@ -178,10 +184,11 @@ Usage: lfsck-offline run DIR [--create] [--adopt] [--steps N] [--from-start]
 
 Repairs step by step and saves tables and position together. Goes on from the
 saved position if policy, reserve and tables are those that it was saved with,
-else begins at the start and says why. SELF, BLANK, UNMATCHED, WRONG-OST and
-OWNER are repaired under every policy. A step that changes a slot of a file that
-was there, or the number of its slots, raises the generation of its layout by
-one.
+else begins at the start and says why. A position that another edition saved is
+refused: no run is taken up across editions, and this is edition 2026-07. SELF,
+BLANK, UNMATCHED, WRONG-OST and OWNER are repaired under every policy. A step
+that changes a slot of a file that was there, or the number of its slots, raises
+the generation of its layout by one.
 
   --create       make objects for slots that have none of their own
                  (MULTIPLE, DANGLING)
@@ -256,7 +263,8 @@ where, the repairs, and every change. With FID, the story of that file or
 object: the changes that concern it, each with the time and the class that was
 mended; a generation that repairs of several classes raised has none. Mendings
 of names are told in the same way: how many self FIDs were taken, FID-in-dirents
-written, records appended and removed, and every change.
+written, records appended and removed, and every change. Of a conversion it says
+how many rows were widened, from what to what.
 ";
 
 const UNDO: &str = "\
@@ -264,11 +272,30 @@ Usage: lfsck-offline undo DIR [--json]
 
 Takes the last run of the log back, row by row, and puts the saved position back
 that was there before it. The tables must still be what that run left. The undo
-is written into the log, and is not taken back itself. Where the log ends with a
-mending of names, that is taken back, and the position stays.
+is written into the log, and is not taken back itself; a conversion is not taken
+back either. Where the log ends with a mending of names, that is taken back, and
+the position stays.
 
 Exit status: 2 where there is no run to take back, or the tables were changed
 since.
+";
+
+const CONVERT: &str = "\
+Usage: lfsck-offline convert DIR [--json]
+
+Makes a case of an earlier edition one of this edition, 2026-07. The rows of
+parents.tbl had 3,915 bytes there, for at most 160 slots; each is widened to
+48,075 bytes, for at most 2,000 slots, by zeros at its end. What stands in the
+rows is not judged and stays, and so do the other tables. The saved position is
+thrown away: no run is taken up across editions. All is saved at once, with an
+entry in the log, and is not taken back by undo.
+
+Where the rows are as wide already, or there are none, a saved position of
+another edition, or one that cannot be read, is thrown away; else there is
+nothing to convert, and nothing is written.
+
+Exit status: 2 where the rows of parents.tbl are neither as wide as here nor as
+wide as there.
 ";
 
 const LINK: &str = "\
@@ -329,3 +356,30 @@ with the name in the dump; the case stays.
 Exit status: 0 the tables are sound, 2 a dump is refused or the tables are not
 sound.
 ";
+
+#[cfg(test)]
+mod tests {
+    use numbers::{layout, parent};
+
+    use super::*;
+    use crate::narrow;
+    use crate::saved::EDITION;
+
+    /// A number of four digits or more as people write it.
+    fn grouped(number: usize) -> String {
+        format!("{},{:03}", number / 1000, number % 1000)
+    }
+
+    /// The edition and the sizes of rows in the help are those of the code.
+    #[test]
+    fn the_help_has_the_edition_and_its_sizes() {
+        let convert = Topic::Convert.text();
+        for text in [Topic::Run.text(), convert] {
+            assert!(text.contains(EDITION), "{text}");
+        }
+        for number in [narrow::BYTES, parent::BYTES, layout::MOST_SLOTS] {
+            assert!(convert.contains(&grouped(number)), "{number}");
+        }
+        assert!(convert.contains(&format!("at most {} slots", narrow::SLOTS)));
+    }
+}

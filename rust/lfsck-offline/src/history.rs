@@ -1,4 +1,4 @@
-//! The entries of a case's log: what a run or a mending did, row by row, as a line of JSON.
+//! The entries of a case's log: what a run, a mending or a conversion did, as a line of JSON.
 
 use crate::change::{Change, Values};
 use crate::changes::changes;
@@ -9,6 +9,7 @@ use crate::json::Json;
 use crate::mended::Mended;
 use crate::name_changes::{self, NameChange};
 use crate::names::Names;
+use crate::narrow;
 use crate::reader::Value;
 use crate::saved::Saved;
 use crate::site::Site;
@@ -20,6 +21,12 @@ pub const LOG: &str = "lfsck-offline.log";
 
 /// The version of the command.
 pub const VERSION: &str = env!("CARGO_PKG_VERSION");
+
+/// A word for a conversion.
+const CONVERSION: &str = "conversion";
+
+/// The names of a conversion's numbers.
+const CONVERTED: [&str; 3] = ["parent_rows", "from_bytes", "to_bytes"];
 
 /// A row that was changed.
 #[derive(Clone, Debug, PartialEq, Eq)]
@@ -50,6 +57,8 @@ pub enum Deed {
     },
     /// A mending of names.
     Mending(Mended),
+    /// Parent rows of the edition before made wider.
+    Conversion(Conversion),
     /// An undo.
     Undo {
         /// When that was done which it took back.
@@ -57,6 +66,17 @@ pub enum Deed {
         /// Of which tables.
         of: Group,
     },
+}
+
+/// What a conversion did. It changes no row but for its length, and is not taken back.
+#[derive(Clone, Copy, Debug, PartialEq, Eq)]
+pub struct Conversion {
+    /// How many parent rows there are.
+    pub rows: u64,
+    /// The bytes of each before.
+    pub from: u64,
+    /// The bytes of each after.
+    pub to: u64,
 }
 
 /// Which tables are changed together.
@@ -128,11 +148,15 @@ pub fn digests<Of: Together>(tables: &Of) -> Vec<Digest> {
 impl Entry {
     /// What is done now, from these tables to those.
     pub fn new<Of: Together>(deed: Deed, old: &Of, new: &Of) -> Entry {
+        let rows = match deed {
+            Deed::Conversion(_) => Vec::new(),
+            _ => rows(old, new),
+        };
         Entry {
             when: clock::now(),
             version: VERSION.to_string(),
             deed,
-            rows: rows(old, new),
+            rows,
             before: digests(old),
             after: digests(new),
         }
@@ -231,6 +255,7 @@ impl Entry {
         match self.deed {
             Deed::Run { .. } => "run",
             Deed::Mending(_) => "mending",
+            Deed::Conversion(_) => CONVERSION,
             Deed::Undo { .. } => "undo",
         }
     }
@@ -313,20 +338,25 @@ impl Row {
 }
 
 impl Table {
-    /// What the log has of a row: of a row of names, which has room that is seldom used, the bytes
-    /// up to the last that isn't zero.
+    /// Whether its rows end with room that is seldom used.
+    fn has_room(self) -> bool {
+        matches!(self, Table::Parents | Table::Entries | Table::Children)
+    }
+
+    /// What the log has of a row: where it ends with room, the bytes up to the last that isn't
+    /// zero.
     fn written(self, row: &[u8]) -> &[u8] {
         let last = row.iter().rposition(|&byte| byte != 0);
-        match Table::NAMES.contains(&self) {
+        match self.has_room() {
             true => &row[..last.map_or(0, |at| at + 1)],
             false => row,
         }
     }
 
-    /// The row that those bytes were.
+    /// The row that those bytes were. A parent row of the edition before is one with less room.
     fn whole_row(self, written: Vec<u8>) -> Option<Vec<u8>> {
         let mut row = written;
-        if Table::NAMES.contains(&self) && row.len() < self.row_bytes() {
+        if self.has_room() && row.len() < self.row_bytes() {
             row.resize(self.row_bytes(), 0);
         }
         (row.len() == self.row_bytes()).then_some(row)
@@ -336,7 +366,7 @@ impl Table {
 impl Deed {
     fn group(&self) -> Group {
         match self {
-            Deed::Run { .. } => Group::Files,
+            Deed::Run { .. } | Deed::Conversion(_) => Group::Files,
             Deed::Mending(_) => Group::Names,
             Deed::Undo { of, .. } => *of,
         }
@@ -346,6 +376,7 @@ impl Deed {
         match self {
             Deed::Undo { undoes, .. } => vec![("undoes", Json::text(undoes))],
             Deed::Mending(mended) => mended.members(),
+            Deed::Conversion(conversion) => conversion.members(),
             Deed::Run {
                 policy,
                 from,
@@ -373,9 +404,14 @@ impl Deed {
                 of: Group::of_value(value.get("before")?),
             });
         }
-        if value.text("what")? == "mending" {
-            return Mended::of_value(value).map(Deed::Mending);
+        match value.text("what")? {
+            "mending" => Mended::of_value(value).map(Deed::Mending),
+            CONVERSION => Conversion::of_value(value).map(Deed::Conversion),
+            _ => Deed::run_of_value(value),
         }
+    }
+
+    fn run_of_value(value: &Value) -> Option<Deed> {
         Some(Deed::Run {
             policy: value.number("policy")?,
             from: numbers_of(value.list("from")?)?,
@@ -389,6 +425,42 @@ impl Deed {
                 Value::Null => None,
                 _ => Some(Box::new(Saved::parse(value.text("saved")?.as_bytes())?)),
             },
+        })
+    }
+}
+
+impl Conversion {
+    /// Of so many rows of the edition before.
+    pub fn of_rows(rows: usize) -> Conversion {
+        Conversion {
+            rows: rows as u64,
+            from: narrow::BYTES as u64,
+            to: Table::Parents.row_bytes() as u64,
+        }
+    }
+
+    /// What it did, for people.
+    pub fn words(&self) -> String {
+        let Conversion { rows, from, to } = self;
+        let rows = match rows {
+            1 => "1 parent row".to_string(),
+            _ => format!("{rows} parent rows"),
+        };
+        format!("{rows} widened from {from} to {to} bytes")
+    }
+
+    /// What it did, for machines.
+    pub fn members(&self) -> Vec<(&'static str, Json)> {
+        let values = [self.rows, self.from, self.to].map(Json::Number);
+        CONVERTED.into_iter().zip(values).collect()
+    }
+
+    fn of_value(value: &Value) -> Option<Conversion> {
+        let [rows, from, to] = CONVERTED.map(|name| value.number(name));
+        Some(Conversion {
+            rows: rows?,
+            from: from?,
+            to: to?,
         })
     }
 }

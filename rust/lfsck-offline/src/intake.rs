@@ -1,11 +1,8 @@
 //! Dumps read by the library, piece by piece, into tables that grow.
 
-use numbers::intake::{MOST_PIECE, STATE};
+use numbers::intake::STATE;
 
 use crate::tables::Table;
-
-/// More than a piece can fill: the self FID of an entry alone has 48 digits.
-const MOST_FILLED: usize = MOST_PIECE / 64 + 1;
 
 /// The library's number for a line, and the line, counted from 1 over all dumps.
 #[derive(Clone, Copy, Debug, PartialEq, Eq)]
@@ -44,12 +41,13 @@ impl Intake {
     /// lent; so it is lent the unused rows alone, as many as a piece can fill.
     pub fn feed(&mut self, piece: &[u8], owners: &[u8]) -> Result<(), Stop> {
         let mut line = [0];
+        let most = closed(piece);
         let number = lfsck_sys::intake_feed(
             &mut self.state,
             piece,
             owners,
-            self.files.unused(),
-            self.objects.unused(),
+            self.files.unused(most),
+            self.objects.unused(most),
             &mut line,
         );
         self.files.count();
@@ -79,6 +77,14 @@ impl Intake {
     }
 }
 
+/// The most entries that a piece closes: its empty lines, and its first where it begins with the end
+/// of a line, which may be empty.
+fn closed(piece: &[u8]) -> usize {
+    let before = [b'\n'].iter().chain(piece);
+    let pairs = before.zip(piece);
+    pairs.filter(|pair| *pair == (&b'\n', &b'\n')).count()
+}
+
 fn stop(number: u32, line: u64) -> Result<(), Stop> {
     match number {
         0 => Ok(()),
@@ -95,10 +101,10 @@ impl Filled {
         }
     }
 
-    /// The unused rows that are lent.
-    fn unused(&mut self) -> &mut [u8] {
+    /// The unused rows that are lent, so many where the table may have them.
+    fn unused(&mut self, most: usize) -> &mut [u8] {
         let size = self.table.row_bytes();
-        let rows = (self.rows + MOST_FILLED).min(self.table.most_rows());
+        let rows = (self.rows + most).min(self.table.most_rows());
         self.bytes.resize(rows * size, 0);
         &mut self.bytes[self.rows * size..]
     }
@@ -112,5 +118,26 @@ impl Filled {
     fn into_bytes(mut self) -> Vec<u8> {
         self.bytes.truncate(self.rows * self.table.row_bytes());
         self.bytes
+    }
+}
+
+#[cfg(test)]
+mod tests {
+    use super::*;
+
+    #[test]
+    fn empty_lines_close_entries() {
+        for (piece, most) in [
+            (&b""[..], 0),
+            (b"a", 0),
+            (b"a\n", 0),
+            (b"a\n\n", 1),
+            (b"\n", 1),
+            (b"\n\n\n", 3),
+            (b"a\n\nb\n\nc", 2),
+            (b"\na\n\n", 2),
+        ] {
+            assert_eq!(closed(piece), most, "{piece:?}");
+        }
     }
 }

@@ -3,7 +3,8 @@
 //!
 //! Each call checks the tables that it is lent, and the time for objects grows with the square of
 //! their rows. But in tables that pass the check the answer depends on the files and on that
-//! object's row alone; so these are lent, or no row where the object is absent.
+//! object's row alone; so these are lent, or no row where the object is absent. The files of large
+//! tables are checked long enough by some calls; after those the index tells the same.
 
 use std::collections::HashMap;
 use std::collections::hash_map::Entry;
@@ -13,6 +14,10 @@ use numbers::call::KEEPER;
 use crate::fid::OstFid;
 use crate::site::{Place, Site};
 use crate::tables::{Table, Tables, Together};
+use crate::why::{self, Search};
+
+/// So many bytes of parent rows are lent in all, once at least.
+const MOST_LENT: usize = 1 << 28;
 
 /// What the library answers for an object.
 #[derive(Clone, Copy, Debug, PartialEq, Eq)]
@@ -23,20 +28,43 @@ pub struct Look {
     pub compared: usize,
 }
 
-/// The answers for some objects, by one call for each; the library's number where it refuses the
-/// tables.
+/// The answers for some objects; the library's number where it refuses the tables.
 pub fn looks(
     tables: &Tables,
     site: &Site,
     objects: impl IntoIterator<Item = OstFid>,
 ) -> Result<HashMap<OstFid, Look>, u32> {
+    looks_within(MOST_LENT, tables, site, objects)
+}
+
+/// The same, with at most so many bytes of parent rows lent.
+fn looks_within(
+    most_lent: usize,
+    tables: &Tables,
+    site: &Site,
+    objects: impl IntoIterator<Item = OstFid>,
+) -> Result<HashMap<OstFid, Look>, u32> {
     let mut looks = HashMap::new();
+    let mut lent = 0;
     for object in objects {
         if let Entry::Vacant(place) = looks.entry(object) {
-            place.insert(look(tables, site, object)?);
+            place.insert(match lent < most_lent {
+                true => look(tables, site, object)?,
+                false => indexed(site, object),
+            });
+            lent += tables.parents.len();
         }
     }
     Ok(looks)
+}
+
+/// What the index tells.
+fn indexed(site: &Site, object: OstFid) -> Look {
+    let Search { keeper, compared } = why::search(site, object);
+    Look {
+        keeper: keeper.map(|(place, _)| place),
+        compared,
+    }
 }
 
 fn look(tables: &Tables, site: &Site, object: OstFid) -> Result<Look, u32> {
@@ -63,7 +91,7 @@ fn ask(parents: &[u8], objects: &[u8], OstFid(fid): OstFid) -> Result<Look, u32>
 mod tests {
     use super::*;
     use crate::fid::Fid;
-    use crate::why::{self, Rule};
+    use crate::why::Rule;
     use difftest::tables::{OBJECTS, Shape};
     use difftest::{Coverage, Random};
 
@@ -136,8 +164,8 @@ mod tests {
         named.chain(present).chain(others).collect()
     }
 
-    /// The library's answer on whole tables, its answer with one row, and the words that explain
-    /// it agree.
+    /// The library's answer on whole tables, its answer with one row, what the index tells and the
+    /// words that explain it agree.
     #[test]
     fn keepers_and_counts_are_the_library_s() {
         let mut random = Random::for_test("slots compared");
@@ -147,9 +175,11 @@ mod tests {
             let site = Site::new(&tables);
             let asked = asked(&site);
             let looks = looks(&tables, &site, asked.iter().copied()).expect("sound tables");
+            let few = looks_within(1, &tables, &site, asked.iter().copied()).expect("the same");
             for object in asked {
                 let whole = ask(&tables.parents, &tables.objects, object).expect("sound tables");
                 assert_eq!(looks[&object], whole, "{object}");
+                assert_eq!(few[&object], whole, "{object}");
                 let keeper = why::keeper(&site, object);
                 assert_eq!(keeper.map(|(place, _)| place), whole.keeper, "{object}");
                 assert_eq!(why::compared(&site, object), whole.compared, "{object}");

@@ -43,6 +43,7 @@ mod name_faults;
 mod name_finding;
 mod name_rows;
 mod names;
+mod narrow;
 mod outcome;
 mod pace;
 mod pasted;

@@ -29,14 +29,15 @@ pub fn two_moments<Of: Together>(entry: &Entry, tables: &Of) -> Option<String> {
 #[cfg(test)]
 mod tests {
     use super::*;
-    use crate::history::{Deed, Group};
+    use crate::history::{Conversion, Deed, Group};
     use crate::names::Names;
+    use crate::narrow;
     use crate::tables::Tables;
 
     #[test]
     fn tables_of_two_moments_are_told() {
         let old = Tables {
-            parents: vec![0; 3915],
+            parents: vec![0; numbers::parent::BYTES],
             objects: vec![0; 46],
             reserve: vec![1; 16],
         };
@@ -59,6 +60,26 @@ mod tests {
         both.objects[1] = 2;
         assert_eq!(two_moments(&entry, &both), None);
     }
+
+    /// A conversion changes one table, so no two can be of two moments by it.
+    #[test]
+    fn a_conversion_makes_one_moment_of_each() {
+        let old = Tables {
+            parents: vec![0; narrow::BYTES],
+            objects: vec![0; 46],
+            reserve: vec![1; 16],
+        };
+        let mut new = old.clone();
+        new.parents = narrow::widened(&old.parents);
+        let deed = Deed::Conversion(Conversion::of_rows(1));
+        let entry = Entry::new(deed, &old, &new);
+        assert_eq!(Entry::parse(entry.line().trim_end()), Some(entry.clone()));
+        assert_eq!(two_moments(&entry, &old), None);
+        assert_eq!(two_moments(&entry, &new), None);
+        new.objects[1] = 1;
+        assert_eq!(two_moments(&entry, &new), None);
+    }
+
     #[test]
     fn names_of_two_moments_are_told() {
         let old = Names {

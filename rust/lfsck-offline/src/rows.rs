@@ -2,6 +2,7 @@
 
 use std::fmt;
 
+use numbers::layout::{SLOT_BYTES, SLOT_GENERATION_AT, SLOT_OST_AT};
 use numbers::{call, layout, object, parent};
 
 use crate::fid::{Fid, MdtFid, OstFid, number16, number32};
@@ -155,9 +156,9 @@ impl File {
             id,
             sequence,
             stripe_size,
-            count,
-            generation,
             _,
+            generation,
+            start,
         ] = fields;
         Some(File {
             fid: MdtFid(Fid::read(row, parent::SELF_AT)),
@@ -169,20 +170,23 @@ impl File {
                 stripe_size,
                 generation,
             },
-            slots: (0..count).map(|index| read_slot(layout, index)).collect(),
+            slots: slots(&layout[start as usize..]),
         })
     }
 }
 
-/// A slot of a layout that the library reads.
-fn read_slot(layout: &[u8], index: u64) -> Option<Stripe> {
-    let mut numbers = [0; call::SLOT];
-    lfsck_sys::layout_slot(layout, index, &mut numbers);
-    let [named, sequence, id, generation, ost] = numbers;
-    (named == 1).then_some(Stripe {
-        object: OstFid(Fid::new(sequence, id as u32)),
-        generation,
-        ost,
+/// The slots of a layout that the library has read. It would read the whole layout again for each.
+fn slots(bytes: &[u8]) -> Vec<Option<Stripe>> {
+    bytes.chunks_exact(SLOT_BYTES).map(slot).collect()
+}
+
+/// A slot; none where it is a hole.
+fn slot(bytes: &[u8]) -> Option<Stripe> {
+    let is_hole = bytes.iter().all(|&byte| byte == 0);
+    (!is_hole).then(|| Stripe {
+        object: OstFid(Fid::read(bytes, 0)),
+        generation: number32(bytes, SLOT_GENERATION_AT).into(),
+        ost: number32(bytes, SLOT_OST_AT).into(),
     })
 }
 
@@ -214,5 +218,58 @@ impl fmt::Display for OwnFid {
 impl fmt::Display for Claim {
     fn fmt(&self, out: &mut fmt::Formatter<'_>) -> fmt::Result {
         write!(out, "slot {} of {}", self.index, self.file)
+    }
+}
+
+#[cfg(test)]
+mod tests {
+    use difftest::Random;
+    use difftest::tables::Shape;
+
+    use super::*;
+    use crate::tables::{Table, Tables, Together};
+
+    const SHAPE: Shape = Shape {
+        parents: 4,
+        objects: 2,
+        slots: 6,
+        files: 4,
+        fids: 6,
+    };
+
+    /// A slot as the library reads it.
+    fn told(layout: &[u8], index: u64) -> Option<Stripe> {
+        let mut numbers = [0; call::SLOT];
+        assert_eq!(lfsck_sys::layout_slot(layout, index, &mut numbers), 0);
+        let [named, sequence, id, generation, ost] = numbers;
+        (named == 1).then_some(Stripe {
+            object: OstFid(Fid::new(sequence, id as u32)),
+            generation,
+            ost,
+        })
+    }
+
+    #[test]
+    fn the_slots_are_those_that_the_library_reads() {
+        let mut random = Random::for_test("slots");
+        let (mut named, mut holes) = (0, 0);
+        for _ in 0..1_000 {
+            let tables = Tables::random(SHAPE, &mut random);
+            for row in tables.rows(Table::Parents) {
+                let Some(file) = File::read(row) else {
+                    continue;
+                };
+                let length = usize::from(number16(row, parent::LENGTH_AT));
+                let layout = &row[parent::LAYOUT_AT..][..length];
+                let count = file.slots.len() as u64;
+                let slots: Vec<_> = (0..count).map(|index| told(layout, index)).collect();
+                assert_eq!(file.slots, slots);
+                let mut numbers = [0; call::SLOT];
+                assert_ne!(lfsck_sys::layout_slot(layout, count, &mut numbers), 0);
+                named += slots.iter().flatten().count();
+                holes += slots.iter().filter(|slot| slot.is_none()).count();
+            }
+        }
+        assert!(named > 1_000 && holes > 100, "{named} and {holes}");
     }
 }

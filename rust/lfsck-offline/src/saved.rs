@@ -1,50 +1,80 @@
 //! The saved position of a run, and what it was saved with.
 //!
-//! It counts only for the policy, the reserve and the tables that it was saved with: under any
-//! other a run that went on from it could pass by what has changed since.
+//! It counts only for the edition, the policy, the reserve and the tables that it was saved with:
+//! under any other a run that went on from it could pass by what has changed since.
 
 use numbers::call::{ADOPT, CREATE};
 
 use crate::digest::Digest;
+use crate::narrow;
 use crate::tables::Tables;
 
 /// The file of the saved position.
 pub const POSITION: &str = "lfsck-offline.position";
 /// The file is shorter than this.
 pub const MOST_BYTES: usize = 4096;
+/// What the first line begins with; the number of the format follows.
+const TITLE: &str = "lfsck-offline position, format ";
 
-/// The forms of the file, which are alike but for the title.
-#[derive(Clone, Copy, Debug, PartialEq, Eq)]
+/// The edition of the rules that this version keeps to. What a run does to the same tables may
+/// differ from edition to edition, so none is taken up in another.
+pub const EDITION: &str = "2026-07";
+
+/// The forms of the file, which are alike but for the title and the edition.
+#[derive(Clone, Debug, PartialEq, Eq)]
 pub enum Format {
-    /// Of a version without the class WRONG-OST. Its runs passed by slots of that class, so such
-    /// a position never counts.
+    /// Of a version without the class WRONG-OST.
     One,
-    /// Of a version that raised no generations, so that a list of calls that goes on from there
-    /// is none of demand 3: such a position never counts either.
+    /// Of a version that raised no generations.
     Two,
-    /// Of a version that raises generations.
+    /// Of a version whose files had at most 160 slots.
     Three,
+    /// With the name of an edition.
+    Four(String),
 }
 
 impl Format {
-    const ALL: [Format; 3] = [Format::One, Format::Two, Format::Three];
-
-    fn title(self) -> &'static str {
-        match self {
-            Format::One => "lfsck-offline position, format 1",
-            Format::Two => "lfsck-offline position, format 2",
-            Format::Three => "lfsck-offline position, format 3",
+    /// The format that the first lines tell.
+    fn read<'text>(lines: &mut impl Iterator<Item = &'text str>) -> Option<Format> {
+        match lines.next()?.strip_prefix(TITLE)? {
+            "1" => Some(Format::One),
+            "2" => Some(Format::Two),
+            "3" => Some(Format::Three),
+            "4" => {
+                let name = lines.next()?.strip_prefix("edition ")?;
+                is_plain(name).then(|| Format::Four(name.to_string()))
+            }
+            _ => None,
         }
     }
 
-    /// Why a position never counts.
-    fn lacks(self) -> Option<&'static str> {
+    /// The first lines of the file.
+    fn lines(&self) -> String {
         match self {
-            Format::One => Some("it was saved by a version without the class WRONG-OST"),
-            Format::Two => Some("it was saved by a version that raised no generations"),
-            Format::Three => None,
+            Format::One => format!("{TITLE}1\n"),
+            Format::Two => format!("{TITLE}2\n"),
+            Format::Three => format!("{TITLE}3\n"),
+            Format::Four(edition) => format!("{TITLE}4\nedition {edition}\n"),
         }
     }
+
+    /// Which edition saved it, in words; none where it is this one.
+    fn other_edition(&self) -> Option<String> {
+        match self {
+            Format::Four(edition) if edition == EDITION => None,
+            Format::Four(edition) => Some(format!("edition {edition}")),
+            _ => Some(format!(
+                "an edition before {EDITION}, with at most {} slots",
+                narrow::SLOTS
+            )),
+        }
+    }
+}
+
+/// Whether a name of an edition is some printable characters of ASCII.
+fn is_plain(name: &str) -> bool {
+    let plain = |byte: u8| byte == b' ' || byte.is_ascii_graphic();
+    !name.is_empty() && name.bytes().all(plain)
 }
 
 /// A position and its conditions.
@@ -68,7 +98,7 @@ impl Saved {
     /// A position in these tables.
     pub fn new(position: [u64; 3], policy: u64, tables: &Tables) -> Saved {
         Saved {
-            format: Format::Three,
+            format: Format::Four(EDITION.to_string()),
             position,
             policy,
             parents: Digest::of(&tables.parents),
@@ -77,11 +107,14 @@ impl Saved {
         }
     }
 
-    /// Why a run with this policy on these tables must not go on from here.
+    /// Which edition saved it, in words; none where it is this one.
+    pub fn other_edition(&self) -> Option<String> {
+        self.format.other_edition()
+    }
+
+    /// Why a run with this policy on these tables must not go on from here, where the edition is
+    /// this one.
     pub fn differs(&self, policy: u64, tables: &Tables) -> Option<String> {
-        if let Some(why) = self.format.lacks() {
-            return Some(why.to_string());
-        }
         if self.policy != policy {
             let (was, is) = (policy_words(self.policy), policy_words(policy));
             return Some(format!("it was saved with {was}, and this run has {is}"));
@@ -102,8 +135,8 @@ impl Saved {
     pub fn to_text(&self) -> String {
         let [stage, row, part] = self.position;
         let text = format!(
-            "{}\nposition {stage} {row} {part}\npolicy {}\nparents {}\nobjects {}\nreserve {}\n",
-            self.format.title(),
+            "{}position {stage} {row} {part}\npolicy {}\nparents {}\nobjects {}\nreserve {}\n",
+            self.format.lines(),
             self.policy,
             self.parents,
             self.objects,
@@ -117,9 +150,7 @@ impl Saved {
     pub fn parse(bytes: &[u8]) -> Option<Saved> {
         let text = str::from_utf8(bytes).ok()?;
         let mut lines = text.lines();
-        let title = lines.next()?;
-        let mut formats = Format::ALL.into_iter();
-        let format = formats.find(|format| format.title() == title)?;
+        let format = Format::read(&mut lines)?;
         let mut field = |name: &str| lines.next()?.strip_prefix(name)?.strip_prefix(' ');
         let position: Option<Vec<u64>> = field("position")?
             .split(' ')
@@ -134,6 +165,32 @@ impl Saved {
             reserve: Digest::parse(field("reserve")?)?,
         };
         (saved.to_text() == text).then_some(saved)
+    }
+}
+
+/// What the file of the saved position holds.
+#[derive(Debug, PartialEq, Eq)]
+pub enum Held {
+    /// There is no such file.
+    Nothing,
+    /// A position of this edition.
+    Own(Saved),
+    /// A position of another edition, which these words name.
+    Other(String),
+    /// Something else.
+    Broken,
+}
+
+impl Held {
+    /// What these bytes are.
+    pub fn of(bytes: &[u8]) -> Held {
+        match Saved::parse(bytes) {
+            None => Held::Broken,
+            Some(saved) => match saved.other_edition() {
+                None => Held::Own(saved),
+                Some(edition) => Held::Other(edition),
+            },
+        }
     }
 }
 
@@ -169,24 +226,53 @@ mod tests {
 
     /// It is read, and written again byte for byte.
     #[test]
-    fn a_position_of_an_earlier_format_never_counts() {
-        for (format, number, lacks) in [
-            (Format::One, "format 1", "without the class WRONG-OST"),
-            (Format::Two, "format 2", "that raised no generations"),
+    fn a_position_of_another_edition_is_read() {
+        let before = "an edition before 2026-07, with at most 160 slots";
+        let four = |name: &str| Format::Four(name.to_string());
+        for (format, start, edition) in [
+            (Format::One, "1\n", before),
+            (Format::Two, "2\n", before),
+            (Format::Three, "3\n", before),
+            (four("2026-06"), "4\nedition 2026-06\n", "edition 2026-06"),
+            (four("~ a b !"), "4\nedition ~ a b !\n", "edition ~ a b !"),
         ] {
             let saved = Saved {
                 format,
                 ..Saved::new([3, 0, 0], 3, &tables())
             };
             let text = saved.to_text();
-            let start = format!("lfsck-offline position, {number}\nposition 3 0 0\npolicy 3\n");
+            let start = format!("lfsck-offline position, format {start}position 3 0 0\npolicy 3\n");
             assert!(text.starts_with(&start), "{text}");
             assert_eq!(Saved::parse(text.as_bytes()), Some(saved.clone()));
-            let why = saved.differs(3, &tables()).expect("a reason");
-            assert!(why.contains(lacks), "{why}");
-            // The title alone makes no position of another format.
-            let other = text.replace(number, "format 3");
-            assert_eq!(Saved::parse(other.as_bytes()), None);
+            assert_eq!(saved.other_edition().as_deref(), Some(edition));
+        }
+        let own = Saved::new([3, 0, 0], 3, &tables());
+        assert!(
+            own.to_text()
+                .contains("format 4\nedition 2026-07\nposition ")
+        );
+        assert_eq!(own.other_edition(), None);
+    }
+
+    /// A title or an edition alone makes no position of another, and each name is plain.
+    #[test]
+    fn a_title_alone_makes_no_position() {
+        let text = Saved::new([3, 0, 0], 3, &tables()).to_text();
+        let first = text.replace("format 4\nedition 2026-07\n", "format 1\n");
+        for other in [
+            first.replace("format 1", "format 3"),
+            text.replace("format 4", "format 3"),
+            text.replace("format 4", "format 5"),
+            text.replace("edition 2026-07", "edition 2026-06"),
+        ] {
+            assert_eq!(Saved::parse(other.as_bytes()), None, "{other}");
+        }
+        for name in ["", "\u{e9}dition", "two\tparts", "bell\u{7}"] {
+            let saved = Saved {
+                format: Format::Four(name.to_string()),
+                ..Saved::new([3, 0, 0], 3, &tables())
+            };
+            assert_eq!(Saved::parse(saved.to_text().as_bytes()), None, "{name}");
         }
     }
 

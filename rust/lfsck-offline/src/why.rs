@@ -99,7 +99,11 @@ impl Denial {
     /// Why not, in words.
     pub fn words(self, claim: Claim) -> String {
         match self {
-            Denial::Index => format!("no layout has a slot {}", claim.index),
+            Denial::Index => format!(
+                "no layout has a slot {}; the last that one may have is {}",
+                claim.index,
+                MOST_SLOTS - 1
+            ),
             Denial::Plain => format!(
                 "slot {} is past the end of {}, whose pattern allows no holes",
                 claim.index, claim.file

@@ -13,10 +13,10 @@ fn the_dump_gives_the_tables() {
     let (mut parents, mut objects) = (vec![0; PARENTS.len()], vec![0; OBJECTS.len()]);
     assert_eq!(read(DUMP, OWNERS, &mut parents, &mut objects), Ok(()));
     assert!(parents == PARENTS && objects == OBJECTS);
-    assert_eq!(PARENTS.len() / 3915, 4);
+    assert_eq!(PARENTS.len() / 48_075, 4);
     assert_eq!(OBJECTS.len() / 46, 5);
     let used = |table: &[u8], size| table.chunks(size).all(|row| row[0] == 1);
-    assert!(used(PARENTS, 3915) && used(OBJECTS, 46));
+    assert!(used(PARENTS, 48_075) && used(OBJECTS, 46));
     let found = faults(PARENTS, OBJECTS, b"", 0, [3, 0, 0]);
     assert_eq!(found, Faults::new());
 }

@@ -11,6 +11,7 @@ use crate::json::Json;
 use crate::moments::two_moments;
 use crate::name_faults::name_faults;
 use crate::names::Names;
+use crate::narrow;
 use crate::outcome::{Failure, Outcome, Status};
 use crate::quoted::on_one_line;
 use crate::tables::{Table, Tables, Together};
@@ -151,11 +152,12 @@ fn machine(
     names: Option<&OfNames>,
 ) -> String {
     let rows = |table| Json::Number(tables.rows(table).count() as u64);
+    let narrow = narrow::rows(&tables.parents).map(|rows| Json::Number(rows as u64));
     let mut members = vec![
         ("answer", Json::Number(number.into())),
         ("sound", Json::Bool(number == 0)),
         ("meaning", Json::text(soundness(number, meaning))),
-        ("parent_rows", rows(Table::Parents)),
+        ("parent_rows", narrow.unwrap_or(rows(Table::Parents))),
         ("object_rows", rows(Table::Objects)),
         ("reserve_fids", rows(Table::Reserve)),
         ("faults", faults_json(list)),

@@ -48,17 +48,18 @@ pub fn classes(
     json: bool,
     bar: &Bar,
 ) -> Result<Outcome, Failure> {
-    let tables = Case::open(directory)?.tables()?;
+    let tables = Case::open(directory)?.wide_tables()?;
     let site = Site::new(&tables);
     let filter = &options.filter;
     let admitted = Position::all(&site).filter(|position| filter.admits(&site, *position));
     let positions: Vec<Position> = admitted.collect();
     let mut summary = Summary::default();
     let mut findings = Vec::new();
+    let listed = !options.summary || options.exit_code;
     let classes = classes_at(&tables, &site, &positions, bar)?;
     for (position, class) in positions.into_iter().zip(classes) {
         summary.add(&site, position, class);
-        if filter.lists(class) {
+        if listed && filter.lists(class) {
             findings.push(Finding::new(&site, position, class));
         }
     }

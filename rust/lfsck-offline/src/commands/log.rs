@@ -93,6 +93,7 @@ impl Entry {
                 format!("{when}  run, lfsck-offline {version}, policy: {policy}\n")
             }
             Deed::Mending(_) => format!("{when}  mending of names, lfsck-offline {version}\n"),
+            Deed::Conversion(_) => format!("{when}  conversion, lfsck-offline {version}\n"),
             Deed::Undo { undoes, of } => {
                 let undone = of.changed_by();
                 format!("{when}  undo of the {undone} of {undoes}, lfsck-offline {version}\n")
@@ -117,6 +118,7 @@ impl Entry {
                 let (done, end) = (mended.words(), mended.end_words());
                 format!("  Answer {}: {end}.\n  Mended: {done}.\n", mended.answer)
             }
+            Deed::Conversion(conversion) => format!("  {}.\n", conversion.words()),
             Deed::Undo { .. } => String::new(),
         }
     }
@@ -170,7 +172,7 @@ fn entry_json(entry: &Entry) -> Json {
 fn story_json((entry, concerning): &Told) -> Vec<Json> {
     let (policy, undoes) = match &entry.deed {
         Deed::Run { policy, .. } => (Some(*policy), None),
-        Deed::Mending(_) => (None, None),
+        Deed::Mending(_) | Deed::Conversion(_) => (None, None),
         Deed::Undo { undoes, .. } => (None, Some(undoes)),
     };
     let one = |change: Json, class: Option<Class>| {

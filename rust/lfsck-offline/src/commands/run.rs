@@ -57,7 +57,7 @@ pub fn run(
     bar: &Bar,
 ) -> Result<Outcome, Failure> {
     let case = open(directory, options)?;
-    let old = case.tables()?;
+    let old = case.wide_tables()?;
     let saved = match options.from_start {
         true => None,
         false => case.position()?,

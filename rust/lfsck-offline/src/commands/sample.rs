@@ -160,7 +160,9 @@ fn add_objects(objects: &mut Vec<u8>) {
     add(0x27, 3, ALICE, Some((1, 7)), true);
     add(0x28, 2, ALICE, Some((10, 0)), false);
     add(0x29, 1, ROOT, Some((11, 0)), false);
-    objects.resize(objects.len() + 4 * object::BYTES, 0);
+    // No file can be made that has this slot.
+    add(0x2a, 3, ALICE, Some((12, layout::MOST_SLOTS as u32)), false);
+    objects.resize(objects.len() + 3 * object::BYTES, 0);
 }
 
 fn add_file(parents: &mut Vec<u8>, file: NewFile) {

@@ -31,7 +31,7 @@ struct View<'case> {
 
 /// Shows a file, an object, or both where both have the FID.
 pub fn show(directory: &Path, fid: Fid, json: bool, bar: &Bar) -> Result<Outcome, Failure> {
-    let tables = Case::open(directory)?.tables()?;
+    let tables = Case::open(directory)?.wide_tables()?;
     let site = Site::new(&tables);
     let positions = positions(&site, fid);
     let classes = classes_at(&tables, &site, &positions, bar)?;

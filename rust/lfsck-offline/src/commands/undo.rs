@@ -20,7 +20,7 @@ pub fn undo(directory: &Path, json: bool) -> Result<Outcome, Failure> {
     let text = match &entry {
         Ok(Some(entry)) if entry.group() == Group::Names => undo_mending(&case, entry, json)?,
         _ => {
-            let tables = case.tables()?;
+            let tables = case.wide_tables()?;
             undo_run(&case, &tables, entry?.as_ref(), json)?
         }
     };
@@ -77,6 +77,10 @@ fn last_run(entry: Option<&Entry>) -> Result<(&Entry, Option<&Saved>), Failure> 
     require_no_undo(entry)?;
     match &entry.deed {
         Deed::Run { saved, .. } => Ok((entry, saved.as_deref())),
+        Deed::Conversion(_) => Err(Failure::refused(format!(
+            "the last entry of the log is a conversion, of {}; a conversion is not taken back",
+            entry.when
+        ))),
         _ => Err(none()),
     }
 }

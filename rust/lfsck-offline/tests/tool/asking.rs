@@ -36,7 +36,8 @@ fn the_version_is_the_package_s() {
 #[test]
 fn help_may_be_asked_of_a_command() {
     for command in [
-        "sample", "intake", "check", "classes", "run", "show", "log", "undo", "link",
+        "sample", "intake", "check", "classes", "run", "show", "log", "undo", "convert", "names",
+        "link",
     ] {
         let told = tool(&["help", command]).expect(0);
         assert_eq!(told.out, tool(&[command, "--help"]).expect(0).out);

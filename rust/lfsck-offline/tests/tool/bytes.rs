@@ -4,6 +4,9 @@ use reference::fid::Fid;
 use reference::layout::{Layout, Stripe, Version};
 use reference::tables::{Claim, OBJECT_BYTES, Object, Owner, PARENT_BYTES, Parent};
 
+/// The bytes of a parent row.
+pub const PARENT: usize = numbers::parent::BYTES;
+
 /// The owner of everything.
 pub const OWNER: Owner = Owner { uid: 500, gid: 600 };
 

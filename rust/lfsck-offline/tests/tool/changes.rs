@@ -7,7 +7,7 @@ use reference::fid::Fid;
 use reference::layout::{HOLE_PATTERN, Layout, Stripe, Version};
 use reference::tables::{Claim, Object, Owner, Parent, Tables};
 
-use crate::bytes::object_row;
+use crate::bytes::{PARENT, object_row};
 use crate::json::Value;
 use crate::tool::Case;
 
@@ -208,7 +208,7 @@ fn every_slot_of_a_made_file_is_listed() {
     let objects: Vec<u8> = (0..3)
         .flat_map(|slot| object_row(1 + slot, (9, slot)))
         .collect();
-    let case = Case::with("made-file", &[0; 3915], &objects, &[]);
+    let case = Case::with("made-file", &[0; PARENT], &objects, &[]);
     let before = case.files();
     let told = case.run(&["run", "--adopt"]).expect(0);
     let lines = "Changed:

@@ -6,7 +6,7 @@ use reference::class::Class;
 use reference::position::Position;
 use reference::site::Reason;
 
-use crate::bytes::{object, object_row, parent_row};
+use crate::bytes::{PARENT, object, object_row, parent_row};
 use crate::json::Value;
 use crate::oracle;
 use crate::tool::{Case, TOOL, Told};
@@ -116,9 +116,9 @@ fn sound_tables_are_said_to_be_sound() {
 fn every_row_at_fault_is_listed() {
     let case = Case::sample("check-faults");
     case.edit("parents.tbl", |bytes| {
-        bytes[3915 + 27] = 0;
-        bytes[2 * 3915 + 25] = 57;
-        bytes[8 * 3915] = 7;
+        bytes[PARENT + 27] = 0;
+        bytes[2 * PARENT + 25] = 57;
+        bytes[8 * PARENT] = 7;
     });
     case.edit("objects.tbl", |bytes| {
         bytes[46 + 19] = 1;
@@ -465,6 +465,7 @@ fn there_is_help_for_every_command() {
         ("show", "DIR"),
         ("log", "DIR"),
         ("undo", "DIR"),
+        ("convert", "DIR"),
         ("names", "DIR"),
         ("link", "FILE"),
     ] {
@@ -487,7 +488,8 @@ fn the_man_page_has_what_the_help_has() {
     };
     let mut help = String::new();
     for command in [
-        "sample", "intake", "check", "classes", "run", "show", "log", "undo", "names", "link",
+        "sample", "intake", "check", "classes", "run", "show", "log", "undo", "convert", "names",
+        "link",
     ] {
         let mut tool = std::process::Command::new(TOOL);
         let told: Told = tool.args([command, "--help"]).output().unwrap().into();

@@ -3,7 +3,7 @@
 use difftest::tables::{OBJECTS, Shape, random_tables, to_bytes};
 use difftest::{Coverage, Random};
 
-use crate::bytes::{object_row, parent_row};
+use crate::bytes::{PARENT, object_row, parent_row};
 use crate::json::Value;
 use crate::tool::Case;
 
@@ -19,7 +19,7 @@ const RUN: [&str; 3] = ["run", "--create", "--adopt"];
 
 fn random_case(name: &str, random: &mut Random) -> Case {
     let (parents, objects) = to_bytes(&random_tables(SHAPE, random), random);
-    let parents = [parents, vec![0; 3915 * random.below(2)]].concat();
+    let parents = [parents, vec![0; PARENT * random.below(2)]].concat();
     let objects = [objects, vec![0; 46 * random.below(4)]].concat();
     let reserve: Vec<u8> = OBJECTS.iter().flat_map(|fid| fid.to_bytes()).collect();
     Case::with(name, &parents, &objects, &reserve)

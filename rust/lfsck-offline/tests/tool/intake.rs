@@ -9,6 +9,7 @@ use difftest::dumps::{Dump, Flaw};
 use difftest::{Coverage, Random};
 use reference::intake::{Fault, read};
 
+use crate::bytes::PARENT;
 use crate::json::{Value, parse};
 use crate::tool::{Case, TOOL, Told, faulty};
 
@@ -89,7 +90,7 @@ fn a_real_dump_is_taken_in_checked_classed_and_mended() {
          The tables are sound.\n"
     );
     let (mut parents, mut objects) = (of_site("parents.tbl"), of_site("objects.tbl"));
-    parents.resize(parents.len() + 3915, 0);
+    parents.resize(parents.len() + PARENT, 0);
     objects.resize(objects.len() + 2 * 46, 0);
     assert!(table(&case, "parents.tbl") == parents && table(&case, "objects.tbl") == objects);
     assert_eq!(table(&case, "reserve.tbl"), b"");
@@ -214,7 +215,7 @@ fn values_that_are_bad() {
 
 #[test]
 fn entries_that_are_bad() {
-    let long = format!("trusted.lov=0x{}\n", "00".repeat(3889));
+    let long = format!("trusted.lov=0x{}\n", "00".repeat(48_049));
     expect_faults(
         "intake-entries",
         &[
@@ -240,7 +241,7 @@ fn entries_that_are_bad() {
             ),
             (
                 entry("a", &[LMA, &long]),
-                "line 4 is refused with 37: a layout of more than 3888 bytes, which is the room of \
+                "line 4 is refused with 37: a layout of more than 48048 bytes, which is the room of \
                  a row; the entry is \"a\"",
             ),
         ],
@@ -323,7 +324,7 @@ fn faults_are_those_of_the_reference() {
         let count = random.below(3);
         let dump = Dump::with(&flaws[..count], &mut random);
         // The tool's tables have rows enough for all.
-        let (mut parents, mut objects) = (vec![0; 8 * 3915], vec![0; 8 * 46]);
+        let (mut parents, mut objects) = (vec![0; 8 * PARENT], vec![0; 8 * 46]);
         let expected = read(&dump.text, &dump.owners, &mut parents, &mut objects);
         let told = take(&case, &dump.text, &dump.owners, &[]);
         match expected {
@@ -366,7 +367,7 @@ fn word_of(number: u32) -> &'static str {
         34 => "a second time",
         35 => "no trusted.lma",
         36 => "trusted.lov",
-        37 => "more than 3888 bytes",
+        37 => "more than 48048 bytes",
         _ => "\"",
     }
 }
@@ -559,7 +560,7 @@ fn tables_at_their_limits() {
         let text = dump(count - 1, line);
         take(&case, text.as_bytes(), owners.as_bytes(), &[]).expect(2);
         let rows =
-            table(&case, "parents.tbl").len() / 3915 + table(&case, "objects.tbl").len() / 46;
+            table(&case, "parents.tbl").len() / PARENT + table(&case, "objects.tbl").len() / 46;
         assert_eq!(rows, count - 1);
         std::fs::remove_dir_all(made(&case)).expect("the case");
     }

@@ -5,33 +5,34 @@ use std::time::{Duration, Instant};
 
 use reference::names::{Namespace, ROOT};
 
-use crate::bytes::{object, object_row, parent_row};
+use crate::bytes::{PARENT, object, object_row, parent_row};
 use crate::json::{Value, parse};
 use crate::namespace::{ENTRIES, bare, case_of, entry, fid, pass};
 use crate::tool::{Case, Told};
 
 const PARENTS: usize = 1024;
-/// The slots of a file.
-pub const SLOTS: usize = 160;
+/// The most slots of a file.
+const SLOTS: usize = 2000;
 const OBJECTS: usize = 65_536;
 /// The most rows of either table of names.
 const ROWS: usize = 65_536;
 /// Files with all their slots named; the others have holes.
-const NAMED: usize = 400;
+const NAMED: usize = 32;
 
 fn id(row: usize, slot: usize) -> u32 {
     (1 + SLOTS * row + slot) as u32
 }
 
-/// Files of 160 slots, the first of them with all slots named; every object is where it
+/// Files of so many slots, so many of them with all slots named; every object is where it
 /// belongs.
-pub fn clean(files: usize, named: usize) -> (Vec<u8>, Vec<u8>) {
+pub fn clean(files: usize, slots: usize, named: usize) -> (Vec<u8>, Vec<u8>) {
     let (mut parents, mut objects) = (Vec::new(), Vec::new());
+    let id = |row: usize, slot: usize| (1 + slots * row + slot) as u32;
     for row in 0..files {
         let name = |slot| if row < named { id(row, slot) } else { 0 };
-        let slots: Vec<u32> = (0..SLOTS).map(name).collect();
-        parents.extend(parent_row(1 + row as u32, &slots));
-        for slot in 0..if row < named { SLOTS } else { 0 } {
+        let names: Vec<u32> = (0..slots).map(name).collect();
+        parents.extend(parent_row(1 + row as u32, &names));
+        for slot in 0..if row < named { slots } else { 0 } {
             objects.extend(object_row(id(row, slot), (1 + row as u32, slot as u32)));
         }
     }
@@ -40,12 +41,12 @@ pub fn clean(files: usize, named: usize) -> (Vec<u8>, Vec<u8>) {
 
 /// Full tables with a few faults in the first files.
 fn full() -> (Vec<u8>, Vec<u8>) {
-    let (mut parents, mut objects) = clean(PARENTS, NAMED);
+    let (mut parents, mut objects) = clean(PARENTS, SLOTS, NAMED);
     // A slot that names another file's object, and one whose object is absent.
     name(&mut parents, 2, 7, id(1, 7));
     name(&mut parents, 3, 5, 900_000);
     // The own id in the layout of file 5.
-    parents[4 * 3915 + 27 + 8] ^= 0x40;
+    parents[4 * PARENT + 27 + 8] ^= 0x40;
     // The claim of one object and the owner of another.
     objects[6 * SLOTS * 46 + 41] = 9;
     objects[(7 * SLOTS + 1) * 46 + 21] ^= 1;
@@ -55,7 +56,7 @@ fn full() -> (Vec<u8>, Vec<u8>) {
 
 /// Lets a slot name another object.
 fn name(parents: &mut [u8], row: usize, slot: usize, id: u32) {
-    let at = 3915 * row + 27 + 32 + 24 * slot;
+    let at = PARENT * row + 27 + 32 + 24 * slot;
     parents[at..at + 16].copy_from_slice(&object(id).to_bytes());
 }
 
@@ -105,7 +106,7 @@ fn full_tables_are_checked_classed_and_repaired() {
     time("run");
 }
 
-/// One slot is compared for each, but 486 for the absent object, which slot 5 of the fourth file
+/// One slot is compared for each, but 6,006 for the absent object, which slot 5 of the fourth file
 /// names, and 2 for the object of the seventh file that claims another slot of it.
 fn expect_compared(case: &Case, compared: &Value) {
     let (slots, absent) = ((NAMED * SLOTS) as u64, (3 * SLOTS + 6) as u64);
@@ -149,12 +150,17 @@ fn no_rows_are_a_case() {
         .expect_line(2, "nothing in");
 }
 
-/// E10: a file of 160 slots is made, and none of 161.
+/// E10: a file of 2,000 slots is made, and none of 2,001.
 #[test]
-fn a_made_file_has_160_slots_at_most() {
-    for (index, answer) in [(159, "ORPHAN"), (160, "CONFLICT"), (u32::MAX, "CONFLICT")] {
+fn a_made_file_has_2000_slots_at_most() {
+    for (index, answer) in [
+        (160, "ORPHAN"),
+        (1999, "ORPHAN"),
+        (2000, "CONFLICT"),
+        (u32::MAX, "CONFLICT"),
+    ] {
         let objects = object_row(0x30, (9, index));
-        let case = Case::with("index", &[0; 3915], &objects, &[]);
+        let case = Case::with("index", &[0; PARENT], &objects, &[]);
         let before = case.files();
         let classes = case.json(&["classes"], 0);
         assert_eq!(classes.list("findings")[0].text("class"), answer, "{index}");
@@ -163,7 +169,7 @@ fn a_made_file_has_160_slots_at_most() {
         assert_eq!(report.get("repairs").number("ORPHAN"), made);
         let shown = case.json(&["show", "0x200000401:9"], 0);
         if made == 1 {
-            assert_eq!(shown.get("file").number("slots"), 160);
+            assert_eq!(shown.get("file").number("slots"), u64::from(index) + 1);
         } else {
             assert_eq!(shown.get("file"), &Value::Null);
             assert_eq!(case.read("parents.tbl"), before["parents.tbl"]);
@@ -203,8 +209,8 @@ fn the_bounds_of_fields_are_held_to() {
         let status = if answer == 0 { 0 } else { 2 };
         assert_eq!(case.json(&["check"], status).number("answer"), answer);
     }
-    for (slots, answer) in [(160, 0), (161, 13)] {
-        let mut parent = parent_row(1, &[0; 160]);
+    for (slots, answer) in [(2000, 0), (2001, 13)] {
+        let mut parent = parent_row(1, &[0; 2000]);
         parent[27 + 28..27 + 30].copy_from_slice(&(slots as u16).to_le_bytes());
         let case = Case::with("slot-bounds", &parent, b"", b"");
         let status = if answer == 0 { 0 } else { 2 };
@@ -221,7 +227,7 @@ fn one_row_more_is_too_many() {
     ] {
         let case = Case::with(
             name,
-            &vec![0; parents * 3915],
+            &vec![0; parents * PARENT],
             &vec![0; objects * 46],
             &object(1).to_bytes().repeat(reserve),
         );

@@ -3,12 +3,13 @@
 use std::fs;
 use std::os::unix::fs::{MetadataExt, PermissionsExt};
 
+use crate::bytes::PARENT;
 use crate::json::{self, Value};
 use crate::oracle;
 use crate::tool::{Case, Files, JOURNAL, LOG, POSITION, Told, hex, sha256, timeless};
 
 const TABLES: [(&str, usize); 3] = [
-    ("parents.tbl", 3915),
+    ("parents.tbl", PARENT),
     ("objects.tbl", 46),
     ("reserve.tbl", 16),
 ];
@@ -48,10 +49,20 @@ fn differing(old: &Files, new: &Files) -> Vec<(String, u64, String, String)> {
     for (name, size) in TABLES {
         let pairs = old[name].chunks(size).zip(new[name].chunks(size));
         for (row, (old, new)) in pairs.enumerate().filter(|(_, (old, new))| old != new) {
-            list.push((name.to_string(), row as u64, hex(old), hex(new)));
+            let [old, new] = [old, new].map(|bytes| hex(written(name, bytes)));
+            list.push((name.to_string(), row as u64, old, new));
         }
     }
     list
+}
+
+/// What the log has of a row: of a parent row the bytes up to the last that isn't zero.
+fn written<'row>(table: &str, row: &'row [u8]) -> &'row [u8] {
+    let last = row.iter().rposition(|byte| *byte != 0);
+    match table {
+        "parents.tbl" => &row[..last.map_or(0, |at| at + 1)],
+        _ => row,
+    }
 }
 
 fn expect_digests(entry: &Value, name: &str, files: &Files) {

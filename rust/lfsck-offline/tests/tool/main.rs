@@ -6,6 +6,7 @@ mod bytes;
 mod changes;
 mod commands;
 mod compared;
+mod convert;
 mod earlier;
 mod foresee;
 mod generation;

@@ -8,6 +8,7 @@ use std::os::unix::process::CommandExt;
 use std::path::{Path, PathBuf};
 use std::process::Command;
 
+use crate::bytes::PARENT;
 use crate::tool::{Case, JOURNAL, NOBODY, POSITION, TOOL, Told, sha256, skipped};
 
 /// The commands that read a case.
@@ -122,7 +123,7 @@ fn a_table_must_be_a_plain_file() {
 #[test]
 fn a_table_that_is_too_long_is_refused() {
     for (table, most) in [
-        ("parents.tbl", 1024 * 3915),
+        ("parents.tbl", 1024 * PARENT),
         ("objects.tbl", 65_536 * 46),
         ("reserve.tbl", 65_536 * 16),
     ] {
@@ -143,7 +144,7 @@ fn a_table_that_is_too_long_is_refused() {
 
 #[test]
 fn a_table_of_broken_rows_is_refused() {
-    let case = Case::with("broken-rows", &[0; 3916], &[0; 45], &[0; 17]);
+    let case = Case::with("broken-rows", &[0; PARENT + 1], &[0; 45], &[0; 17]);
     let told = case.run(&["check"]).expect(2);
     for line in [
         "parents.tbl, length: 1 byte after the last whole row",

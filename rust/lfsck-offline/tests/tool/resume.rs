@@ -3,6 +3,7 @@
 use difftest::Random;
 use difftest::tables::{OBJECTS, Shape, random_tables, to_bytes};
 
+use crate::bytes::PARENT;
 use crate::commands::COUNTED;
 use crate::json::Value;
 use crate::oracle;
@@ -94,11 +95,11 @@ fn another_reserve_begins_at_the_start() {
 #[test]
 fn a_restored_file_is_not_passed_by() {
     let damaged = Case::sample("restored-source");
-    let row = damaged.read("parents.tbl")[3915..2 * 3915].to_vec();
+    let row = damaged.read("parents.tbl")[PARENT..2 * PARENT].to_vec();
     let case = begun("restored");
-    assert_ne!(case.read("parents.tbl")[3915..2 * 3915], row[..]);
+    assert_ne!(case.read("parents.tbl")[PARENT..2 * PARENT], row[..]);
     case.edit("parents.tbl", |bytes| {
-        bytes[3915..2 * 3915].copy_from_slice(&row);
+        bytes[PARENT..2 * PARENT].copy_from_slice(&row);
     });
     let files = case.files();
     expect_start(&case, &RUN, "parents.tbl has changed since it was saved");

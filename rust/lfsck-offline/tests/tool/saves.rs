@@ -10,7 +10,7 @@ const RUN: [&str; 5] = ["run", "--create", "--adopt", "--steps", "40"];
 
 /// The state that a crash left, as the next command finds it, without the times in the log.
 pub fn reopened(case: &Case) -> Files {
-    case.run(&["check"]).expect(0);
+    case.run(&["log"]).expect(0);
     timeless(&case.files())
 }
 
@@ -79,7 +79,7 @@ pub fn kill_at_each(case: &Case, states: [&Files; 2], words: &[&str], status: i3
 fn kill_the_recovery(case: &Case, crashed: &Files, state: &Files) {
     for number in 1.. {
         case.restore(crashed);
-        let told = case.run_with_fault(&["check"], format!("abort:{number}"));
+        let told = case.run_with_fault(&["log"], format!("abort:{number}"));
         let died = aborted(&told);
         assert_eq!(&reopened(case), state, "{died:?}");
         if died.is_none() {
@@ -115,7 +115,10 @@ pub fn expect_order(operations: &[String], changed: &[&str]) {
         assert!(name == JOURNAL || places[0] > log[3], "{name}");
     }
     let removed = at(&format!("remove {JOURNAL}"));
-    let last = operations.iter().rposition(|it| it.starts_with("rename"));
+    let position = format!("remove {POSITION}");
+    let last = operations
+        .iter()
+        .rposition(|it| it.starts_with("rename") || *it == position);
     assert_eq!(last, Some(removed - 2));
     for directory_synced in [committed + 1, removed - 1, removed + 1] {
         assert_eq!(operations[directory_synced], "sync .");

@@ -3,7 +3,7 @@
 use std::process::{Child, Command, Stdio};
 use std::time::{Duration, Instant};
 
-use crate::bytes::parent_row;
+use crate::bytes::{PARENT, parent_row};
 use crate::oracle;
 use crate::tool::{Case, POSITION, TOOL, Told, faulty};
 
@@ -20,7 +20,7 @@ pub fn long_case(name: &str, files: u32) -> Case {
         parents.extend(parent_row(file + 1, &slots));
     }
     for file in [0, files as usize - 1] {
-        parents[3915 * file + 27 + 8] ^= 0x40;
+        parents[PARENT * file + 27 + 8] ^= 0x40;
     }
     Case::with(name, &parents, b"", b"")
 }

@@ -347,7 +347,7 @@ fn is_open(directory: &Path) -> bool {
 /// The files of the directory that was opened are saved, also where its name is another's now.
 #[test]
 fn a_directory_that_is_exchanged_meanwhile_is_not_written() {
-    let (mut parents, objects) = limits::clean(500, 200);
+    let (mut parents, objects) = limits::clean(500, 160, 200);
     parents[27 + 8] ^= 0x40;
     let case = Case::empty("exchanged");
     let (name, moved) = (case.path().join("case"), case.path().join("moved"));

@@ -5,7 +5,7 @@ use std::process::{Command, Stdio};
 use std::time::{Duration, Instant};
 
 use crate::bytes::{object, parent_row};
-use crate::limits::{SLOTS, clean};
+use crate::limits::clean;
 use crate::tool::{Case, TOOL, Told};
 
 /// What a command printed on a terminal.
@@ -58,13 +58,16 @@ impl Seen {
     }
 }
 
+/// The slots of a file.
+const SLOTS: usize = 160;
+
 const SECOND: Duration = Duration::from_secs(1);
 
 /// Every command that can take long shows a bar within a second, and clears it before it prints
 /// what it prints in a pipe.
 #[test]
 fn the_bar_is_there_within_a_second() {
-    let (parents, objects) = clean(320, 320);
+    let (parents, objects) = clean(320, SLOTS, 320);
     let case = Case::with("bar-soon", &parents, &objects, b"");
     for words in [
         &["check"][..],
@@ -168,7 +171,7 @@ fn in_pipe(case: &Case, command: &str) -> f64 {
 
 /// So many files of which one object in a hundred is damaged.
 fn damaged(name: &str, files: usize) -> Case {
-    let (parents, mut objects) = clean(files, files);
+    let (parents, mut objects) = clean(files, SLOTS, files);
     for (at, row) in objects.chunks_mut(46).step_by(100).enumerate() {
         match at % 4 {
             0 => row.fill(0),

@@ -96,6 +96,13 @@ fn the_tour_is_true() {
     let case = Case::empty("tour");
     let site = Path::new(REPOSITORY).join("tests/data/site");
     std::os::unix::fs::symlink(site, case.path().join("site")).expect("a link");
+    let old = case.path().join("old");
+    std::fs::create_dir(&old).expect("a directory");
+    let earlier = Path::new(REPOSITORY).join("tests/data/narrow");
+    for entry in std::fs::read_dir(earlier).expect("a case") {
+        let path = entry.expect("a file").path();
+        std::fs::copy(&path, old.join(path.file_name().expect("a name"))).expect("a copy");
+    }
     expect_true(TOUR, &case);
     assert!(shown(TOUR).len() >= 12);
 }

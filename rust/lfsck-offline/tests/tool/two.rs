@@ -20,7 +20,13 @@ const READERS: [&[&str]; 7] = [
     &["names"],
     &["names", "--mend", "--dry-run"],
 ];
-const WRITERS: [&[&str]; 4] = [&RUN, &["undo"], &["sample"], &["names", "--mend"]];
+const WRITERS: [&[&str]; 5] = [
+    &RUN,
+    &["undo"],
+    &["convert"],
+    &["sample"],
+    &["names", "--mend"],
+];
 
 /// The line that says who is in the way: this process, by its number and name.
 fn expect_in_the_way(told: Told) {
