@@ -40,8 +40,24 @@ fn wait_until(child: &Child, listening: bool) {
     }
 }
 
+/// The same command where nobody ignores signals, as a shell does for what it starts beside itself.
+fn heeding(command: &Command) -> Command {
+    let mut heeding = Command::new("env");
+    heeding.arg("--default-signal=INT,TERM");
+    heeding.arg(command.get_program()).args(command.get_args());
+    let set = command
+        .get_envs()
+        .filter_map(|(name, value)| Some((name, value?)));
+    heeding.envs(set);
+    if let Some(directory) = command.get_current_dir() {
+        heeding.current_dir(directory);
+    }
+    heeding
+}
+
 /// Starts a run, and waits until it listens.
-fn start(mut command: Command) -> Child {
+fn start(command: Command) -> Child {
+    let mut command = heeding(&command);
     command.stdin(Stdio::piped());
     command.stdout(Stdio::piped()).stderr(Stdio::piped());
     let child = command.spawn().expect("the tool");
