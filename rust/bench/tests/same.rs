@@ -35,40 +35,41 @@ fn runs_are_those_of_the_library() {
     }
 }
 
-/// Answer, position and report of a run that both sides make alike, tables and all.
+/// A run of one side.
+type Run = fn(&mut [u8], &mut [u8], &[u8], u64, u64, &mut [u64; 3], &mut [u64; REPORT]) -> u32;
+
+/// What a run tells: answer, position and report.
+type Told = (u32, [u64; 3], [u64; REPORT]);
+
+/// What a run that both sides make alike tells, tables and all.
 fn compare_run(
     lent: &(Vec<u8>, Vec<u8>),
     reserve: &[u8],
     policy: u64,
     most: u64,
     start: [u64; 3],
-) -> (u32, [u64; 3], [u64; REPORT]) {
-    let (mut position, mut report) = (start, [0; REPORT]);
-    let mut library = lent.clone();
-    let (parents, objects) = (&mut library.0, &mut library.1);
-    let answer = lfsck_sys::run(
-        parents,
-        objects,
-        reserve,
-        policy,
-        most,
-        &mut position,
-        &mut report,
+) -> Told {
+    let ran = |run: Run| {
+        let (mut position, mut report) = (start, [0; REPORT]);
+        let (mut parents, mut objects) = lent.clone();
+        let answer = run(
+            &mut parents,
+            &mut objects,
+            reserve,
+            policy,
+            most,
+            &mut position,
+            &mut report,
+        );
+        ((answer, position, report), (parents, objects))
+    };
+    let (told, library) = ran(
+        |parents, objects, reserve, policy, most, position, report| {
+            lfsck_sys::run(parents, objects, reserve, policy, most, position, report)
+        },
     );
-    let told = (answer, position, report);
-    let (mut position, mut report) = (start, [0; REPORT]);
-    let mut plain = lent.clone();
-    let (parents, objects) = (&mut plain.0, &mut plain.1);
-    let answer = plain::run(
-        parents,
-        objects,
-        reserve,
-        policy,
-        most,
-        &mut position,
-        &mut report,
-    );
-    assert_eq!((answer, position, report), told);
+    let (plain_told, plain) = ran(plain::run);
+    assert_eq!(plain_told, told);
     assert!(plain == library, "tables after a run of policy {policy}");
     told
 }
