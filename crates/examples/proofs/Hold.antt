@@ -9,7 +9,7 @@ use Rattle.wire.specs.Numbers.{le, bytes}
 use Rattle.wire.specs.Rows.{rows}
 use Rattle.fid.specs.Fid.{goodObject as goodObjectFid, goodFid, goodNumber, goodSequence, decodeFid, encodeFid, sameFid, zeroFid, goodFile, goodReserve}
 use Rattle.layout.specs.Slot.{allowedSlot, allowedSlots, zeroSlot, slotFrom as slotOfNumbers, decodeSlot, encodeSlot, decodeSlots, encodeSlots, slotNames, sameSlot, sameSlots}
-use Rattle.layout.specs.Layout.{knownVersion, knownPattern, fewSlots, exactLength, layoutRules, acceptedLayout, headerSize, decodeHeader, stripeCount, encodeHeader, slotStart, decodeLayout, encodeLayout, withHoles, layoutSize, nextGeneration, atGeneration, generationWith, restriped, changed}
+use Rattle.layout.specs.Layout.{knownVersion, knownPattern, possibleStripe, goodHeader, fewSlots, exactLength, layoutRules, acceptedLayout, headerSize, decodeHeader, stripeCount, encodeHeader, slotStart, decodeLayout, encodeLayout, withHoles, layoutSize, nextGeneration, atGeneration, generationWith, restriped, changed}
 use Rattle.layout.specs.Answers.{readLayout, readNumber}
 use Rattle.tables.specs.Bytes.{isUsed, decodeOwner, encodeOwner, layoutLength, layoutBytes, decodeParent, encodeParent, parseParent, renderParent, claimFrom, claimFid, decodeObject, mark, encodeObject, parseObject, renderObject, objectRows, join, renderParents, renderObjects, selfFid, parseRow, renderRow, claimedFid, reserveEntries, reserveFid, parseReserve, parseObjects}
 use Rattle.tables.specs.Positions.{slotsOf, rowAt, width, inStageOne, inStageTwo, isPosition, isEnd, place, fromObject, fromParent, start, afterPart, next, rowSteps, countSteps}
@@ -27,7 +27,7 @@ use Rattle.rules.specs.Settings.{creates, adopts, settingsOf}
 use Rattle.examples.proofs.SeenLaws.{numberBy, rowTables, rowsSeen, fits, short, allFit, tests-are}
 
 pub layouts-hold : Hold layouts
-unfolding Hold layouts test is E2 fid P A on layoutOf le bytes decodeFid encodeFid sameFid zeroFid zeroSlot slotOfNumbers decodeSlot encodeSlot decodeSlots encodeSlots headerSize decodeHeader stripeCount encodeHeader slotStart decodeLayout encodeLayout withHoles layoutSize slotNumbersOf readLayout readNumber acceptedLayout exactLength layoutRules knownVersion knownPattern fewSlots allowedSlot allowedSlots goodFid goodNumber goodSequence goodObjectFid
+unfolding Hold layouts test is E2 fid P A on layoutOf le bytes decodeFid encodeFid sameFid zeroFid zeroSlot slotOfNumbers decodeSlot encodeSlot decodeSlots encodeSlots headerSize decodeHeader stripeCount encodeHeader slotStart decodeLayout encodeLayout withHoles layoutSize slotNumbersOf readLayout readNumber acceptedLayout exactLength layoutRules knownVersion knownPattern possibleStripe goodHeader fewSlots allowedSlot allowedSlots goodFid goodNumber goodSequence goodObjectFid
 layouts-hold = refl
 
 all-fit : allFit examples ≡ true
@@ -35,7 +35,7 @@ unfolding allFit fits short all example examples case layoutOf saysOf fileAt fil
 all-fit = refl
 
 by-rows : (past : ℕ → List ℕ) → Hold (tests (rowsSeen past) examples)
-unfolding Hold fid P Q A B C N us root on layoutOf saysOf fileAt file noFile object holds fresh free case go came ends rests objectIs none one-self one-multiple one-dangling one-blank one-unmatched one-owner one-empty one-orphan two-orphans made-and-taken two-wrong-ost claim E4-parents E5-objects spare E4 E5 E6 E7-parents E7 E7-created E8-objects E8 E9 E10 E11-parents E11 E12 E13 own-wrong blank other-owner emptied exchanged blank-elsewhere unmatched-elsewhere mended-elsewhere last-generation made-then-grown generationIn leaves unfound looks examples all le bytes rows decodeFid encodeFid sameFid zeroFid zeroSlot slotOfNumbers decodeSlot encodeSlot decodeSlots encodeSlots slotNames headerSize decodeHeader stripeCount encodeHeader slotStart decodeLayout encodeLayout withHoles layoutSize isUsed decodeOwner encodeOwner layoutLength layoutBytes decodeParent encodeParent parseParent renderParent claimFrom claimFid decodeObject mark encodeObject parseObject renderObject objectRows parseObjects join renderParents renderObjects slotsOf rowAt width isEnd place fromObject fromParent start afterPart next rowSteps countSteps rowFrom slotFrom placeFrom orElse isSomewhere isRow selfOf ownerOf tailOf holesIn isUnused isParent parentRow freeParent slotAt namesAt scan named namesElse namedElse objectAt isObject objectRow freeObject objectIn objectInRow objectOf sameOwner claimIn claimsParent claimsSlot inClaimed atClaimed keeperBy keeper isPlace upTo hit inTurn allSlots casesIn cases comparedBy compared samePlace claims takeable slotWay rowWay way isWay ownRight headerClass claimedClass claimClass keeperClass slotClassOf slotClass unnamedClass objectClassOf objectClass only headerNumbers slotNumbers objectNumbers putParent putObject applyWrite applyWrites creates adopts withSlots withSlot ownHeader withOwn withOwner withClaim destroyed repairHeader newObject usable redirectTo redirect makeObject mendObject mendAt mended mendWrite indexWrite repairSlot slotFor ownerWrite made grown makeParent destroyAt destroyNamed adoptBy adopt repairObject slotStep partStep objectStep stepAt repairNumber noCounts countOf sums addCounts halt after onStep run acceptedLayout exactLength layoutRules knownVersion knownPattern fewSlots allowedSlot allowedSlots goodFid goodNumber goodSequence parseRow renderRow hasFid firstRow settingsOf firstFailing isRowOf objectsWhole reserveWhole wholeRows usedMark freshMark isMark whenUsed goodPolicy goodLayout goodParent goodFile goodReserve reserveFid goodIndex goodClaim freshClaims claimedFid goodEntry reserveEntries parseReserve noneTwice hasSelf isPosition inStageOne inStageTwo selfFid goodObject changed goodObjectFid sameSlot sameSlots nextGeneration atGeneration generationWith restriped class filled test is true-is keeps fills example tests rowsSeen rowTables numberBy parentTable
+unfolding Hold fid P Q A B C N us root on layoutOf saysOf fileAt file noFile object holds fresh free case go came ends rests objectIs none one-self one-multiple one-dangling one-blank one-unmatched one-owner one-empty one-orphan two-orphans made-and-taken two-wrong-ost claim E4-parents E5-objects spare E4 E5 E6 E7-parents E7 E7-created E8-objects E8 E9 E10 E11-parents E11 E12 E13 own-wrong blank other-owner emptied exchanged blank-elsewhere unmatched-elsewhere mended-elsewhere last-generation made-then-grown generationIn leaves unfound looks examples all le bytes rows decodeFid encodeFid sameFid zeroFid zeroSlot slotOfNumbers decodeSlot encodeSlot decodeSlots encodeSlots slotNames headerSize decodeHeader stripeCount encodeHeader slotStart decodeLayout encodeLayout withHoles layoutSize isUsed decodeOwner encodeOwner layoutLength layoutBytes decodeParent encodeParent parseParent renderParent claimFrom claimFid decodeObject mark encodeObject parseObject renderObject objectRows parseObjects join renderParents renderObjects slotsOf rowAt width isEnd place fromObject fromParent start afterPart next rowSteps countSteps rowFrom slotFrom placeFrom orElse isSomewhere isRow selfOf ownerOf tailOf holesIn isUnused isParent parentRow freeParent slotAt namesAt scan named namesElse namedElse objectAt isObject objectRow freeObject objectIn objectInRow objectOf sameOwner claimIn claimsParent claimsSlot inClaimed atClaimed keeperBy keeper isPlace upTo hit inTurn allSlots casesIn cases comparedBy compared samePlace claims takeable slotWay rowWay way isWay ownRight headerClass claimedClass claimClass keeperClass slotClassOf slotClass unnamedClass objectClassOf objectClass only headerNumbers slotNumbers objectNumbers putParent putObject applyWrite applyWrites creates adopts withSlots withSlot ownHeader withOwn withOwner withClaim destroyed repairHeader newObject usable redirectTo redirect makeObject mendObject mendAt mended mendWrite indexWrite repairSlot slotFor ownerWrite made grown makeParent destroyAt destroyNamed adoptBy adopt repairObject slotStep partStep objectStep stepAt repairNumber noCounts countOf sums addCounts halt after onStep run acceptedLayout exactLength layoutRules knownVersion knownPattern possibleStripe goodHeader fewSlots allowedSlot allowedSlots goodFid goodNumber goodSequence parseRow renderRow hasFid firstRow settingsOf firstFailing isRowOf objectsWhole reserveWhole wholeRows usedMark freshMark isMark whenUsed goodPolicy goodLayout goodParent goodFile goodReserve reserveFid goodIndex goodClaim freshClaims claimedFid goodEntry reserveEntries parseReserve noneTwice hasSelf isPosition inStageOne inStageTwo selfFid goodObject changed goodObjectFid sameSlot sameSlots nextGeneration atGeneration generationWith restriped class filled test is true-is keeps fills example tests rowsSeen rowTables numberBy parentTable
 by-rows past = refl
 
 -- whatever stands past the layouts

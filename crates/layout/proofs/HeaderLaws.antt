@@ -2,7 +2,7 @@
 use mathlib.Core.Path.{_≡_, refl}
 use mathlib.Core.List.{List, [], _++_, append-assoc}
 use mathlib.Core.Bool.{Bool, true, false, cond, _&&_}
-use Prim.Native.Nat.{ℕ, _+_, _≤_, _<_, _^_}
+use Prim.Native.Nat.{ℕ, _+_, _%_, _≤_, _<_, _^_}
 use borrow.Author.Tests.{eq-eqb, ne-eqb}
 use native.Mathlib.Omega.{arith}
 use lib.Dec.{eqb}
@@ -12,7 +12,7 @@ use Rattle.wire.specs.Numbers.{le, bytes}
 use Rattle.wire.proofs.Splice.{sets-at}
 use Rattle.wire.proofs.NumberLaws.{Bytes, field, bytes-drop, bytes-le, length-bytes, le-small, le-small-at}
 use Rattle.layout.specs.declared.Header.{Header}
-use Rattle.layout.specs.Layout.{patternAt, ownIdAt, ownSequenceAt, stripeSizeAt, stripeCountAt, generationAt, plainHeader, poolHeader, headerSize, magicOne, magicThree, decodeHeader, encodeHeader, generations, atGeneration, stripeCount, knownVersion, knownPattern, plainPattern, holePattern}
+use Rattle.layout.specs.Layout.{patternAt, ownIdAt, ownSequenceAt, stripeSizeAt, stripeCountAt, generationAt, plainHeader, poolHeader, headerSize, magicOne, magicThree, decodeHeader, encodeHeader, generations, atGeneration, stripeCount, knownVersion, knownPattern, plainPattern, holePattern, stripeUnit, possibleStripe, goodHeader}
 
 pub size-three : (m : ℕ) → m ≡ magicThree → poolHeader ≡ headerSize m
 unfolding headerSize
@@ -64,11 +64,25 @@ module _ (h : Header) where
   unfolding knownPattern
   pattern-holes e = rw (ne-eqb _ _ e)
 
-  pub known-none : knownVersion h ≡ false → false ≡ (knownVersion h && knownPattern h)
-  known-none e = rw e
+  pub unknown-version : knownVersion h ≡ false → false ≡ goodHeader h
+  unfolding goodHeader
+  unknown-version e = rw e
 
-  pub known-then : (b : Bool) → knownVersion h ≡ true → b ≡ knownPattern h → b ≡ (knownVersion h && knownPattern h)
-  known-then b e p = rw (e, p)
+  pub unknown-pattern : knownVersion h ≡ true → knownPattern h ≡ false → false ≡ goodHeader h
+  unfolding goodHeader
+  unknown-pattern e p = rw (e, p)
+
+  pub then-stripe : (b : Bool) → knownVersion h ≡ true → knownPattern h ≡ true → b ≡ possibleStripe (h .stripe) → b ≡ goodHeader h
+  unfolding goodHeader
+  then-stripe b e p s = rw (e, p, s)
+
+pub stripe-none : (size : ℕ) → size ≡ 0 → false ≡ possibleStripe size
+unfolding possibleStripe
+stripe-none size e = rw (eq-eqb _ _ e)
+
+pub stripe-some : (size : ℕ) → (size ≡ 0 → ⊥) → eqb (size % stripeUnit) 0 ≡ possibleStripe size
+unfolding possibleStripe
+stripe-some size e = rw (ne-eqb _ _ e)
 
 -- the fields, read one by one
 pub header-at : (l : List ℕ) (m p o s t g : ℕ) → m ≡ le 4 l → p ≡ le 4 (drop patternAt l) → o ≡ le 8 (drop ownIdAt l) → s ≡ le 8 (drop ownSequenceAt l) →

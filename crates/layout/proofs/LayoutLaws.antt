@@ -18,7 +18,7 @@ use Rattle.layout.specs.declared.Slot.the-variants.{Hole}
 use Rattle.layout.specs.declared.Reading.the-variants.{Refused, Accepted}
 use Rattle.layout.specs.declared.SlotRead.the-variants.{BadLayout, NoSlot, SlotIs}
 use Rattle.layout.specs.Slot.{slotSize, slotOf, encodeSlot, decodeSlots, encodeSlots, allowedSlot, allowedSlots, sameSlot, sameSlots}
-use Rattle.layout.specs.Layout.{Layout, plainHeader, poolHeader, headerSize, decodeHeader, encodeHeader, stripeCount, slotStart, decodeLayout, encodeLayout, generationAt, nextGeneration, atGeneration, generationWith, restriped, changed, knownVersion, knownPattern, withHoles, maxSlots, fewSlots, layoutSize, exactLength, layoutRules, acceptedLayout}
+use Rattle.layout.specs.Layout.{Layout, plainHeader, poolHeader, headerSize, decodeHeader, encodeHeader, stripeCount, slotStart, decodeLayout, encodeLayout, generationAt, nextGeneration, atGeneration, generationWith, restriped, changed, knownVersion, knownPattern, goodHeader, withHoles, maxSlots, fewSlots, layoutSize, exactLength, layoutRules, acceptedLayout}
 use Rattle.layout.specs.Answers.{readLayout, readSlot, rewriteAnswer, rewriteBytes}
 use Rattle.layout.proofs.SlotLaws.{FitSlot, FitSlots, slots-fit, fit-set, length-slot, length-slots, length-encode-slots, encode-set, slots-at, slots-written-back, slots-read-back}
 use Rattle.layout.proofs.StripeLaws.{slots-changed, restriped-same, generation-small}
@@ -63,7 +63,7 @@ module _ (l : List ℕ) where
       let z : length l ≡ start + slotSize * n = rw (b, q) (exact-size x) in
       rw (drop-take-all start l, length-drop) (omega arith)
 
-  pub accepted-header : (h : Header) → h ≡ decodeHeader l → exactLength l ≡ true → (knownVersion h && knownPattern h) ≡ false → false ≡ acceptedLayout l
+  pub accepted-header : (h : Header) → h ≡ decodeHeader l → exactLength l ≡ true → goodHeader h ≡ false → false ≡ acceptedLayout l
   unfolding acceptedLayout layoutRules
   accepted-header h e x k = rw (x, ← e, k)
 
@@ -71,7 +71,7 @@ module _ (l : List ℕ) where
   unfolding decodeLayout
   slots-many = length-slots (stripeCount l) (drop (slotStart l) l)
 
-  pub accepted-many : (h : Header) (n : ℕ) → h ≡ decodeHeader l → n ≡ stripeCount l → exactLength l ≡ true → (knownVersion h && knownPattern h) ≡ true →
+  pub accepted-many : (h : Header) (n : ℕ) → h ≡ decodeHeader l → n ≡ stripeCount l → exactLength l ≡ true → goodHeader h ≡ true →
       maxSlots < n → false ≡ acceptedLayout l
   unfolding acceptedLayout layoutRules fewSlots
   accepted-many h n e q x k m = rw (x, slots-many, ← e, k, ← q, lt-leb n maxSlots m)
@@ -82,7 +82,7 @@ module _ (l : List ℕ) where
   slots-are = refl
 
   pub accepted-slots : (h : Header) (n start : ℕ) (holes : Bool) → h ≡ decodeHeader l → n ≡ stripeCount l → start ≡ slotStart l → holes ≡ withHoles h →
-      exactLength l ≡ true → (knownVersion h && knownPattern h) ≡ true → n ≤ maxSlots →
+      exactLength l ≡ true → goodHeader h ≡ true → n ≤ maxSlots →
       allowedSlots holes (decodeSlots n (take (length l - start) (drop start l))) ≡ acceptedLayout l
   unfolding acceptedLayout layoutRules fewSlots
   accepted-slots h n start holes e q b w x k m = rw (x, slots-many, ← e, k, ← q, le-leb n maxSlots m, slots-are, ← q, ← b, w, drop-take-all start l)
@@ -100,7 +100,7 @@ module _ (l : List ℕ) where
   magic-of h e = sym magic-read ∙ ap (λ (x : Header). x .magic) e
 
   -- the rules, each met, are all that is asked
-  pub accepted-from : length l ≡ slotStart l + slotSize * stripeCount l → (knownVersion (decodeHeader l) && knownPattern (decodeHeader l)) ≡ true →
+  pub accepted-from : length l ≡ slotStart l + slotSize * stripeCount l → goodHeader (decodeHeader l) ≡ true →
       stripeCount l ≤ maxSlots → allowedSlots (withHoles (decodeHeader l)) (decodeLayout l .slots) ≡ true → acceptedLayout l ≡ true
   accepted-from z k m t =
       sym (accepted-slots (decodeHeader l) (stripeCount l) (slotStart l) (withHoles (decodeHeader l)) refl refl refl refl
@@ -112,13 +112,13 @@ pub record LayoutFacts (l : List ℕ) : Type 0 where
   pub size : length l ≡ slotStart l + slotSize * stripeCount l
   pub head : plainHeader ≤ slotStart l
   pub few : stripeCount l ≤ maxSlots
-  pub known : (knownVersion (decodeHeader l) && knownPattern (decodeHeader l)) ≡ true
+  pub known : goodHeader (decodeHeader l) ≡ true
   pub slots : allowedSlots (withHoles (decodeHeader l)) (decodeLayout l .slots) ≡ true
 
 pub accepted-facts : (l : List ℕ) → acceptedLayout l ≡ true → LayoutFacts l
 unfolding acceptedLayout layoutRules exactLength layoutSize slotStart fewSlots
 accepted-facts l h =
-    let v : Bool = knownVersion (decodeHeader l) && knownPattern (decodeHeader l) in
+    let v : Bool = goodHeader (decodeHeader l) in
     let n : ℕ = length (decodeLayout l .slots) in
     let s : Bool = allowedSlots (withHoles (decodeHeader l)) (decodeLayout l .slots) in
     let x : Bool = eqb (length l) (headerSize (le 4 l) + slotSize * stripeCount l) in
@@ -254,12 +254,12 @@ accepted-writable l b a =
 pub rules-few : (h : Header) (ss : List Slot) → layoutRules h ss ≡ true → length ss ≤ maxSlots
 unfolding layoutRules fewSlots
 rules-few h ss r =
-    let v : Bool = knownVersion h && knownPattern h in
+    let v : Bool = goodHeader h in
     leb-true (length ss) maxSlots (and-second v (leb (length ss) maxSlots) (and-first (v && leb (length ss) maxSlots) (allowedSlots (withHoles h) ss) r))
 
 pub rules-slots : (h : Header) (ss : List Slot) → layoutRules h ss ≡ true → allowedSlots (withHoles h) ss ≡ true
 unfolding layoutRules
-rules-slots h ss r = and-second (knownVersion h && knownPattern h && fewSlots (length ss)) (allowedSlots (withHoles h) ss) r
+rules-slots h ss r = and-second (goodHeader h && fewSlots (length ss)) (allowedSlots (withHoles h) ss) r
 
 module _ (L : Layout) (w : Writable L) (r : List ℕ) where
   n : ℕ
@@ -424,9 +424,9 @@ module _ (l : List ℕ) (j : ℕ) (s : Slot) (b : Bytes l) (x : exactLength l �
       rw (changed-bytes L j s (rw (slots-many l) h), q, exact-back l b x, slot-stays, ← e, t, ez, ey, en)
 
 changed-writable : (L : Layout) (j : ℕ) (s : Slot) → Writable L → FitSlot s → allowedSlot (withHoles (L .header)) s ≡ true → Writable (changed L j s)
-unfolding changed restriped atGeneration layoutRules knownVersion knownPattern withHoles
+unfolding changed restriped atGeneration layoutRules goodHeader knownVersion knownPattern withHoles
 changed-writable L j s w f t =
-    let few : Bool = knownVersion (L .header) && knownPattern (L .header) && fewSlots (length (L .slots)) in
+    let few : Bool = goodHeader (L .header) && fewSlots (length (L .slots)) in
     record {
       header = fit-generation (L .header) (generationWith L (set (L .slots) j s)) (w .header) (generation-small L (set (L .slots) j s) (w .header .generation));
       fits = fit-set (L .slots) j s (w .fits) f;

@@ -1,7 +1,7 @@
 -- The striping layout as its bytes and back, and its rules one by one. Document 01, "The striping layout".
-use Prim.Native.Nat.{ℕ, _+_, _-_, _*_}
+use Prim.Native.Nat.{ℕ, _+_, _-_, _*_, _%_}
 use mathlib.Core.List.{List, _++_}
-use mathlib.Core.Bool.{Bool, cond, _&&_, _||_}
+use mathlib.Core.Bool.{Bool, cond, not, _&&_, _||_}
 use lib.ListN.{length, take, drop, set}
 use lib.Dec.{leb, eqb}
 use Rattle.wire.specs.Numbers.{le, bytes}
@@ -141,6 +141,18 @@ knownPattern h = eqb (h .pattern) plainPattern || eqb (h .pattern) holePattern
 unfoldable pub withHoles : Header → Bool
 withHoles h = eqb (h .pattern) holePattern
 
+-- of what a stripe size is a multiple: "65,536"
+abbrev pub stripeUnit : ℕ
+stripeUnit = 65536
+
+-- "layouts whose stripe size was 0 or not a multiple of 65,536" are refused
+unfoldable pub possibleStripe : ℕ → Bool
+possibleStripe size = not (eqb size 0) && eqb (size % stripeUnit) 0
+
+-- the rules on a header, whatever its slots: "also for layouts with no slots"
+unfoldable pub goodHeader : Header → Bool
+goodHeader h = knownVersion h && knownPattern h && possibleStripe (h .stripe)
+
 -- "Raise 160 to 2,000 slots"
 abbrev pub maxSlots : ℕ
 maxSlots = 2000
@@ -160,9 +172,9 @@ layoutSize magic n = headerSize magic + slotSize * n
 unfoldable pub exactLength : List ℕ → Bool
 exactLength l = eqb (length l) (layoutSize (le 4 l) (stripeCount l))
 
--- the rules on header and slots. "Own id and sequence, stripe size, generations and pool name may be anything"
+-- the rules on header and slots. "Own id and sequence [..], generations and pool name may be anything"
 unfoldable pub layoutRules : Header → List Slot → Bool
-layoutRules h ss = knownVersion h && knownPattern h && fewSlots (length ss) && allowedSlots (withHoles h) ss
+layoutRules h ss = goodHeader h && fewSlots (length ss) && allowedSlots (withHoles h) ss
 
 -- the layouts that are read: anything else is 13
 unfoldable pub acceptedLayout : List ℕ → Bool

@@ -9,7 +9,7 @@ ghost use lib.ListN.{length, drop};
 ghost use lib.Seq.{sets};
 ghost use Rattle.layout.specs.Slot.{slotSize, zeroSlot, slotOf, encodeSlot, decodeSlots, allowedSlot, allowedSlots, slotNames, sameSlot};
 ghost use Rattle.layout.specs.declared.Slot.the-variants.{Hole, Names};
-ghost use Rattle.layout.specs.Layout.{plainHeader, stripeCountAt, headerSize, decodeHeader, encodeHeader, decodeLayout, encodeLayout, nextGeneration, raised, changed, stripeCount, slotStart, knownVersion, knownPattern, withHoles, exactLength, acceptedLayout};
+ghost use Rattle.layout.specs.Layout.{plainHeader, stripeCountAt, headerSize, decodeHeader, encodeHeader, decodeLayout, encodeLayout, nextGeneration, raised, changed, stripeCount, slotStart, knownVersion, knownPattern, possibleStripe, goodHeader, withHoles, exactLength, acceptedLayout};
 ghost use Rattle.layout.specs.Answers.{readLayout, readSlot, rewriteAnswer, rewriteBytes};
 
 // The greatest number of slots.
@@ -59,6 +59,9 @@ pub const MAX_LAYOUT: usize = POOL_HEADER + SLOT_SIZE * MAX_SLOTS;
 const PLAIN_PATTERN: u32 = 1;
 
 pub const HOLE_PATTERN: u32 = 0x4000_0001;
+
+// Of what a stripe size is a multiple.
+const STRIPE_UNIT: u32 = 65536;
 
 // One stripe: a hole, or an object's FID, the generation and the OST index.
 pub enum Slot {
@@ -283,14 +286,27 @@ fn known_pattern(h: Header) -> bool
     h.pattern == HOLE_PATTERN
 }
 
-// Whether magic and pattern are known.
-pub fn known_header(h: Header) -> bool
-    ensures { λ r. ⌜ r ≡ (knownVersion h && knownPattern h) ⌝ }
+// Whether a stripe size is possible: above 0, and a multiple of 65,536.
+fn possible_stripe(size: u32) -> bool
+    ensures { λ r. ⌜ r ≡ possibleStripe size ⌝ }
+{
+    if size == 0 {
+        return false;
+    }
+    size % STRIPE_UNIT == 0
+}
+
+// Whether a header meets the rules on it: magic and pattern are known, and the stripe size is possible.
+pub fn good_header(h: Header) -> bool
+    ensures { λ r. ⌜ r ≡ goodHeader h ⌝ }
 {
     if !known_version(h) {
         return false;
     }
-    known_pattern(h)
+    if !known_pattern(h) {
+        return false;
+    }
+    possible_stripe(h.stripe)
 }
 
 // Whether the pattern allows holes.
@@ -377,7 +393,7 @@ pub fn accepted(layout: &[u8]) -> bool
         return false;
     }
     let h = read_header(layout);
-    if !known_header(h) {
+    if !good_header(h) {
         return false;
     }
     let n = stripe_count(layout) as usize;

@@ -7,7 +7,7 @@ use Rattle.wire.specs.Numbers.{bytes}
 use Rattle.fid.specs.Fid.{encodeFid, goodSequence, goodNumber, goodFid, goodObject}
 use Rattle.layout.specs.declared.Header.{Header}
 use Rattle.layout.specs.Slot.{encodeSlot, encodeSlots, allowedSlot, allowedSlots}
-use Rattle.layout.specs.Layout.{magicOne, plainPattern, headerSize, encodeHeader, encodeLayout, knownVersion, knownPattern, withHoles, fewSlots, layoutSize, layoutRules}
+use Rattle.layout.specs.Layout.{magicOne, plainPattern, headerSize, encodeHeader, encodeLayout, knownVersion, knownPattern, possibleStripe, goodHeader, withHoles, fewSlots, layoutSize, layoutRules}
 use Rattle.layout_write.specs.declared.Written.the-variants.{Bytes as Wrote}
 use Rattle.layout_write.specs.Writer.{zeroGiven, namesGiven, givenFrom, givenAt, isSlot, slotGiven, givenSlots, allGiven, givenLayout, writable, writeLayout, leftBy, writeBytes}
 
@@ -28,5 +28,5 @@ E2 =
 
 -- written over 58 bytes, it leaves the last two
 pub E2-written : (writeLayout header 1 [] numbers (replicate 58 7) ≡ Wrote 56) × (writeBytes header 1 [] numbers (replicate 58 7) ≡ E2 ++ 7 ∷ 7 ∷ [])
-unfolding header numbers E2 bytes encodeFid goodSequence goodNumber goodFid goodObject encodeSlot encodeSlots allowedSlot allowedSlots headerSize encodeHeader encodeLayout knownVersion knownPattern withHoles fewSlots layoutSize layoutRules zeroGiven namesGiven givenFrom givenAt isSlot slotGiven givenSlots allGiven givenLayout writable writeLayout leftBy writeBytes
+unfolding header numbers E2 bytes encodeFid goodSequence goodNumber goodFid goodObject encodeSlot encodeSlots allowedSlot allowedSlots headerSize encodeHeader encodeLayout knownVersion knownPattern possibleStripe goodHeader withHoles fewSlots layoutSize layoutRules zeroGiven namesGiven givenFrom givenAt isSlot slotGiven givenSlots allGiven givenLayout writable writeLayout leftBy writeBytes
 E2-written = (refl, refl)

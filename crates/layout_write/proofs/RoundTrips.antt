@@ -15,7 +15,7 @@ use Rattle.layout.specs.declared.Slot.{Slot}
 use Rattle.layout.specs.declared.Reading.the-variants.{Refused, Accepted}
 use Rattle.layout.specs.declared.SlotRead.the-variants.{SlotIs}
 use Rattle.layout.specs.Slot.{slotSize, slotOf, decodeSlots, allowedSlots}
-use Rattle.layout.specs.Layout.{Layout, magicOne, magicThree, plainPattern, holePattern, decodeHeader, stripeCount, slotStart, decodeLayout, encodeLayout, withHoles, knownVersion, knownPattern, fewSlots, layoutSize, layoutRules, acceptedLayout}
+use Rattle.layout.specs.Layout.{Layout, magicOne, magicThree, plainPattern, holePattern, decodeHeader, stripeCount, slotStart, decodeLayout, encodeLayout, withHoles, knownVersion, knownPattern, possibleStripe, goodHeader, fewSlots, layoutSize, layoutRules, acceptedLayout}
 use Rattle.layout.specs.Answers.{readLayout, readSlot}
 use Rattle.layout.proofs.HeaderLaws.{FitHeader}
 use Rattle.layout.proofs.LayoutLaws.{Writable, accepted-writable, rules-slots, read-back, written-back, written-accepted, length-layout, header-is, slots-are, slots-many, slot-is, read-accepted}
@@ -114,11 +114,13 @@ either m a b e p q = go (eqb m a) refl e
 
 -- a header that the rules take, of the declared widths, fits
 header-fits : (h : Header) (ss : List Slot) → DeclaredWidths h → layoutRules h ss ≡ true → FitHeader h
-unfolding layoutRules knownVersion knownPattern
+unfolding layoutRules goodHeader knownVersion knownPattern
 header-fits h ss d r =
     let v : Bool = eqb (h .magic) magicOne || eqb (h .magic) magicThree in
     let p : Bool = eqb (h .pattern) plainPattern || eqb (h .pattern) holePattern in
-    let k : (v && p) ≡ true = and-first (v && p) (fewSlots (length ss)) (and-first (v && p && fewSlots (length ss)) (allowedSlots (withHoles h) ss) r) in
+    let s : Bool = possibleStripe (h .stripe) in
+    let g : (v && p && s) ≡ true = and-first (v && p && s) (fewSlots (length ss)) (and-first (v && p && s && fewSlots (length ss)) (allowedSlots (withHoles h) ss) r) in
+    let k : (v && p) ≡ true = and-first (v && p) s g in
     record {
       magic = either (h .magic) magicOne magicThree (and-first v p k) (omega arith) (omega arith);
       pattern = either (h .pattern) plainPattern holePattern (and-second v p k) (omega arith) (omega arith);

@@ -15,7 +15,7 @@ use borrow.Rule.Slice.PartMut.{putMid}
 use Rattle.layout.specs.declared.Header.{Header}
 use Rattle.layout_write.specs.declared.Written.the-variants.{BadFields, TooShort, Bytes}
 use Rattle.layout.specs.Slot.{slotSize, allowedSlots, encodeSlot, encodeSlots}
-use Rattle.layout.specs.Layout.{plainHeader, headerSize, encodeHeader, encodeLayout, knownVersion, knownPattern, withHoles, maxSlots, fewSlots, layoutSize, layoutRules}
+use Rattle.layout.specs.Layout.{plainHeader, headerSize, encodeHeader, encodeLayout, goodHeader, withHoles, maxSlots, fewSlots, layoutSize, layoutRules}
 use Rattle.layout_write.specs.Writer.{slotNumbers, givenAt, slotGiven, givenSlots, allGiven, givenLayout, writable, writeLayout, leftBy, writeBytes}
 use Rattle.layout.proofs.SlotLaws.{length-slot, length-encode-slots, encode-append}
 use Rattle.layout.proofs.HeaderLaws.{length-header, size-least}
@@ -34,7 +34,7 @@ module _ (h : Header) (n : ℕ) (pool numbers : List ℕ) where
 
   pub write-many : maxSlots < n → false ≡ writable h n pool numbers
   unfolding writable layoutRules fewSlots
-  write-many k = rw (length-given numbers n 0, lt-leb n maxSlots k) (sym (many-false (eqb (length numbers) (slotNumbers * n)) (allGiven numbers n 0) (eqb (length pool) (headerSize (h .magic) - plainHeader)) (knownVersion h && knownPattern h) (allowedSlots (withHoles h) (givenSlots numbers n 0))))
+  write-many k = rw (length-given numbers n 0, lt-leb n maxSlots k) (sym (many-false (eqb (length numbers) (slotNumbers * n)) (allGiven numbers n 0) (eqb (length pool) (headerSize (h .magic) - plainHeader)) (goodHeader h) (allowedSlots (withHoles h) (givenSlots numbers n 0))))
 
   pub write-uneven : (length numbers ≡ slotNumbers * n → ⊥) → false ≡ writable h n pool numbers
   unfolding writable
@@ -53,10 +53,10 @@ module _ (h : Header) (n : ℕ) (pool numbers : List ℕ) where
   last-false true false x y = refl
   last-false false b x y = refl
 
-  pub write-unknown : (b : ℕ) → b ≡ headerSize (h .magic) → length numbers ≡ slotNumbers * n → length pool ≡ b - plainHeader → (knownVersion h && knownPattern h) ≡ false →
+  pub write-header : (b : ℕ) → b ≡ headerSize (h .magic) → length numbers ≡ slotNumbers * n → length pool ≡ b - plainHeader → goodHeader h ≡ false →
       false ≡ writable h n pool numbers
   unfolding writable layoutRules
-  write-unknown b q e p k =
+  write-header b q e p k =
       rw (← q, eq-eqb (length numbers) (slotNumbers * n) e, eq-eqb (length pool) (b - plainHeader) p, k)
       (sym (last-false (allGiven numbers n 0) true (fewSlots (length (givenSlots numbers n 0))) (allowedSlots (withHoles h) (givenSlots numbers n 0))))
 
@@ -66,7 +66,7 @@ module _ (h : Header) (n : ℕ) (pool numbers : List ℕ) where
 
   pub write-slots : (b : ℕ) (holes r : Bool) → b ≡ headerSize (h .magic) → holes ≡ withHoles h →
       r ≡ (allGiven numbers n 0 && allowedSlots holes (givenSlots numbers n 0)) → length numbers ≡ slotNumbers * n → length pool ≡ b - plainHeader →
-      (knownVersion h && knownPattern h) ≡ true → n ≤ maxSlots → r ≡ writable h n pool numbers
+      goodHeader h ≡ true → n ≤ maxSlots → r ≡ writable h n pool numbers
   unfolding writable layoutRules fewSlots
   write-slots b holes r q w t e p k m =
       rw (← q, eq-eqb (length numbers) (slotNumbers * n) e, eq-eqb (length pool) (b - plainHeader) p, k, length-given numbers n 0, le-leb n maxSlots m, t, w)

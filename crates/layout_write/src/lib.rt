@@ -129,7 +129,7 @@ pub fn may_write(h: Header, count: usize, pool: &[u8], numbers: &[u64]) -> bool
     if pool.len() != layout::header_size(h.magic) - PLAIN_HEADER {
         return false;
     }
-    if !layout::known_header(h) {
+    if !layout::good_header(h) {
         return false;
     }
     allowed_numbers(numbers, count, layout::with_holes(h))

@@ -14,13 +14,13 @@ read-header-requires : tie.Need-read-header-requires
 read-header-requires c κs = exact-long _ (sym (c .before .exact-length .ensures) ∙ not-false _ (c .if1 .left))
 
 returns-2 : tie.Need-returns-2
-returns-2 c = accepted-header _ _ (c .before .before .read-header .ensures) (sym (c .before .before .before .before .exact-length .ensures) ∙ not-false _ (c .before .before .before .if1 .left)) (sym (c .before .known-header .ensures) ∙ not-true _ (c .if2 .taken))
+returns-2 c = accepted-header _ _ (c .before .before .read-header .ensures) (sym (c .before .before .before .before .exact-length .ensures) ∙ not-false _ (c .before .before .before .if1 .left)) (sym (c .before .good-header .ensures) ∙ not-true _ (c .if2 .taken))
 
 stripe-count-requires : tie.Need-stripe-count-requires
 stripe-count-requires c κs = omega (arith, exact-long _ (sym (c .before .before .before .before .exact-length .ensures) ∙ not-false _ (c .before .before .before .if1 .left)))
 
 returns-3 : tie.Need-returns-3
-returns-3 c = accepted-many _ _ _ (c .before .before .before .before .read-header .ensures) (c .before .stripe-count .ensures) (sym (c .before .before .before .before .before .before .exact-length .ensures) ∙ not-false _ (c .before .before .before .before .before .if1 .left)) (sym (c .before .before .before .known-header .ensures) ∙ not-false _ (c .before .before .if2 .left)) (omega arith)
+returns-3 c = accepted-many _ _ _ (c .before .before .before .before .read-header .ensures) (c .before .stripe-count .ensures) (sym (c .before .before .before .before .before .before .exact-length .ensures) ∙ not-false _ (c .before .before .before .before .before .if1 .left)) (sym (c .before .before .before .good-header .ensures) ∙ not-false _ (c .before .before .if2 .left)) (omega arith)
 
 slot-start-requires : tie.Need-slot-start-requires
 slot-start-requires c κs = omega (arith, exact-long _ (sym (c .before .before .before .before .before .before .exact-length .ensures) ∙ not-false _ (c .before .before .before .before .before .if1 .left)))
@@ -42,7 +42,7 @@ returns-4 : tie.Need-returns-4
 returns-4 c =
     c .allowed-slots .ensures
     ∙ accepted-slots _ _ _ _ _ (c .before .before .before .before .before .before .before .before .read-header .ensures) (c .before .before .before .before .before .stripe-count .ensures) (c .before .before .before .slot-start .ensures) (c .before .with-holes .ensures)
-    (sym (c .before .before .before .before .before .before .before .before .before .before .exact-length .ensures) ∙ not-false _ (c .before .before .before .before .before .before .before .before .before .if1 .left)) (sym (c .before .before .before .before .before .before .before .known-header .ensures) ∙ not-false _ (c .before .before .before .before .before .before .if2 .left)) (omega arith)
+    (sym (c .before .before .before .before .before .before .before .before .before .before .exact-length .ensures) ∙ not-false _ (c .before .before .before .before .before .before .before .before .before .if1 .left)) (sym (c .before .before .before .before .before .before .before .good-header .ensures) ∙ not-false _ (c .before .before .before .before .before .before .if2 .left)) (omega arith)
 
 pub accepted-spec : {M : Type 1} → statement M
 accepted-spec =

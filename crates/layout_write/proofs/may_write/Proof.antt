@@ -2,7 +2,7 @@ use native.Mathlib.Omega.{arith}
 use mathlib.Core.Path.{sym, _∙_}
 use borrow.Author.Tests.{not-true, not-false}
 use Rattle.layout.proofs.HeaderLaws.{size-least}
-use Rattle.layout_write.proofs.WriteLaws.{write-many, write-uneven, write-pool, write-unknown, write-slots}
+use Rattle.layout_write.proofs.WriteLaws.{write-many, write-uneven, write-pool, write-header, write-slots}
 use borrow.Author.Needs.{needs}
 use Rattle.layout_write.proofs.may_write.Statement.{statement}
 use Rattle.layout_write.proofs.may_write.Tie as tie
@@ -21,12 +21,12 @@ returns-3 c = write-pool _ _ _ _ _ (c .before .header-size .ensures) (omega arit
 
 returns-4 : tie.Need-returns-4
 returns-4 c =
-    write-unknown _ _ _ _ _ (c .before .before .before .header-size .ensures) (omega arith) (omega arith) (sym (c .before .known-header .ensures) ∙ not-true _ (c .if4 .taken))
+    write-header _ _ _ _ _ (c .before .before .before .header-size .ensures) (omega arith) (omega arith) (sym (c .before .good-header .ensures) ∙ not-true _ (c .if4 .taken))
 
 returns-5 : tie.Need-returns-5
 returns-5 c =
     write-slots _ _ _ _ _ _ _ (c .before .before .before .before .before .header-size .ensures) (c .before .with-holes .ensures) (c .allowed-numbers .ensures) (omega arith) (omega arith)
-    (sym (c .before .before .before .known-header .ensures) ∙ not-false _ (c .before .before .if4 .left)) (omega arith)
+    (sym (c .before .before .before .good-header .ensures) ∙ not-false _ (c .before .before .if4 .left)) (omega arith)
 
 pub may-write-spec : {M : Type 1} → statement M
 may-write-spec =
