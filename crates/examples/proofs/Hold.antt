@@ -4,13 +4,13 @@ use Prim.Native.Nat.{ℕ}
 use mathlib.Core.Bool.{true}
 use mathlib.Core.List.{List}
 use lib.ListN.{length}
-use Rattle.examples.specs.Cases.{fid, P, Q, A, B, C, N, us, root, on, layoutOf, saysOf, fileAt, file, noFile, filled, parentTable, object, holds, fresh, free, case, seen, go, test, is, true-is, came, ends, rests, slotNumbersOf, class, objectIs, keeps, none, one-self, one-multiple, one-dangling, one-blank, one-unmatched, one-owner, one-empty, one-orphan, two-orphans, made-and-taken, two-wrong-ost, claim, E4-parents, E5-objects, spare, E4, E5, E6, E7-parents, E7, E7-created, E8-objects, E8, E9, E10, E11-parents, E11, E12, E13, own-wrong, blank, other-owner, emptied, exchanged, blank-elsewhere, unmatched-elsewhere, mended-elsewhere, last-generation, made-then-grown, leaves, fills, unfound, looks, E2, layouts, example, examples, tests, Hold}
+use Rattle.examples.specs.Cases.{fid, P, Q, A, B, C, N, us, root, on, layoutOf, saysOf, fileAt, file, noFile, filled, parentTable, object, holds, fresh, free, case, seen, go, test, is, true-is, came, ends, rests, slotNumbersOf, class, objectIs, keeps, none, one-self, one-multiple, one-dangling, one-blank, one-unmatched, one-owner, one-empty, one-orphan, two-orphans, made-and-taken, two-wrong-ost, claim, E4-parents, E5-objects, spare, E4, E5, E6, E7-parents, E7, E7-created, E8-objects, E8, E9, E10, E11-parents, E11, E12, E13, own-wrong, blank, other-owner, emptied, exchanged, blank-elsewhere, unmatched-elsewhere, mended-elsewhere, last-generation, made-then-grown, leaves, fills, unfound, looks, E2, sized, bare, sizes, answers, layouts, example, examples, tests, Hold}
 use Rattle.wire.specs.Numbers.{le, bytes}
 use Rattle.wire.specs.Rows.{rows}
 use Rattle.fid.specs.Fid.{goodObject as goodObjectFid, goodFid, goodNumber, goodSequence, decodeFid, encodeFid, sameFid, zeroFid, goodFile, goodReserve}
 use Rattle.layout.specs.Slot.{allowedSlot, allowedSlots, zeroSlot, slotFrom as slotOfNumbers, decodeSlot, encodeSlot, decodeSlots, encodeSlots, slotNames, sameSlot, sameSlots}
 use Rattle.layout.specs.Layout.{knownVersion, knownPattern, possibleStripe, goodHeader, fewSlots, exactLength, layoutRules, acceptedLayout, headerSize, decodeHeader, stripeCount, encodeHeader, slotStart, decodeLayout, encodeLayout, withHoles, layoutSize, nextGeneration, atGeneration, generationWith, restriped, changed}
-use Rattle.layout.specs.Answers.{readLayout, readNumber}
+use Rattle.layout.specs.Answers.{readLayout, readNumber, readSlot, slotReadNumber, rewriteAnswer}
 use Rattle.tables.specs.Bytes.{isUsed, decodeOwner, encodeOwner, layoutLength, layoutBytes, decodeParent, encodeParent, parseParent, renderParent, claimFrom, claimFid, decodeObject, mark, encodeObject, parseObject, renderObject, objectRows, join, renderParents, renderObjects, selfFid, parseRow, renderRow, claimedFid, reserveEntries, reserveFid, parseReserve, parseObjects}
 use Rattle.tables.specs.Positions.{slotsOf, rowAt, width, inStageOne, inStageTwo, isPosition, isEnd, place, fromObject, fromParent, start, afterPart, next, rowSteps, countSteps}
 use Rattle.tables.specs.Check.{all, goodObject, hasSelf, noneTwice, firstFailing, isRowOf, objectsWhole, reserveWhole, wholeRows, usedMark, freshMark, isMark, whenUsed, goodPolicy, goodLayout, goodParent, goodIndex, goodClaim, freshClaims, goodEntry}
@@ -27,7 +27,7 @@ use Rattle.rules.specs.Settings.{creates, adopts, settingsOf}
 use Rattle.examples.proofs.SeenLaws.{numberBy, rowTables, rowsSeen, fits, short, allFit, tests-are}
 
 pub layouts-hold : Hold layouts
-unfolding Hold layouts test is E2 fid P A on layoutOf le bytes decodeFid encodeFid sameFid zeroFid zeroSlot slotOfNumbers decodeSlot encodeSlot decodeSlots encodeSlots headerSize decodeHeader stripeCount encodeHeader slotStart decodeLayout encodeLayout withHoles layoutSize slotNumbersOf readLayout readNumber acceptedLayout exactLength layoutRules knownVersion knownPattern possibleStripe goodHeader fewSlots allowedSlot allowedSlots goodFid goodNumber goodSequence goodObjectFid
+unfolding Hold layouts test is E2 sized bare sizes answers fid P A B on layoutOf le bytes decodeFid encodeFid sameFid zeroFid zeroSlot slotOfNumbers decodeSlot encodeSlot decodeSlots encodeSlots headerSize decodeHeader stripeCount encodeHeader slotStart decodeLayout encodeLayout withHoles layoutSize slotNumbersOf readLayout readNumber readSlot slotReadNumber rewriteAnswer acceptedLayout exactLength layoutRules knownVersion knownPattern possibleStripe goodHeader fewSlots allowedSlot allowedSlots goodFid goodNumber goodSequence goodObjectFid
 layouts-hold = refl
 
 all-fit : allFit examples ≡ true

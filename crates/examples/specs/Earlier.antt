@@ -1,14 +1,16 @@
--- Tables of the edition before, which had at most 160 slots: none is read as a table of this one. "Raise 160 to 2,000 slots and the room of a
--- parent row from 3,888 to 48,048 bytes".
-use Prim.Native.Nat.{ℕ, _+_, _*_, _≤_}
+-- Tables of earlier editions that are none of this one: each is refused, and none is read as another table.
+use Prim.Native.Nat.{ℕ, _+_, _*_, _/_, _≤_, _<_}
 use mathlib.Core.Path.{_≡_}
-use mathlib.Core.List.{List}
-use lib.ListN.{length}
+use mathlib.Core.Bool.{true, false}
+use mathlib.Core.List.{List, []}
+use lib.ListN.{length, take, drop}
 use Rattle.layout.specs.Slot.{slotSize}
-use Rattle.layout.specs.Layout.{poolHeader}
-use Rattle.tables.specs.Bytes.{roomAt}
-use Rattle.tables.specs.Check.{maxParents, tablesNumber, checkNumber}
+use Rattle.layout.specs.Layout.{poolHeader, decodeHeader, possibleStripe}
+use Rattle.tables.specs.Bytes.{roomAt, parentSize, isUsed, layoutBytes}
+use Rattle.tables.specs.Check.{maxParents, tablesWhole, goodPolicy, tablesNumber, checkNumber}
 use Rattle.tables.specs.declared.Position.{Position}
+
+-- ## At most 160 slots: "Raise 160 to 2,000 slots and the room of a parent row from 3,888 to 48,048 bytes"
 
 -- the bytes of a row then
 abbrev pub narrowSize : ℕ
@@ -28,3 +30,23 @@ pub record RefusedWithEleven (parents : List ℕ) : Type 0 where
 
 unfoldable pub EveryNarrow : Type 0
 EveryNarrow = (parents : List ℕ) → Narrow parents → RefusedWithEleven parents
+
+-- ## Any stripe size: "layouts whose stripe size was 0 or not a multiple of 65,536"
+
+-- a table with such a file: row r is used, and what its layout says as stripe size is impossible, however many slots follow
+pub record Impossible (parents : List ℕ) : Type 0 where
+  pub r : ℕ
+  pub there : r < length parents / parentSize
+  pub row : List ℕ
+  pub stands : row ≡ take parentSize (drop (parentSize * r) parents)
+  pub in-use : isUsed row ≡ true
+  pub size : possibleStripe (decodeHeader (layoutBytes row) .stripe) ≡ false
+
+-- it gets 13, unless 11 or 12 comes first
+pub record RefusedWithThirteen (parents : List ℕ) : Type 0 where
+  pub tables : (objects : List ℕ) → tablesWhole parents objects [] ≡ true → tablesNumber parents objects ≡ 13
+  pub input : (objects reserve : List ℕ) (policy : ℕ) (at : Position) → tablesWhole parents objects reserve ≡ true → goodPolicy policy ≡ true →
+      checkNumber parents objects reserve policy at ≡ 13
+
+unfoldable pub EveryImpossible : Type 0
+EveryImpossible = (parents : List ℕ) → Impossible parents → RefusedWithThirteen parents

@@ -6,7 +6,7 @@ use mathlib.Core.Bool.{Bool, true, false, cond, _&&_, true≢false}
 use lib.ListN.{length, drop}
 use lib.Dec.{eqb}
 use borrow.Author.Tests.{eqb-true}
-use Rattle.wire.proofs.Both.{and-first, and-second, and-both}
+use Rattle.wire.proofs.Both.{and-first, and-second, and-both, and-none}
 use Rattle.intake.specs.declared.Kind.{Kind}
 use Rattle.intake.specs.declared.Kind.the-variants.{Lov, Fid, Lma, Other}
 use Rattle.intake.specs.Says.{trustedWord, lovWord, fidWord, lmaWord, starts, named, kindOf}
@@ -66,10 +66,7 @@ seconds-differ : (a c d : ℕ) (u w l : List ℕ) → eqb c d ≡ false → name
 unfolding named
 seconds-differ a c d u w [] e h = absurd (true≢false (sym h))
 seconds-differ a c d u w (b ∷ l) e h =
-    rw (heads-differ c d u w l e (and-second (eqb b a) (named (c ∷ u) l) h)) (no (eqb b a)) where
-      no : (t : Bool) → (t && false) ≡ false
-      no true = refl
-      no false = refl
+    rw (heads-differ c d u w l e (and-second (eqb b a) (named (c ∷ u) l) h)) (and-none (eqb b a))
 
 -- the kind that the three tests of a name tell
 abbrev told : Bool → Bool → Bool → Bool → Kind

@@ -1,14 +1,15 @@
 -- Laws of headers: their size, their fields read and stored, and the round trip. Assumes nothing.
-use mathlib.Core.Path.{_≡_, refl}
+use mathlib.Core.Path.{_≡_, refl, sym}
 use mathlib.Core.List.{List, [], _++_, append-assoc}
-use mathlib.Core.Bool.{Bool, true, false, cond, _&&_}
-use Prim.Native.Nat.{ℕ, _+_, _%_, _≤_, _<_, _^_}
-use borrow.Author.Tests.{eq-eqb, ne-eqb}
+use mathlib.Core.Bool.{Bool, true, false, cond, not, _&&_}
+use Prim.Native.Nat.{ℕ, zero, suc, _+_, _%_, _≤_, _<_, _^_}
+use borrow.Author.Tests.{eq-eqb, ne-eqb, lt-ltb}
 use native.Mathlib.Omega.{arith}
-use lib.Dec.{eqb}
+use lib.Dec.{eqb, ltb}
 use lib.ListN.{length, take, drop, length-append, length-drop}
 use lib.Seq.{sets, take-add}
 use Rattle.wire.specs.Numbers.{le, bytes}
+use Rattle.wire.proofs.Both.{and-none}
 use Rattle.wire.proofs.Splice.{sets-at}
 use Rattle.wire.proofs.NumberLaws.{Bytes, field, bytes-drop, bytes-le, length-bytes, le-small, le-small-at}
 use Rattle.layout.specs.declared.Header.{Header}
@@ -76,13 +77,14 @@ module _ (h : Header) where
   unfolding goodHeader
   then-stripe b e p s = rw (e, p, s)
 
-pub stripe-none : (size : ℕ) → size ≡ 0 → false ≡ possibleStripe size
+pub stripe-uneven : (size : ℕ) → (size % stripeUnit ≡ 0 → ⊥) → false ≡ possibleStripe size
 unfolding possibleStripe
-stripe-none size e = rw (eq-eqb _ _ e)
+stripe-uneven size k = rw (ne-eqb _ _ k) (sym (and-none (not (eqb size 0))))
 
-pub stripe-some : (size : ℕ) → (size ≡ 0 → ⊥) → eqb (size % stripeUnit) 0 ≡ possibleStripe size
+pub stripe-even : (size : ℕ) → size % stripeUnit ≡ 0 → ltb 0 size ≡ possibleStripe size
 unfolding possibleStripe
-stripe-some size e = rw (ne-eqb _ _ e)
+stripe-even zero e = refl
+stripe-even (suc n) e = rw (eq-eqb _ _ e, lt-ltb 0 (suc n) (omega arith), ne-eqb (suc n) 0 (λ z. omega arith))
 
 -- the fields, read one by one
 pub header-at : (l : List ℕ) (m p o s t g : ℕ) → m ≡ le 4 l → p ≡ le 4 (drop patternAt l) → o ≡ le 8 (drop ownIdAt l) → s ≡ le 8 (drop ownSequenceAt l) →

@@ -290,10 +290,10 @@ fn known_pattern(h: Header) -> bool
 fn possible_stripe(size: u32) -> bool
     ensures { λ r. ⌜ r ≡ possibleStripe size ⌝ }
 {
-    if size == 0 {
+    if size % STRIPE_UNIT != 0 {
         return false;
     }
-    size % STRIPE_UNIT == 0
+    0 < size
 }
 
 // Whether a header meets the rules on it: magic and pattern are known, and the stripe size is possible.

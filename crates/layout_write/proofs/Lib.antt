@@ -2,4 +2,5 @@ pub mod GivenLaws
 pub mod SlotNumbers
 pub mod WriteLaws
 pub mod RoundTrips
+pub mod Impossible
 pub mod Example

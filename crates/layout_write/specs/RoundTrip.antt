@@ -21,7 +21,7 @@ slotsRead l (suc n) j = slotReadFields (readSlot l j) ++ slotsRead l n (suc j)
 unfoldable pub poolRead : Header → List ℕ → List ℕ
 poolRead h l = take (headerSize (h .magic) - plainHeader) (drop plainHeader l)
 
--- the fields that may be anything are of their declared widths; magic number and pattern are known ones
+-- the fields are of their declared widths; magic number and pattern are so as known ones
 pub record DeclaredWidths (h : Header) : Type 0 where
   pub oid : h .oid < 2 ^ 64
   pub seq : h .seq < 2 ^ 64

@@ -1,4 +1,4 @@
--- A test of two parts that holds. Assumes nothing.
+-- A test of two parts that holds, and one that doesn't. Assumes nothing.
 use mathlib.Core.Path.{_≡_, refl}
 use mathlib.Core.Bool.{Bool, true, false, _&&_}
 
@@ -12,3 +12,7 @@ and-second false b h = cc
 
 pub and-both : (a b : Bool) → a ≡ true → b ≡ true → (a && b) ≡ true
 and-both a b p q = rw (p, q)
+
+pub and-none : (a : Bool) → (a && false) ≡ false
+and-none true = refl
+and-none false = refl
