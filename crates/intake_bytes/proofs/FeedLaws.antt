@@ -174,8 +174,8 @@ module _ (m : Marks) (before : List ℕ) (x : Unfinished) (piece : List ℕ) (fr
         stop = g .stop;
       }
 
--- digits two at a time, and then the others
-pub pairs-then : (before : List ℕ) (x : Unfinished) (piece : List ℕ) (from : ℕ) (now : List ℕ) (y : Unfinished) (at : ℕ) (after : List ℕ) (r : Reached)
+-- some digits, and then the others
+pub digits-then : (before : List ℕ) (x : Unfinished) (piece : List ℕ) (from : ℕ) (now : List ℕ) (y : Unfinished) (at : ℕ) (after : List ℕ) (r : Reached)
     → DigitsFed before x piece from now y at → ValueFed now y piece at after r → ValueFed before x piece from after r
 unfolding ValueFed
-pairs-then before x piece from now y at after r d v = λ m g. value-then m before x piece from now y at (d .fed m g) after r v
+digits-then before x piece from now y at after r d v = λ m g. value-then m before x piece from now y at (d .fed m g) after r v

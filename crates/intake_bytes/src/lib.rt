@@ -315,8 +315,39 @@ fn feed_digits(buf: &mut [u8], line: Unfinished, piece: &[u8], from: usize) -> R
     Reached { at: at, line: x }
 }
 
-// The bytes of a piece after a line's head, up to the line's end.
-fn feed_value(buf: &mut [u8], line: Unfinished, piece: &[u8], from: usize) -> Reached
+// The second digit of a byte whose first is known, if it is the next of a piece: after it come whole bytes.
+fn feed_second(buf: &mut [u8], line: Unfinished, piece: &[u8], from: usize) -> Reached
+    requires { ⌜ PastHead (length (now buf)) line (length (now piece)) from ⌝ }
+    ensures { λ r. ⌜ DigitsFed (now (buf .entry)) line (now (piece .entry)) from (now (buf .exit)) (r .line) (r .at) ⌝ }
+{
+    if line.half == 0 {
+        return Reached {
+            at: from,
+            line: line,
+        };
+    }
+    if piece.len() <= from {
+        return Reached {
+            at: from,
+            line: line,
+        };
+    }
+    let b = piece[from];
+    if b == NEWLINE {
+        return Reached {
+            at: from,
+            line: line,
+        };
+    }
+    let x = digit_byte(buf, line, b);
+    Reached {
+        at: from + 1,
+        line: x,
+    }
+}
+
+// The digits of a value up to the line's end: whole bytes as long as there are any, and then one by one.
+fn feed_whole(buf: &mut [u8], line: Unfinished, piece: &[u8], from: usize) -> Reached
     requires { ⌜ PastHead (length (now buf)) line (length (now piece)) from ⌝ }
     ensures { λ r. ⌜ ValueFed (now (buf .entry)) line (now (piece .entry)) from (now (buf .exit)) r ⌝ }
 {
@@ -327,6 +358,17 @@ fn feed_value(buf: &mut [u8], line: Unfinished, piece: &[u8], from: usize) -> Re
     let x = pairs.line;
     let at = pairs.at;
     feed_digits(buf, x, piece, at)
+}
+
+// The bytes of a piece after a line's head, up to the line's end.
+fn feed_value(buf: &mut [u8], line: Unfinished, piece: &[u8], from: usize) -> Reached
+    requires { ⌜ PastHead (length (now buf)) line (length (now piece)) from ⌝ }
+    ensures { λ r. ⌜ ValueFed (now (buf .entry)) line (now (piece .entry)) from (now (buf .exit)) r ⌝ }
+{
+    let second = feed_second(buf, line, piece, from);
+    let x = second.line;
+    let at = second.at;
+    feed_whole(buf, x, piece, at)
 }
 
 // The bytes of a piece up to the line's end.
