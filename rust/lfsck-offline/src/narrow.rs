@@ -6,7 +6,7 @@
 use numbers::layout::{HEADER_THREE, SLOT_BYTES};
 use numbers::parent::{BYTES as WIDE, LAYOUT_AT, MOST};
 
-/// The first edition that has other rows.
+/// The first edition with wider rows.
 pub const BEFORE: &str = "2026-07";
 
 /// The most slots of a file in those editions.

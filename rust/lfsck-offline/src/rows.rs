@@ -142,7 +142,8 @@ fn is_used(row: &[u8]) -> bool {
 }
 
 impl File {
-    /// The file in a row, none where the row is unused. The library reads the layout.
+    /// The file in a row, none where the row is unused. The library reads the layout, whatever its
+    /// stripe size.
     pub fn read(row: &[u8]) -> Option<File> {
         if !is_used(row) {
             return None;
