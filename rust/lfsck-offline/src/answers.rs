@@ -59,7 +59,7 @@ pub fn require_sound(tables: &Tables, bar: &Bar) -> Result<(), Failure> {
     }
 }
 
-/// Ends a command on tables with rows of the edition before.
+/// Ends a command on tables with rows of an edition before 2026-07.
 pub fn require_wide(tables: &Tables) -> Result<(), Failure> {
     let number = narrow::rows(&tables.parents).map_or(OK, |_| tables.check());
     match number {

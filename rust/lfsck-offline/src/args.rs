@@ -35,7 +35,7 @@ pub enum Command {
     Log(Option<Fid>),
     /// Take the last run or mending back.
     Undo,
-    /// Widen the rows of the edition before.
+    /// Make a case of an earlier edition one of this.
     Convert,
     /// List the findings of names, or mend them.
     Names(NamesOptions),

@@ -8,7 +8,7 @@ use std::collections::HashMap;
 use numbers::answer::{BAD_FID, BAD_LAYOUT, BAD_TABLE, FID_TWICE};
 use numbers::layout::{
     COUNT_AT, HEADER_ONE, HEADER_THREE, HOLES, LAST_OST, MAGIC_AT, MAGIC_ONE, MAGIC_THREE,
-    MOST_SLOTS, PATTERN_AT, PLAIN, SLOT_BYTES, SLOT_OST_AT,
+    MOST_SLOTS, PATTERN_AT, PLAIN, SLOT_BYTES, SLOT_OST_AT, STRIPE_SIZE_AT, STRIPE_UNIT,
 };
 use numbers::object::{CLAIM_AT, FRESH_AT, OST_AT, SELF_AT};
 use numbers::parent::{LAYOUT_AT, LENGTH_AT};
@@ -95,7 +95,7 @@ pub fn faults(tables: &Tables) -> Vec<Fault> {
     list
 }
 
-/// The rows are those of the edition before, where no row of this one begins.
+/// The rows are those of an edition before 2026-07, where no row of this one begins.
 fn is_narrow(table: Table, bytes: &[u8]) -> bool {
     table == Table::Parents && narrow::rows(bytes).is_some()
 }
@@ -172,7 +172,20 @@ fn parent(row: &mut Row, bytes: &[u8], known: &mut Known) {
     }
 }
 
-/// A layout: magic, pattern, count, length, slots.
+/// What is wrong with a stripe size that is not 0.
+const NO_MULTIPLE: &str = "no multiple of 65,536";
+
+/// The stripe size, also of a layout without slots.
+fn stripe_size(row: &mut Row, size: u32) {
+    let reason = match size {
+        0 => "a stripe of no bytes",
+        _ if size.is_multiple_of(STRIPE_UNIT) => return,
+        _ => NO_MULTIPLE,
+    };
+    row.add(BAD_LAYOUT, format!("stripe size {size}"), reason);
+}
+
+/// A layout: magic, pattern, stripe size, count, length, slots.
 fn layout(row: &mut Row, bytes: &[u8]) {
     if bytes.len() < HEADER_ONE {
         let reason = format!("{} bytes, a header alone is {HEADER_ONE}", bytes.len());
@@ -194,6 +207,7 @@ fn layout(row: &mut Row, bytes: &[u8]) {
         let reason = format!("neither {PLAIN:#x} nor {HOLES:#x} (with holes)");
         row.add(BAD_LAYOUT, format!("layout pattern {pattern:#x}"), reason);
     }
+    stripe_size(row, number32(bytes, STRIPE_SIZE_AT));
     let count = usize::from(number16(bytes, COUNT_AT));
     if count > MOST_SLOTS {
         let field = format!("stripe count {count}");
@@ -282,6 +296,31 @@ mod tests {
         }
     }
 
+    /// Stripe sizes, the bounds of good ones among them, with the fault of each.
+    const SIZES: [(u32, Option<&str>); 8] = [
+        (0, Some("a stripe of no bytes")),
+        (1, Some(NO_MULTIPLE)),
+        (65_535, Some(NO_MULTIPLE)),
+        (65_536, None),
+        (65_537, Some(NO_MULTIPLE)),
+        (131_072, None),
+        (4_294_901_760, None),
+        (4_294_967_295, Some(NO_MULTIPLE)),
+    ];
+
+    /// Where a parent row has the stripe size.
+    const SIZE_AT: usize = LAYOUT_AT + STRIPE_SIZE_AT;
+
+    /// Puts a stripe size in any parent row.
+    fn resize_stripes(parents: &mut [u8], random: &mut Random) {
+        let rows = parents.len() / numbers::parent::BYTES;
+        if rows > 0 {
+            let at = random.below(rows) * numbers::parent::BYTES + SIZE_AT;
+            let (size, _) = random.pick(&SIZES);
+            parents[at..at + 4].copy_from_slice(&size.to_le_bytes());
+        }
+    }
+
     /// Puts any byte, or one that matters, in a place that a field has.
     fn damage(table: &mut Vec<u8>, size: usize, fields: usize, random: &mut Random) {
         if random.one_in(12) {
@@ -307,10 +346,12 @@ mod tests {
     fn the_list_agrees_with_the_library() {
         let mut random = Random::for_test("faults");
         let mut met = HashMap::new();
+        let mut sizes = 0;
         for _ in 0..60_000 {
             let mut tables = random_case(&mut random);
             for _ in 0..random.below(4) {
-                match random.below(3) {
+                match random.below(4) {
+                    3 => resize_stripes(&mut tables.parents, &mut random),
                     0 => damage(
                         &mut tables.parents,
                         numbers::parent::BYTES,
@@ -325,11 +366,97 @@ mod tests {
             let lowest = list.iter().map(|fault| fault.number).min().unwrap_or(0);
             assert_eq!(lowest, tables.check(), "{list:?}");
             *met.entry(lowest).or_insert(0) += 1;
+            let of_size = |fault: &Fault| fault.field.starts_with("stripe size ");
+            sizes += u32::from(list.len() == 1 && of_size(&list[0]));
         }
-        println!("lowest numbers met: {met:?}");
+        println!("lowest numbers met: {met:?}, a stripe size alone: {sizes}");
+        assert!(sizes > 1_000);
         for number in [0, BAD_TABLE, BAD_LAYOUT, BAD_FID, FID_TWICE] {
             assert!(met.get(&number).is_some_and(|&count| count > 100));
         }
+    }
+
+    /// A file of one parent row, with a layout of so many slots, all holes.
+    fn file(header: usize, count: usize, size: u32) -> Tables {
+        let mut row = vec![0; numbers::parent::BYTES];
+        row[0] = 1;
+        row[SELF_AT..SELF_AT + numbers::fid::BYTES]
+            .copy_from_slice(&difftest::tables::FILES[0].to_bytes());
+        let length = (header + SLOT_BYTES * count) as u16;
+        row[LENGTH_AT..LAYOUT_AT].copy_from_slice(&length.to_le_bytes());
+        let magic = match header {
+            HEADER_ONE => MAGIC_ONE,
+            _ => MAGIC_THREE,
+        };
+        let layout = &mut row[LAYOUT_AT..];
+        layout[MAGIC_AT..MAGIC_AT + 4].copy_from_slice(&magic.to_le_bytes());
+        layout[PATTERN_AT..PATTERN_AT + 4].copy_from_slice(&HOLES.to_le_bytes());
+        layout[STRIPE_SIZE_AT..STRIPE_SIZE_AT + 4].copy_from_slice(&size.to_le_bytes());
+        layout[COUNT_AT..COUNT_AT + 2].copy_from_slice(&(count as u16).to_le_bytes());
+        Tables {
+            parents: row,
+            ..Tables::default()
+        }
+    }
+
+    /// The fields and the reasons of the faults.
+    fn told(tables: &Tables) -> Vec<(String, String)> {
+        let told = |fault: Fault| {
+            assert_eq!((fault.number, fault.row), (BAD_LAYOUT, Some(0)));
+            (fault.field, fault.reason)
+        };
+        faults(tables).into_iter().map(told).collect()
+    }
+
+    /// Of both versions, with slots and without.
+    #[test]
+    fn a_stripe_size_is_a_multiple_above_0() {
+        for (size, reason) in SIZES {
+            let wanted = reason.map(|reason| (format!("stripe size {size}"), reason.to_string()));
+            let number = wanted.as_ref().map_or(0, |_| BAD_LAYOUT);
+            for header in [HEADER_ONE, HEADER_THREE] {
+                for count in [0, 1, MOST_SLOTS] {
+                    let tables = file(header, count, size);
+                    assert_eq!(told(&tables), Vec::from_iter(wanted.clone()));
+                    assert_eq!(tables.check(), number, "{size}, {count} slots");
+                }
+            }
+        }
+    }
+
+    /// The reason says of what a size is a multiple.
+    #[test]
+    fn the_reason_has_the_unit() {
+        let unit = format!("{},{:03}", STRIPE_UNIT / 1000, STRIPE_UNIT % 1000);
+        assert_eq!(NO_MULTIPLE, format!("no multiple of {unit}"));
+    }
+
+    /// Beside the other faults of the layout it stands between pattern and count; an unused row has
+    /// none, and neither has one whose header can't be read.
+    #[test]
+    fn a_stripe_size_is_told_beside_other_faults() {
+        let mut tables = file(HEADER_ONE, 1, 0);
+        tables.parents[LAYOUT_AT + PATTERN_AT] = 2;
+        tables.parents[LAYOUT_AT + COUNT_AT + 1] = 255;
+        let fields = |tables: &Tables| -> Vec<String> {
+            told(tables).into_iter().map(|(field, _)| field).collect()
+        };
+        assert_eq!(
+            fields(&tables),
+            [
+                "layout pattern 0x40000002",
+                "stripe size 0",
+                "stripe count 65281",
+                "layout length"
+            ]
+        );
+        tables.parents[LAYOUT_AT + MAGIC_AT] = 0;
+        assert_eq!(fields(&tables), ["layout magic 0xbd10b00"]);
+        tables.parents[LENGTH_AT] = 31;
+        assert_eq!(fields(&tables), ["layout length"]);
+        assert_eq!(tables.check(), BAD_LAYOUT);
+        tables.parents[0] = 0;
+        assert_eq!((told(&tables).len(), tables.check()), (0, 0));
     }
 
     #[test]

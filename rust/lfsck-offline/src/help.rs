@@ -133,8 +133,9 @@ Says whether the tables are sound. Where they are not, prints the lowest number
 that applies and what it means, and every row at fault with field and reason.
 
   11  table not whole rows, too long, or a mark not 0 or 1; where the rows are
-      those of an earlier edition it says so, and convert widens them
-  13  layout against the rules
+      those of an edition before 2026-07 it says so, and convert widens them
+  13  layout against the rules; a stripe size of 0, or one that is no multiple
+      of 65,536, is too, also where the layout has no slots
   14  bad FID, object index or claim, or fresh without claim
   15  a FID twice among used parents, or twice among used objects
 
@@ -185,7 +186,7 @@ Usage: lfsck-offline run DIR [--create] [--adopt] [--steps N] [--from-start]
 Repairs step by step and saves tables and position together. Goes on from the
 saved position if policy, reserve and tables are those that it was saved with,
 else begins at the start and says why. A position that another edition saved is
-refused: no run is taken up across editions, and this is edition 2026-07. SELF,
+refused: no run is taken up across editions, and this is edition 2026-08. SELF,
 BLANK, UNMATCHED, WRONG-OST and OWNER are repaired under every policy. A step
 that changes a slot of a file that was there, or the number of its slots, raises
 the generation of its layout by one.
@@ -283,16 +284,17 @@ since.
 const CONVERT: &str = "\
 Usage: lfsck-offline convert DIR [--json]
 
-Makes a case of an earlier edition one of this edition, 2026-07. The rows of
-parents.tbl had 3,915 bytes there, for at most 160 slots; each is widened to
-48,075 bytes, for at most 2,000 slots, by zeros at its end. What stands in the
-rows is not judged and stays, and so do the other tables. The saved position is
-thrown away: no run is taken up across editions. All is saved at once, with an
-entry in the log, and is not taken back by undo.
+Makes a case of an earlier edition one of this edition, 2026-08. In editions
+before 2026-07 the rows of parents.tbl had 3,915 bytes, for at most 160 slots;
+each is widened to 48,075 bytes, for at most 2,000 slots, by zeros at its end.
+What stands in the rows is not judged and stays, and so do the other tables. The
+saved position is thrown away: no run is taken up across editions. All is saved
+at once, with an entry in the log, and is not taken back by undo.
 
-Where the rows are as wide already, or there are none, a saved position of
-another edition, or one that cannot be read, is thrown away; else there is
-nothing to convert, and nothing is written.
+Where the rows are as wide already, as those of edition 2026-07, or there are
+none, a saved position of another edition, or one that cannot be read, is thrown
+away; else there is nothing to convert, and nothing is written. No stripe size
+is changed: check tells the layouts that this edition refuses.
 
 Exit status: 2 where the rows of parents.tbl are neither as wide as here nor as
 wide as there.
@@ -381,5 +383,8 @@ mod tests {
             assert!(convert.contains(&grouped(number)), "{number}");
         }
         assert!(convert.contains(&format!("at most {} slots", narrow::SLOTS)));
+        assert!(convert.contains(&format!("before {} ", narrow::BEFORE)));
+        let unit = grouped(layout::STRIPE_UNIT as usize);
+        assert!(Topic::Check.text().contains(&format!("of {unit},")));
     }
 }

@@ -57,7 +57,7 @@ pub enum Deed {
     },
     /// A mending of names.
     Mending(Mended),
-    /// Parent rows of the edition before made wider.
+    /// Parent rows of an edition before 2026-07 made wider.
     Conversion(Conversion),
     /// An undo.
     Undo {
@@ -353,7 +353,8 @@ impl Table {
         }
     }
 
-    /// The row that those bytes were. A parent row of the edition before is one with less room.
+    /// The row that those bytes were. A parent row of an edition before 2026-07 is one with
+    /// less room.
     fn whole_row(self, written: Vec<u8>) -> Option<Vec<u8>> {
         let mut row = written;
         if self.has_room() && row.len() < self.row_bytes() {
@@ -430,7 +431,7 @@ impl Deed {
 }
 
 impl Conversion {
-    /// Of so many rows of the edition before.
+    /// Of so many rows of an edition before 2026-07.
     pub fn of_rows(rows: usize) -> Conversion {
         Conversion {
             rows: rows as u64,

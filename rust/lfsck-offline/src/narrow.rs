@@ -1,4 +1,4 @@
-//! Parent rows of the edition before this one, whose files had at most 160 slots.
+//! Parent rows of the editions before 2026-07, whose files had at most 160 slots.
 //!
 //! They are rows of this edition without the end of the room, so zeros at the end of each make
 //! them such rows.
@@ -6,21 +6,24 @@
 use numbers::layout::{HEADER_THREE, SLOT_BYTES};
 use numbers::parent::{BYTES as WIDE, LAYOUT_AT, MOST};
 
-/// The most slots of a file in that edition.
+/// The first edition with wider rows.
+pub const BEFORE: &str = "2026-07";
+
+/// The most slots of a file in those editions.
 pub const SLOTS: usize = 160;
 
-/// The bytes of a parent row of that edition.
+/// The bytes of a parent row of those editions.
 pub const BYTES: usize = LAYOUT_AT + HEADER_THREE + SLOT_BYTES * SLOTS;
 
-/// How many rows of that edition a parent table is; none where it is none of that edition. No
-/// length is whole rows of both: that would be 3,205 rows at least.
+/// How many rows of those editions a parent table is; none where it is none of theirs. No length
+/// is whole rows of theirs and of this one's: that would be 3,205 rows at least.
 pub fn rows(parents: &[u8]) -> Option<usize> {
     let rows = parents.len() / BYTES;
     let whole = parents.len() == rows * BYTES && !parents.len().is_multiple_of(WIDE);
     (whole && (1..=MOST).contains(&rows)).then_some(rows)
 }
 
-/// The rows of that edition as rows of this one.
+/// The rows of those editions as rows of this one.
 pub fn widened(parents: &[u8]) -> Vec<u8> {
     let mut wide = vec![0; parents.len() / BYTES * WIDE];
     let rows = parents.chunks_exact(BYTES);
@@ -37,10 +40,10 @@ mod tests {
     use super::*;
     use crate::tables::Tables;
 
-    /// Every table of that edition is one that the library refuses, and no table of this one is
-    /// taken for one of that.
+    /// Every table of those editions is one that the library refuses, and no table of this one is
+    /// taken for one of theirs.
     #[test]
-    fn the_library_refuses_every_table_of_that_edition() {
+    fn the_library_refuses_every_table_of_those_editions() {
         assert_eq!((BYTES, WIDE), (3915, 48_075));
         let mut tables = Tables::default();
         for count in 1..=MOST {

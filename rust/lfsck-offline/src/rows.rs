@@ -2,7 +2,10 @@
 
 use std::fmt;
 
-use numbers::layout::{SLOT_BYTES, SLOT_GENERATION_AT, SLOT_OST_AT};
+use numbers::answer::OK;
+use numbers::layout::{
+    COUNT_AT, SLOT_BYTES, SLOT_GENERATION_AT, SLOT_OST_AT, STRIPE_SIZE_AT, STRIPE_UNIT,
+};
 use numbers::{call, layout, object, parent};
 
 use crate::fid::{Fid, MdtFid, OstFid, number16, number32};
@@ -55,7 +58,7 @@ pub struct Header {
     /// The file that the layout says it belongs to.
     pub own: OwnFid,
     /// The stripe size in bytes.
-    pub stripe_size: u64,
+    pub stripe_size: u32,
     /// The generation.
     pub generation: u64,
 }
@@ -139,27 +142,16 @@ fn is_used(row: &[u8]) -> bool {
 }
 
 impl File {
-    /// The file in a row, none where the row is unused. The library reads the layout.
+    /// The file in a row, none where the row is unused. The library reads the layout, whatever its
+    /// stripe size.
     pub fn read(row: &[u8]) -> Option<File> {
         if !is_used(row) {
             return None;
         }
         let length = usize::from(number16(row, parent::LENGTH_AT));
         let layout = row[parent::LAYOUT_AT..].get(..length)?;
-        let mut fields = [0; call::HEADER_READ];
-        if lfsck_sys::layout_read(layout, &mut fields) != 0 {
-            return None;
-        }
-        let [
-            version,
-            pattern,
-            id,
-            sequence,
-            stripe_size,
-            _,
-            generation,
-            start,
-        ] = fields;
+        let [version, pattern, id, sequence, _, _, generation, start] =
+            fields(layout).or_else(|| fields_of_any_size(layout))?;
         Some(File {
             fid: MdtFid(Fid::read(row, parent::SELF_AT)),
             owner: Owner::read(row, parent::OWNER_AT),
@@ -167,12 +159,27 @@ impl File {
                 version,
                 pattern,
                 own: OwnFid { sequence, id },
-                stripe_size,
+                stripe_size: number32(layout, STRIPE_SIZE_AT),
                 generation,
             },
             slots: slots(&layout[start as usize..]),
         })
     }
+}
+
+/// A header as the library reads it; none where it refuses the layout.
+fn fields(layout: &[u8]) -> Option<[u64; call::HEADER_READ]> {
+    let mut fields = [0; call::HEADER_READ];
+    (lfsck_sys::layout_read(layout, &mut fields) == OK).then_some(fields)
+}
+
+/// The same of a layout that is refused for its stripe size alone. Editions before 2026-08 took any
+/// size, so the log of a run may have such a layout.
+fn fields_of_any_size(layout: &[u8]) -> Option<[u64; call::HEADER_READ]> {
+    let mut other = layout.to_vec();
+    let size = other.get_mut(STRIPE_SIZE_AT..COUNT_AT)?;
+    size.copy_from_slice(&STRIPE_UNIT.to_le_bytes());
+    fields(&other)
 }
 
 /// The slots of a layout that the library has read. It would read the whole layout again for each.
@@ -271,5 +278,52 @@ mod tests {
             }
         }
         assert!(named > 1_000 && holes > 100, "{named} and {holes}");
+    }
+
+    /// The stripe size is the library's where it reads the layout, and what stands there where it
+    /// doesn't; nothing else of the file is another.
+    #[test]
+    fn a_file_is_read_whatever_its_stripe_size() {
+        const SIZE_AT: usize = parent::LAYOUT_AT + STRIPE_SIZE_AT;
+        let mut random = Random::for_test("stripe sizes");
+        let mut refused = 0;
+        for _ in 0..1_000 {
+            let tables = Tables::random(SHAPE, &mut random);
+            for row in tables.rows(Table::Parents) {
+                let Some(file) = File::read(row) else {
+                    continue;
+                };
+                for size in [0, 1, STRIPE_UNIT, STRIPE_UNIT + 1, u32::MAX] {
+                    let mut row = row.to_vec();
+                    row[SIZE_AT..SIZE_AT + 4].copy_from_slice(&size.to_le_bytes());
+                    let mut other = file.clone();
+                    other.header.stripe_size = size;
+                    assert_eq!(File::read(&row), Some(other));
+                    let length = usize::from(number16(&row, parent::LENGTH_AT));
+                    match fields(&row[parent::LAYOUT_AT..][..length]) {
+                        Some(fields) => assert_eq!(fields[4], size.into()),
+                        None => refused += 1,
+                    }
+                }
+            }
+        }
+        assert!(refused > 1_000, "{refused}");
+    }
+
+    /// Any other fault leaves nothing to read.
+    #[test]
+    fn a_layout_with_another_fault_is_not_read() {
+        let mut random = Random::for_test("other faults");
+        for _ in 0..1_000 {
+            let tables = Tables::random(SHAPE, &mut random);
+            for row in tables.rows(Table::Parents).filter(|row| is_used(row)) {
+                let mut row = row.to_vec();
+                let at = [layout::MAGIC_AT, layout::PATTERN_AT, COUNT_AT + 1];
+                row[parent::LAYOUT_AT + random.pick(&at)] ^= 0x80;
+                assert_eq!(File::read(&row), None);
+                row[parent::LENGTH_AT..parent::LAYOUT_AT].fill(0);
+                assert_eq!(File::read(&row), None);
+            }
+        }
     }
 }

@@ -32,7 +32,7 @@ pub fn file(file: &File) -> Members {
     ]);
     members.extend(own(header.own));
     members.extend([
-        ("stripe_size", Json::Number(header.stripe_size)),
+        ("stripe_size", Json::Number(header.stripe_size.into())),
         ("generation", Json::Number(header.generation)),
         ("slots", Json::Number(file.slots.len() as u64)),
     ]);

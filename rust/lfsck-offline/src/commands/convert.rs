@@ -1,4 +1,4 @@
-//! `convert`: makes a case of the edition before one of this edition.
+//! `convert`: makes a case of an earlier edition one of this edition.
 
 use std::path::Path;
 

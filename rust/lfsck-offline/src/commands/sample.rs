@@ -17,6 +17,9 @@ use crate::tables::{Table, Tables, Together};
 const ALICE: [u32; 2] = [1001, 100];
 const ROOT: [u32; 2] = [0, 0];
 
+/// The smallest stripe size.
+const SMALLEST: u64 = layout::STRIPE_UNIT as u64;
+
 /// Makes the case.
 pub fn sample(directory: &Path, json: bool) -> Result<Outcome, Failure> {
     let (tables, names) = (tables(), names());
@@ -59,6 +62,7 @@ struct NewFile<'case> {
     fid: Fid,
     own: Fid,
     pattern: u64,
+    stripe_size: u64,
     generation: u64,
     pool: &'case [u8],
     slots: &'case [Option<(Fid, u64)>],
@@ -70,6 +74,7 @@ fn plain(fid: Fid, slots: &[Option<(Fid, u64)>]) -> NewFile<'_> {
         fid,
         own: fid,
         pattern: layout::PLAIN.into(),
+        stripe_size: 1 << 20,
         generation: 0,
         pool: b"",
         slots,
@@ -81,6 +86,16 @@ fn with_holes(fid: Fid, slots: &[Option<(Fid, u64)>]) -> NewFile<'_> {
     NewFile {
         pattern: layout::HOLES.into(),
         ..plain(fid, slots)
+    }
+}
+
+impl NewFile<'_> {
+    /// The same with stripes of so many bytes.
+    fn striped(self, stripe_size: u64) -> Self {
+        NewFile {
+            stripe_size,
+            ..self
+        }
     }
 }
 
@@ -108,14 +123,14 @@ fn add_files(parents: &mut Vec<u8>) {
         },
     );
     let shared = [Some((object(0x11), 1)), Some((object(0x13), 3))];
-    add_file(parents, plain(file(3), &shared));
+    add_file(parents, plain(file(3), &shared).striped(SMALLEST));
     add_file(parents, plain(file(4), &[Some((object(0x14), 0))]));
     let claims = [
         Some((object(0x15), 1)),
         Some((object(0x16), 2)),
         Some((object(0x17), 3)),
     ];
-    add_file(parents, plain(file(5), &claims));
+    add_file(parents, plain(file(5), &claims).striped(4 << 20));
     let holes = [Some((object(0x18), 0)), None];
     add_file(parents, with_holes(file(6), &holes));
     let fresh = [Some((object(0x19), 1)), Some((object(0x1a), 2))];
@@ -178,7 +193,7 @@ fn add_file(parents: &mut Vec<u8>, file: NewFile) {
         file.pattern,
         file.own.id.into(),
         file.own.sequence,
-        1 << 20,
+        file.stripe_size,
         file.slots.len() as u64,
         file.generation,
     ];

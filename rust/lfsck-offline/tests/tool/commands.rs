@@ -514,6 +514,27 @@ fn the_man_page_has_what_the_help_has() {
     }
 }
 
+/// The man page and the rules name the edition that the help names, and the page this version.
+#[test]
+fn the_documents_have_the_edition() {
+    let document = |name: &str| {
+        let path = concat!(env!("CARGO_MANIFEST_DIR"), "/../../docs/");
+        std::fs::read_to_string(format!("{path}{name}")).expect(name)
+    };
+    let told: Told = std::process::Command::new(TOOL)
+        .args(["run", "--help"])
+        .output()
+        .unwrap()
+        .into();
+    let (_, rest) = told.out.split_once("this is edition ").expect("an edition");
+    let (edition, _) = rest.split_once('.').expect("its end");
+    let version = env!("CARGO_PKG_VERSION");
+    let words = format!("This version, {version}, keeps to edition {edition}, ");
+    assert!(document("lfsck-offline.1").contains(&words), "{words}");
+    let words = format!("These are the rules of **edition** {edition}.");
+    assert!(document("RULES.md").contains(&words), "{words}");
+}
+
 /// What each command prints has somewhere to go, or not; a run is saved either way.
 const PRINTERS: [(&[&str], i32); 6] = [
     (&["check"], 0),

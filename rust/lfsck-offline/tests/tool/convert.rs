@@ -12,7 +12,7 @@ use crate::oracle;
 use crate::saves::{expect_order, fail_at_each, kill_at_each};
 use crate::tool::{Case, Files, JOURNAL, LOG, POSITION, sha256, timeless};
 
-/// A case of an earlier edition, and the parent table that intake makes of the same dump now.
+/// A case of an edition before 2026-07, and the parent table that intake makes of the same dump now.
 const EARLIER: &str = concat!(env!("CARGO_MANIFEST_DIR"), "/../../tests/data/narrow");
 const WIDE: &str = concat!(
     env!("CARGO_MANIFEST_DIR"),
@@ -21,7 +21,7 @@ const WIDE: &str = concat!(
 
 const RUN: [&str; 3] = ["run", "--create", "--adopt"];
 
-/// The position that a run of the edition before saved.
+/// The position that a run of an edition before 2026-07 saved.
 const AT: &str = "position 1 2 0\npolicy 3\n";
 
 /// A copy of the case in the repository.
@@ -217,6 +217,7 @@ fn a_position_of_another_edition_goes_alone() {
                 of("3"),
                 "of an edition before 2026-07, with at most 160 slots",
             ),
+            (of("4\nedition 2026-07"), "of edition 2026-07"),
             (of("4\nedition 2027-01"), "of edition 2027-01"),
             (of("9"), "which cannot be read"),
             (String::new(), "which cannot be read"),

@@ -1,12 +1,12 @@
-//! Cases that versions of earlier editions left: their rows are narrow and refused, their positions
-//! are refused, and their logs are read.
+//! Cases that versions of earlier editions left: rows of those before 2026-07 are narrow and refused,
+//! positions are refused, and logs are read.
 
 use crate::bytes::{PARENT, object_row, parent_row};
 use crate::json::Value;
 use crate::oracle;
 use crate::tool::{Case, Files, JOURNAL, LOG, POSITION, sha256};
 
-/// The bytes of a parent row of those editions.
+/// The bytes of a parent row of the editions before 2026-07.
 pub const NARROW: usize = 3915;
 
 /// Where an object row has the OST index, and a parent row its layout's own id.
@@ -19,7 +19,7 @@ const COUNT: &str = ",\"WRONG-OST\":0";
 const VERSION: &str = concat!("\"version\":\"", env!("CARGO_PKG_VERSION"), "\"");
 const FIRST: &str = "\"version\":\"0.1.0\"";
 
-/// The versions of earlier editions, with the formats of their positions.
+/// The versions of those editions, with the formats of their positions.
 const VERSIONS: [(&str, &str); 6] = [
     ("0.1.0", "1"),
     ("0.2.0", "2"),
@@ -30,11 +30,12 @@ const VERSIONS: [(&str, &str); 6] = [
 ];
 
 /// The formats of other editions, and how the line names what saved them.
-const FORMATS: [(&str, &str); 5] = [
+const FORMATS: [(&str, &str); 6] = [
     ("1", "an edition before 2026-07, with at most 160 slots"),
     ("2", "an edition before 2026-07, with at most 160 slots"),
     ("3", "an edition before 2026-07, with at most 160 slots"),
     ("4\nedition 2026-06", "edition 2026-06"),
+    ("4\nedition 2026-07", "edition 2026-07"),
     ("4\nedition the one after", "edition the one after"),
 ];
 
@@ -55,13 +56,13 @@ pub fn position(format: &str, at: &str, files: &Files) -> String {
     format!("{text}digest {}\n", sha256(text.as_bytes()))
 }
 
-/// A parent table with the rows of earlier editions.
+/// A parent table with the rows of those editions.
 pub fn narrowed(parents: &[u8]) -> Vec<u8> {
     let rows = parents.chunks(PARENT);
     rows.flat_map(|row| row[..NARROW].to_vec()).collect()
 }
 
-/// A part of a log behind the name of the parent table, with the two whole rows of earlier editions
+/// A part of a log behind the name of the parent table, with the two whole rows of those editions
 /// in place of the next ones.
 fn padded(part: &str) -> String {
     let mut part = part.to_string();
@@ -73,7 +74,7 @@ fn padded(part: &str) -> String {
     part
 }
 
-/// The log as a version of an earlier edition wrote it, of these parent tables.
+/// The log as a version of those editions wrote it, of these parent tables.
 fn earlier_log(log: &str, version: &str, tables: [&[u8]; 2]) -> String {
     let mark = "\"table\":\"parents.tbl\"";
     let mut parts = log.split(mark);
@@ -137,8 +138,8 @@ fn narrow_rows_are_refused_with_11() {
     assert_eq!(case.files(), before);
 }
 
-/// The check tells it in its own form, and no fault of rows that aren't there: a few rows of that
-/// edition are less than one of this, and many are some.
+/// The check tells it in its own form, and no fault of rows that aren't there: a few of these rows
+/// are less than one of this edition, and many are some.
 #[test]
 fn a_check_says_what_the_rows_are() {
     let case = left("earlier-check", ("0.6.0", "3"));
@@ -240,7 +241,7 @@ fn begun(name: &str, format: &str) -> Case {
     case.run(&[&RUN[..], &["--steps", "10"]].concat()).expect(1);
     let text = String::from_utf8(case.read(POSITION)).expect("a text");
     let (first, rest) = text.split_once("position 1").expect("a position");
-    assert_eq!(first, "lfsck-offline position, format 4\nedition 2026-07\n");
+    assert_eq!(first, "lfsck-offline position, format 4\nedition 2026-08\n");
     let (at, _) = rest.split_once("parents ").expect("a digest");
     let at = format!("position 1{at}");
     case.write(POSITION, position(format, &at, &case.files()).as_bytes());
@@ -255,7 +256,7 @@ fn a_position_of_another_edition_is_refused() {
         let case = begun("other-edition", format);
         let before = case.files();
         let line = format!(
-            "lfsck-offline.position: saved by {edition}; this is edition 2026-07, and no run is \
+            "lfsck-offline.position: saved by {edition}; this is edition 2026-08, and no run is \
              taken up across editions; --from-start begins without it\n"
         );
         for words in [

@@ -25,6 +25,7 @@ mod refusals;
 mod resume;
 mod saves;
 mod signals;
+mod stripe_sizes;
 mod surroundings;
 mod terminal;
 mod tool;

@@ -94,8 +94,10 @@ fn expect_true(file: &str, case: &Case) {
 #[test]
 fn the_tour_is_true() {
     let case = Case::empty("tour");
-    let site = Path::new(REPOSITORY).join("tests/data/site");
-    std::os::unix::fs::symlink(site, case.path().join("site")).expect("a link");
+    for dump in ["sizes", "site"] {
+        let data = Path::new(REPOSITORY).join("tests/data").join(dump);
+        std::os::unix::fs::symlink(data, case.path().join(dump)).expect("a link");
+    }
     let old = case.path().join("old");
     std::fs::create_dir(&old).expect("a directory");
     let earlier = Path::new(REPOSITORY).join("tests/data/narrow");
