@@ -21,6 +21,8 @@ pub const OWN_ID_AT: usize = PATTERN_AT + 4;
 pub const OWN_SEQUENCE_AT: usize = OWN_ID_AT + 8;
 /// Where the stripe size stands.
 pub const STRIPE_SIZE_AT: usize = OWN_SEQUENCE_AT + 8;
+/// Of what a stripe size is a multiple.
+pub const STRIPE_UNIT: u32 = 65_536;
 /// Where the stripe count stands.
 pub const COUNT_AT: usize = STRIPE_SIZE_AT + 4;
 /// Where the generation stands.
