@@ -64,7 +64,8 @@ mod tests {
         assert!(sizes.iter().all(|size| size % 65_536 == 0));
         sizes.sort();
         sizes.dedup();
-        assert_eq!((sizes[0], sizes.len()), (65_536, 65_535));
+        assert_eq!([sizes[0], sizes[sizes.len() - 1]], [65_536, 4_294_901_760]);
+        assert!(sizes.contains(&MADE) && sizes.len() > 65_000);
     }
 
     #[test]

@@ -170,7 +170,7 @@ fn retrace(
     if is_long {
         seen.long.met("made");
     }
-    if random.one_in(if is_long { 16 } else { 4 }) {
+    if random.one_in(if is_long { 8 } else { 4 }) {
         seen.note_call(&list.retrace(side, call, outcome));
         seen.turns.met("retraced");
         if is_long {
