@@ -8,13 +8,14 @@
 #include "lfsck_layout.h"
 #include "report.h"
 
-enum { SIZES = 8 };
+enum { SIZES = 9 };
 static const struct {
     uint32_t bytes;
     uint32_t answer; /* where nothing else is wrong */
 } sizes[SIZES] = {
     {0, LFSCK_BAD_LAYOUT},
     {1, LFSCK_BAD_LAYOUT},
+    {LFSCK_STRIPE_UNIT / 2, LFSCK_BAD_LAYOUT},
     {LFSCK_STRIPE_UNIT - 1, LFSCK_BAD_LAYOUT},
     {LFSCK_STRIPE_UNIT, LFSCK_OK},
     {LFSCK_STRIPE_UNIT + 1, LFSCK_BAD_LAYOUT},

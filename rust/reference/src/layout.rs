@@ -335,6 +335,7 @@ mod tests {
         let sizes = [
             (0, false),
             (1, false),
+            (32_768, false),
             (65_535, false),
             (65_536, true),
             (65_537, false),
