@@ -348,11 +348,11 @@ uint32_t lfsck_run(uint8_t *parents, size_t parents_bytes,
  * A header is version (1 or 3), pattern, own id, own sequence, stripe size, stripe count and
  * generation, in this order; one that was read ends with the place where the slots start.
  *
- * The stripe size is not 0 and a multiple of LFSCK_STRIPE_UNIT, also where a layout has no slots. Any
- * other is LFSCK_BAD_LAYOUT: in these four functions, and in every call that checks tables with such
- * a layout in a used row. Editions before 2026-08 took any stripe size, so a caller that was
- * answered by them may have layouts that are refused here. Own id, own sequence, generations and
- * pool name may be anything.
+ * The stripe size is not 0 and a multiple of LFSCK_STRIPE_UNIT, also where a layout has no slots.
+ * Any other is LFSCK_BAD_LAYOUT, before LFSCK_NO_POSITION and LFSCK_NO_ROOM: in these four
+ * functions, and in every call that checks tables with such a layout in a used row. Editions before
+ * 2026-08 took any stripe size: their callers may have layouts that are LFSCK_BAD_LAYOUT here. Own
+ * id, own sequence, generations and pool name may be anything.
  *
  * A slot is five numbers: 1, sequence, id, generation and OST index where it names an object,
  * and five zeros where it is a hole.

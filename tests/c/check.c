@@ -166,7 +166,8 @@ static void test_stripe_sizes(void)
         check_size("a used row", size, answers(&in, sizes[i].answer));
         expect("the same, and nothing written", &in, sizes[i].answer);
         in.position[0] = 4;
-        expect("13 before 16", &in, sizes[i].answer == LFSCK_OK ? LFSCK_NO_POSITION : sizes[i].answer);
+        expect("13 before 16", &in,
+               sizes[i].answer == LFSCK_OK ? LFSCK_NO_POSITION : sizes[i].answer);
         in.position[0] = LFSCK_STAGE_PARENTS;
         in.parents[PARENT_LENGTH] = 32;
         in.parents[PARENT_COUNT] = 0;

@@ -255,15 +255,15 @@ static int reads(const struct sized *in, uint32_t answer)
 {
     uint64_t fields[LFSCK_READ_FIELDS];
     uint64_t slot[LFSCK_SLOT_NUMBERS];
-    uint32_t first = or_else(answer, in->fields[5] ? LFSCK_OK : LFSCK_NO_POSITION);
+    uint32_t past = or_else(answer, LFSCK_NO_POSITION);
+    uint32_t first = in->fields[5] ? answer : past;
     int holds;
 
     mark(fields, 8);
     mark(slot, 5);
     holds = lfsck_layout_read(in->bytes, in->length, fields, 7) == or_else(answer, LFSCK_NO_ROOM) &&
-            lfsck_layout_slot(in->bytes, in->length, 1, slot, 5) == or_else(answer, LFSCK_NO_POSITION) &&
-            lfsck_layout_slot(in->bytes, in->length, UINT64_MAX, slot, 0) ==
-                or_else(answer, LFSCK_NO_POSITION) &&
+            lfsck_layout_slot(in->bytes, in->length, 1, slot, 5) == past &&
+            lfsck_layout_slot(in->bytes, in->length, UINT64_MAX, slot, 0) == past &&
             all_marked(fields, 8) && all_marked(slot, 5);
     holds = holds && lfsck_layout_read(in->bytes, in->length, fields, 8) == answer &&
             lfsck_layout_slot(in->bytes, in->length, 0, slot, 5) == first;
@@ -289,8 +289,9 @@ static int writes(const struct sized *in, uint32_t answer)
                                             e2_slot, 5 * in->fields[5], to, in->length - less, out,
                                             less) == or_else(answer, LFSCK_NO_ROOM);
     holds = holds && memcmp(to, untouched, sizeof to) == 0 && all_marked(out, 1);
-    holds = holds && lfsck_layout_write(in->fields, LFSCK_WRITE_FIELDS, pool, in->pool_bytes, e2_slot,
-                                        5 * in->fields[5], to, sizeof to, out, 1) == answer;
+    holds = holds && lfsck_layout_write(in->fields, LFSCK_WRITE_FIELDS, pool, in->pool_bytes,
+                                        e2_slot, 5 * in->fields[5], to, sizeof to, out,
+                                        1) == answer;
     if (answer == LFSCK_OK)
         return holds && out[0] == in->length && memcmp(to, in->bytes, in->length) == 0;
     return holds && memcmp(to, untouched, sizeof to) == 0 && all_marked(out, 1);

@@ -139,7 +139,8 @@ fn the_classes_are_those_of_the_library() {
     assert!(met.iter().all(|&count| count > 100), "{met:?}");
 }
 
-/// The classes from a position on, by both sides: what is in the places then, and how many were told.
+/// The classes from a position on, by both sides: what is in the places then, and how many were
+/// told.
 fn compare_listing(
     parents: &[u8],
     objects: &[u8],
@@ -237,8 +238,8 @@ fn the_check_is_that_of_the_library() {
     answers.require(100);
 }
 
-/// Stripe sizes at the bounds of their rule in tables that else pass the check: the check, a run, the
-/// classes and a keeper.
+/// Stripe sizes at the bounds of their rule in tables that else pass the check: the check, a run,
+/// the classes and a keeper.
 #[test]
 fn stripe_sizes_are_those_of_the_library() {
     let mut random = Random::for_test("plain stripe sizes");

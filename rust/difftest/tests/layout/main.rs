@@ -133,8 +133,8 @@ fn note_write(numbers: &LayoutNumbers, short: bool, placeless: bool, answer: u32
     }
 }
 
-// Random layouts, as a program that breaks no rule but the greatest count and that of the stripe size
-// would write them.
+// Random layouts, as a program that breaks no rule but the greatest count and that of the stripe
+// size would write them.
 
 /// How many slots: mostly few, now and then as many as there may be, or one more.
 fn random_count(random: &mut Random) -> usize {

@@ -73,12 +73,17 @@ impl Side {
         }
     }
 
+    /// The parent table that is lent is a copy of this one.
+    fn lend(&mut self, parents: &Rc<Vec<u8>>) {
+        if !Rc::ptr_eq(&self.copied, parents) {
+            self.lent.clone_from(parents);
+        }
+    }
+
     /// Makes a call on a copy of the tables. No call, in a list or not, destroys data or changes
     /// the stripe size of a file.
     pub fn call(&mut self, before: &State, call: &Call) -> Outcome {
-        if !Rc::ptr_eq(&self.copied, &before.parents) {
-            self.lent.clone_from(&before.parents);
-        }
+        self.lend(&before.parents);
         let mut objects = before.objects.clone();
         let mut position = call.position.clone();
         let mut report = call.report.clone();

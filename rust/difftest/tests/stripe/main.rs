@@ -1,5 +1,5 @@
-//! Stripe sizes at the bounds of their rule, in every function that reads, writes or checks a layout:
-//! with no slots, few and as many as there may be, of both versions.
+//! Stripe sizes at the bounds of their rule, in every function that reads, writes or checks a
+//! layout: with no slots, few and as many as there may be, of both versions.
 
 mod intake;
 mod layouts;
@@ -40,8 +40,8 @@ macro_rules! both {
 }
 use both;
 
-/// Lends the same to both sides, and compares the answers and all that was lent. Gives the answer and
-/// what was lent, as it is after the call. With 11 to 17 it is as it was before.
+/// Lends the same to both sides, and compares the answers and all that was lent. Gives the answer
+/// and what was lent, as it is after the call. With 11 to 17 it is as it was before.
 fn compare<Lent: Clone + PartialEq>(
     lent: &Lent,
     library: impl FnOnce(&mut Lent) -> u32,

@@ -37,8 +37,8 @@ struct Case {
 /// A call on both sides.
 type Call = fn(&Case) -> (u32, Case);
 
-/// The functions: their names, the places that they need, what they answer alone, and the other numbers
-/// that they know.
+/// The functions: their names, the places that they need, what they answer alone, and the other
+/// numbers that they know.
 const CALLS: [(&str, Call, usize, u32, &[u32]); 8] = [
     ("lfsck_check", check, 0, 0, &[11, 12, 14, 15, 16]),
     ("lfsck_start", start, POSITION, 0, &[11, 14, 15, 17]),
@@ -149,8 +149,8 @@ fn run(case: &Case) -> (u32, Case) {
     ))
 }
 
-/// Of each function, the layout in either row and beside the numbers that it knows: the lowest is the
-/// answer. An unused row is not examined.
+/// Of each function, the layout in either row and beside the numbers that it knows: the lowest is
+/// the answer. An unused row is not examined.
 fn cases() -> Vec<seen::Case<What>> {
     let mut cases = Vec::new();
     for (name, _, _, alone, numbers) in CALLS {
@@ -193,48 +193,48 @@ fn tables_are_held_to_the_rule_alike() {
     after.require(1);
 }
 
-/// Three rows: the layout in the first or the last of them, a sound file in the middle, and an unused
-/// row. An object claims slot 0 of the layout's file, and another one a slot of no file.
+/// The owner of every file and object.
+const OWNER: Owner = Owner { uid: 7, gid: 8 };
+
+/// Three rows: the layout in the first or the last of them, a sound file in the middle, and an
+/// unused row.
 fn case(layout: &Layout, row: usize, used: bool, out: Vec<u64>) -> Case {
-    let owner = Owner { uid: 7, gid: 8 };
     let mut parents = vec![0xff; 3 * parent::BYTES];
-    let mut objects = vec![0xff; 3 * object::BYTES];
-    let rows = [
-        (row, FILE, layout.clone()),
-        (1, SOUND, layout_of(MADE, Version::One, 0)),
-    ];
-    for (row, fid, layout) in rows {
+    let sound = layout_of(MADE, Version::One, 0);
+    for (row, fid, layout) in [(row, FILE, layout.clone()), (1, SOUND, sound)] {
         let at = &mut parents[parent::BYTES * row..][..parent::BYTES];
+        let owner = OWNER;
         Parent { fid, owner, layout }.write(at);
-    }
-    for (row, file) in [(0, FILE), (2, ABSENT)] {
-        let claim = Some(Claim {
-            parent: file,
-            index: 0,
-        });
-        let fid = Fid::new(OBJECTS, if row == 0 { 1 } else { 9_999 });
-        let at = &mut objects[object::BYTES * row..][..object::BYTES];
-        Object {
-            fid,
-            ost: 3,
-            owner,
-            claim,
-            fresh: false,
-        }
-        .write(at);
     }
     parents[parent::BYTES * row] = used.into();
     parents[parent::BYTES * (2 - row)] = 0;
-    objects[object::BYTES] = 0;
     Case {
         parents,
-        objects,
+        objects: objects(),
         policy: ADOPT,
         most: 0,
         position: [1, 0, 0],
         out,
         done: vec![99],
     }
+}
+
+/// An object that claims slot 0 of the layout's file, an unused row, and an object that claims a
+/// slot of no file.
+fn objects() -> Vec<u8> {
+    let mut objects = vec![0xff; 3 * object::BYTES];
+    for (row, id, parent) in [(0, 1, FILE), (2, 9_999, ABSENT)] {
+        let object = Object {
+            fid: Fid::new(OBJECTS, id),
+            ost: 3,
+            owner: OWNER,
+            claim: Some(Claim { parent, index: 0 }),
+            fresh: false,
+        };
+        object.write(&mut objects[object::BYTES * row..][..object::BYTES]);
+    }
+    objects[object::BYTES] = 0;
+    objects
 }
 
 /// The file in the middle, and one that no row has.
