@@ -30,7 +30,7 @@ enum {
     LFSCK_BAD_TABLE = 11,     /* a table is not whole rows or too long, or a mark is none; the piece
                                  of a dump is too long */
     LFSCK_BAD_POLICY = 12,    /* the policy is above 3 */
-    LFSCK_BAD_LAYOUT = 13,    /* a layout or a slot is against the rules */
+    LFSCK_BAD_LAYOUT = 13,    /* a layout, its stripe size or a slot is against the rules */
     LFSCK_BAD_FID = 14,       /* a bad FID, object index or claim, or fresh without claim */
     LFSCK_FID_TWICE = 15,     /* a FID twice among used parents, or twice among used objects */
     LFSCK_NO_POSITION = 16,   /* there is no such position, slot, record, state or child */
@@ -85,6 +85,9 @@ enum {
     LFSCK_SLOT_BYTES = 24,     /* bytes of a slot */
     LFSCK_LAYOUT_BYTES = 48048 /* bytes of the longest layout: 48 + 24 * 2000 */
 };
+
+/* Of what a stripe size is a multiple, 65,536; 0 is no stripe size. */
+#define LFSCK_STRIPE_UNIT UINT64_C(0x00010000)
 
 /* The patterns: every slot names an object, or slots may be holes. */
 #define LFSCK_PATTERN_PLAIN UINT64_C(0x00000001)
@@ -206,7 +209,9 @@ enum {
  *   policy                     0 to 3
  *   stage, row, part           the position
  *
- * LFSCK_OK, or the lowest of LFSCK_BAD_TABLE to LFSCK_NO_POSITION that applies to any of it.
+ * LFSCK_OK, or the lowest of LFSCK_BAD_TABLE to LFSCK_NO_POSITION that applies to any of it. The
+ * layout of a used row is held to all rules of a layout, that of its stripe size among them; the
+ * bytes of an unused row are not examined.
  */
 uint32_t lfsck_check(const uint8_t *parents, size_t parents_bytes,
                      const uint8_t *objects, size_t objects_bytes,
@@ -343,6 +348,12 @@ uint32_t lfsck_run(uint8_t *parents, size_t parents_bytes,
  * A header is version (1 or 3), pattern, own id, own sequence, stripe size, stripe count and
  * generation, in this order; one that was read ends with the place where the slots start.
  *
+ * The stripe size is not 0 and a multiple of LFSCK_STRIPE_UNIT, also where a layout has no slots.
+ * Any other is LFSCK_BAD_LAYOUT, before LFSCK_NO_POSITION and LFSCK_NO_ROOM: in these four
+ * functions, and in every call that checks tables with such a layout in a used row. Editions before
+ * 2026-08 took any stripe size: their callers may have layouts that are LFSCK_BAD_LAYOUT here. Own
+ * id, own sequence, generations and pool name may be anything.
+ *
  * A slot is five numbers: 1, sequence, id, generation and OST index where it names an object,
  * and five zeros where it is a hole.
  */
@@ -354,7 +365,7 @@ uint32_t lfsck_run(uint8_t *parents, size_t parents_bytes,
  *   fields  8 numbers, written
  *
  * LFSCK_OK          the header is in the first 8 fields
- * LFSCK_BAD_LAYOUT  the bytes are no layout
+ * LFSCK_BAD_LAYOUT  the bytes are no layout, or its stripe size is none; also with no slots
  * LFSCK_NO_ROOM     fewer than 8 fields
  */
 uint32_t lfsck_layout_read(const uint8_t *layout, size_t layout_bytes,
@@ -368,7 +379,7 @@ uint32_t lfsck_layout_read(const uint8_t *layout, size_t layout_bytes,
  *   out     5 numbers, written
  *
  * LFSCK_OK           the slot is in the first 5 numbers
- * LFSCK_BAD_LAYOUT   the bytes are no layout
+ * LFSCK_BAD_LAYOUT   the bytes are no layout, or its stripe size is none, whatever the index
  * LFSCK_NO_POSITION  the index is not below the stripe count
  * LFSCK_NO_ROOM      fewer than 5 numbers
  */
@@ -387,7 +398,8 @@ uint32_t lfsck_layout_slot(const uint8_t *layout, size_t layout_bytes,
  *
  * LFSCK_OK          the layout is in the destination and its length in out
  * LFSCK_BAD_LAYOUT  another amount of anything that is handed in, a number that does not fit
- *                   its field, or a layout against the rules
+ *                   its field, a stripe size that is none, also with no slots, or a layout
+ *                   against the other rules; whatever the room
  * LFSCK_NO_ROOM     the destination is shorter than the layout, or out has no place
  */
 uint32_t lfsck_layout_write(const uint64_t *fields, size_t fields_count,
@@ -406,7 +418,8 @@ uint32_t lfsck_layout_write(const uint64_t *fields, size_t fields_count,
  *   slot    exactly 5 numbers
  *
  * LFSCK_OK           the slot has these numbers
- * LFSCK_BAD_LAYOUT   the bytes are no layout, or the slot is none that its pattern allows
+ * LFSCK_BAD_LAYOUT   the bytes are no layout, its stripe size is none, or the slot is none that its
+ *                    pattern allows; whatever the index
  * LFSCK_NO_POSITION  the index is not below the stripe count
  */
 uint32_t lfsck_slot_rewrite(uint8_t *layout, size_t layout_bytes,

@@ -1,6 +1,7 @@
 /* The check, the start and the number of steps called from C, as the scan tool does. */
 #include "report.h"
 #include "sample.h"
+#include "sizes.h"
 
 /* Q = [0x200000401:2:0]. */
 static const uint8_t q[16] = {0x01, 0x04, 0, 0, 0x02, 0, 0, 0, 2};
@@ -132,6 +133,49 @@ static void test_start_and_steps(void)
     check("nothing is handed out then", numbers[0] == 9 && numbers[1] == 9);
 }
 
+/* The answers of the three, with room and without; of a refused call nothing is handed out. */
+static int answers(const struct input *in, uint32_t expected)
+{
+    uint64_t numbers[3] = {9, 9, 9};
+    uint32_t short_of_room = expected == LFSCK_OK ? LFSCK_NO_ROOM : expected;
+    int holds = lfsck_start(in->parents, in->parents_bytes, in->objects, in->objects_bytes, numbers,
+                            2) == short_of_room &&
+                lfsck_steps(in->parents, in->parents_bytes, in->objects, in->objects_bytes, numbers,
+                            0) == short_of_room &&
+                numbers[0] == 9 && numbers[1] == 9 && numbers[2] == 9;
+
+    holds = holds && answer(in) == expected &&
+            lfsck_start(in->parents, in->parents_bytes, in->objects, in->objects_bytes, numbers,
+                        3) == expected &&
+            lfsck_steps(in->parents, in->parents_bytes, in->objects, in->objects_bytes, numbers,
+                        1) == expected;
+    return holds && (expected == LFSCK_OK) == (numbers[0] != 9);
+}
+
+/* In P's row, with its slot and with none, and in the unused row. */
+static void test_stripe_sizes(void)
+{
+    for (int i = 0; i < SIZES; i++) {
+        uint32_t size = sizes[i].bytes;
+        struct input in = sound();
+
+        put_size(in.parents + LFSCK_PARENT_BYTES + PARENT_LAYOUT, size);
+        check_size("an unused row", size, answers(&in, LFSCK_OK));
+        expect("the same, and nothing written", &in, LFSCK_OK);
+        put_size(in.parents + PARENT_LAYOUT, size);
+        check_size("a used row", size, answers(&in, sizes[i].answer));
+        expect("the same, and nothing written", &in, sizes[i].answer);
+        in.position[0] = 4;
+        expect("13 before 16", &in,
+               sizes[i].answer == LFSCK_OK ? LFSCK_NO_POSITION : sizes[i].answer);
+        in.position[0] = LFSCK_STAGE_PARENTS;
+        in.parents[PARENT_LENGTH] = 32;
+        in.parents[PARENT_COUNT] = 0;
+        check_size("a used row, no slots", size, answers(&in, sizes[i].answer));
+        expect("the same, and nothing written", &in, sizes[i].answer);
+    }
+}
+
 /* E1: without rows the start is the end. */
 static void test_no_rows(void)
 {
@@ -154,6 +198,7 @@ int main(void)
     test_twice();
     test_policy_and_position();
     test_start_and_steps();
+    test_stripe_sizes();
     test_no_rows();
     return report_all();
 }

@@ -4,6 +4,7 @@
 #include "e2.h"
 #include "lfsck_layout.h"
 #include "report.h"
+#include "sizes.h"
 
 /* The same in numbers. */
 static const uint64_t e2_fields[LFSCK_READ_FIELDS] = {
@@ -210,6 +211,129 @@ static void test_generation(void)
     check("refused, it stays", memcmp(layout, before, 56) == 0);
 }
 
+/* A layout of either version with E2's slot or none, and the same in numbers. */
+struct sized {
+    uint8_t bytes[LFSCK_HEADER_V3 + LFSCK_SLOT_BYTES];
+    size_t length;
+    uint64_t fields[LFSCK_WRITE_FIELDS];
+    size_t pool_bytes;
+};
+
+/* The four of them: bit 0 of the shape is version 3, bit 1 a slot. */
+enum { SHAPES = 4 };
+
+static struct sized make_sized(uint32_t size, int shape)
+{
+    struct sized made;
+    size_t slots = shape / 2;
+
+    memset(&made, 0, sizeof made);
+    memcpy(made.bytes, e2, LFSCK_HEADER_V1);
+    memcpy(made.fields, e2_fields, sizeof made.fields);
+    made.pool_bytes = shape % 2 ? LFSCK_POOL_BYTES : 0;
+    if (shape % 2) {
+        made.bytes[2] = 0xd3;
+        made.fields[0] = 3;
+    }
+    put_size(made.bytes, size);
+    made.bytes[28] = slots;
+    made.fields[4] = size;
+    made.fields[5] = slots;
+    made.length = LFSCK_HEADER_V1 + made.pool_bytes;
+    memcpy(made.bytes + made.length, e2 + SLOTS, LFSCK_SLOT_BYTES * slots);
+    made.length += LFSCK_SLOT_BYTES * slots;
+    return made;
+}
+
+/* The answer where nothing else is wrong, or this one where the stripe size is good. */
+static uint32_t or_else(uint32_t answer, uint32_t good)
+{
+    return answer == LFSCK_OK ? good : answer;
+}
+
+static int reads(const struct sized *in, uint32_t answer)
+{
+    uint64_t fields[LFSCK_READ_FIELDS];
+    uint64_t slot[LFSCK_SLOT_NUMBERS];
+    uint32_t past = or_else(answer, LFSCK_NO_POSITION);
+    uint32_t first = in->fields[5] ? answer : past;
+    int holds;
+
+    mark(fields, 8);
+    mark(slot, 5);
+    holds = lfsck_layout_read(in->bytes, in->length, fields, 7) == or_else(answer, LFSCK_NO_ROOM) &&
+            lfsck_layout_slot(in->bytes, in->length, 1, slot, 5) == past &&
+            lfsck_layout_slot(in->bytes, in->length, UINT64_MAX, slot, 0) == past &&
+            all_marked(fields, 8) && all_marked(slot, 5);
+    holds = holds && lfsck_layout_read(in->bytes, in->length, fields, 8) == answer &&
+            lfsck_layout_slot(in->bytes, in->length, 0, slot, 5) == first;
+    if (answer == LFSCK_OK)
+        return holds && memcmp(fields, in->fields, sizeof in->fields) == 0;
+    return holds && all_marked(fields, 8) && all_marked(slot, 5);
+}
+
+/* Written with a byte too little, with no place for the length and with room. */
+static int writes(const struct sized *in, uint32_t answer)
+{
+    uint8_t pool[LFSCK_POOL_BYTES] = {0};
+    uint8_t to[sizeof in->bytes];
+    uint8_t untouched[sizeof in->bytes];
+    uint64_t out[1];
+    int holds = 1;
+
+    memset(to, 0xab, sizeof to);
+    memset(untouched, 0xab, sizeof untouched);
+    mark(out, 1);
+    for (size_t less = 0; less < 2; less++)
+        holds = holds && lfsck_layout_write(in->fields, LFSCK_WRITE_FIELDS, pool, in->pool_bytes,
+                                            e2_slot, 5 * in->fields[5], to, in->length - less, out,
+                                            less) == or_else(answer, LFSCK_NO_ROOM);
+    holds = holds && memcmp(to, untouched, sizeof to) == 0 && all_marked(out, 1);
+    holds = holds && lfsck_layout_write(in->fields, LFSCK_WRITE_FIELDS, pool, in->pool_bytes,
+                                        e2_slot, 5 * in->fields[5], to, sizeof to, out,
+                                        1) == answer;
+    if (answer == LFSCK_OK)
+        return holds && out[0] == in->length && memcmp(to, in->bytes, in->length) == 0;
+    return holds && memcmp(to, untouched, sizeof to) == 0 && all_marked(out, 1);
+}
+
+/* At the count, past it, with the slot that is there, and with another one. */
+static int rewrites(const struct sized *in, uint32_t answer)
+{
+    struct sized out = *in;
+    uint64_t count = in->fields[5];
+    uint32_t past = or_else(answer, LFSCK_NO_POSITION);
+    uint32_t first = count ? answer : past;
+    int holds = lfsck_slot_rewrite(out.bytes, out.length, count, other_slot, 5) == past &&
+                lfsck_slot_rewrite(out.bytes, out.length, UINT64_MAX, other_slot, 5) == past &&
+                lfsck_slot_rewrite(out.bytes, out.length, 0, e2_slot, 5) == first &&
+                memcmp(&out, in, sizeof out) == 0;
+
+    holds = holds && lfsck_slot_rewrite(out.bytes, out.length, 0, other_slot, 5) == first;
+    return holds && (memcmp(&out, in, sizeof out) == 0) == (first != LFSCK_OK) &&
+           memcmp(out.bytes, in->bytes, GENERATION) == 0;
+}
+
+/* Either version, with a slot and with none; refused, nothing is written. */
+static void test_stripe_sizes(void)
+{
+    for (int i = 0; i < SIZES; i++) {
+        uint32_t size = sizes[i].bytes;
+        int holds[3] = {1, 1, 1};
+
+        for (int shape = 0; shape < SHAPES; shape++) {
+            struct sized in = make_sized(size, shape);
+
+            holds[0] = holds[0] && reads(&in, sizes[i].answer);
+            holds[1] = holds[1] && writes(&in, sizes[i].answer);
+            holds[2] = holds[2] && rewrites(&in, sizes[i].answer);
+        }
+        check_size("read: 13 before 16 and 17", size, holds[0]);
+        check_size("written: 13 before 17", size, holds[1]);
+        check_size("rewritten: 13 before 16", size, holds[2]);
+    }
+}
+
 int main(void)
 {
     test_read();
@@ -219,5 +343,6 @@ int main(void)
     test_rewrite();
     test_equal_slot();
     test_generation();
+    test_stripe_sizes();
     return report_all();
 }

@@ -1,6 +1,7 @@
 /* Runs made from C. */
 #include "report.h"
 #include "sample.h"
+#include "sizes.h"
 
 static uint32_t run(struct input *in, uint64_t most, size_t position_count, uint64_t *report,
                     size_t report_count)
@@ -156,6 +157,11 @@ static void expect_made(const char *name, uint16_t index)
                     memcmp(in.parents, made, sizeof made) == 0);
     check("it is counted as ORPHAN", report[LFSCK_REPORT_STEPS] == 4 &&
                                          report[LFSCK_REPORT_ORPHAN] == 1);
+    put_size(made + PARENT_LAYOUT, 1048576);
+    check("its stripe size is 1,048,576 and passes the check",
+          memcmp(in.parents, made, sizeof made) == 0 &&
+              lfsck_check(in.parents, in.parents_bytes, in.objects, in.objects_bytes, in.reserve,
+                          in.reserve_bytes, in.policy, 3, 0, 0) == LFSCK_OK);
 }
 
 /* E10: a parent of 2,000 slots is made, and none of 2,001. */
@@ -376,6 +382,58 @@ static void test_refusals(void)
     check("nothing is written then", untouched && memcmp(&in, &before, sizeof in) == 0);
 }
 
+/* Runs of no steps and of many are refused with 13, and nothing is written. */
+static int is_refused(const struct input *lent)
+{
+    uint64_t report[10] = {99, 99, 99, 99, 99, 99, 99, 99, 99, 99};
+    uint64_t untouched[10];
+    struct input in = *lent;
+
+    memcpy(untouched, report, sizeof report);
+    return run(&in, 0, 3, report, 10) == LFSCK_BAD_LAYOUT &&
+           run(&in, UINT64_MAX, 3, report, 10) == LFSCK_BAD_LAYOUT &&
+           run(&in, 9, 2, report, 10) == LFSCK_BAD_LAYOUT &&
+           run(&in, 9, 3, report, 9) == LFSCK_BAD_LAYOUT &&
+           memcmp(report, untouched, sizeof report) == 0 && memcmp(&in, lent, sizeof in) == 0;
+}
+
+/* Runs of no steps and of many are made, and leave the stripe sizes of both rows. */
+static int is_made_with_sizes(const struct input *lent)
+{
+    uint64_t report[10];
+    struct input in = *lent;
+    int holds = run(&in, 0, 3, report, 10) == LFSCK_STEPS_USED &&
+                run(&in, UINT64_MAX, 3, report, 10) == LFSCK_OK;
+
+    for (size_t row = 0; row < 2; row++) {
+        size_t at = LFSCK_PARENT_BYTES * row + PARENT_LAYOUT + 24;
+
+        holds = holds && memcmp(in.parents + at, lent->parents + at, 4) == 0;
+    }
+    return holds;
+}
+
+/* A used row with an object to make, with its slot and with none, and an unused row. */
+static void test_stripe_sizes(void)
+{
+    for (int i = 0; i < SIZES; i++) {
+        uint32_t size = sizes[i].bytes;
+        int good = sizes[i].answer == LFSCK_OK;
+        struct input in = dangling();
+
+        in.policy = LFSCK_CREATE;
+        put_size(in.parents + LFSCK_PARENT_BYTES + PARENT_LAYOUT, size);
+        check_size("an unused row is no hindrance", size, is_made_with_sizes(&in));
+        put_size(in.parents + PARENT_LAYOUT, size);
+        check_size(good ? "runs" : "13 before 16 and 17", size,
+                   good ? is_made_with_sizes(&in) : is_refused(&in));
+        in.parents[PARENT_LENGTH] = 32;
+        in.parents[PARENT_COUNT] = 0;
+        check_size(good ? "runs, no slots" : "13, no slots", size,
+                   good ? is_made_with_sizes(&in) : is_refused(&in));
+    }
+}
+
 int main(void)
 {
     test_dangling();
@@ -388,5 +446,6 @@ int main(void)
     test_e8();
     test_short_report();
     test_refusals();
+    test_stripe_sizes();
     return report_all();
 }

@@ -6,7 +6,9 @@ use difftest::tables::{OBJECTS, Shape, damage, random_tables, to_bytes};
 use difftest::{Coverage, Random};
 use numbers::call::{self, END, REPORT};
 use numbers::fid::FIRST_SEQUENCE;
-use numbers::layout::{HEADER_THREE, MOST_SLOTS, SLOT_BYTES};
+use numbers::layout::{
+    COUNT_AT, HEADER_THREE, MOST_SLOTS, SLOT_BYTES, STRIPE_SIZE_AT, STRIPE_UNIT,
+};
 use numbers::{object, parent, reserve};
 use reference::fid::Fid;
 
@@ -129,24 +131,36 @@ fn the_classes_are_those_of_the_library() {
         assert_eq!(lfsck_sys::start(&parents, &objects, &mut start), 0);
         let room = random.below(200);
         let places = random.numbers(room);
-        let (mut position, mut out, mut done) = (start, places.clone(), [0]);
-        let answer = lfsck_sys::classes(&parents, &objects, &mut position, &mut out, &mut done);
-        let (mut plain_position, mut plain_out, mut plain_done) = (start, places, 0);
-        let plain_answer = plain::classes(
-            &parents,
-            &objects,
-            &mut plain_position,
-            &mut plain_out,
-            &mut plain_done,
-        );
-        assert_eq!(plain_answer, answer);
-        assert_eq!((plain_position, plain_done), (position, done[0]));
-        assert_eq!(plain_out, out);
-        let told = out.chunks(4).take(done[0] as usize);
+        let (out, done) = compare_listing(&parents, &objects, start, &places);
+        let told = out.chunks(4).take(done as usize);
         told.for_each(|class| met[class[0] as usize] += 1);
     }
     println!("{met:?}");
     assert!(met.iter().all(|&count| count > 100), "{met:?}");
+}
+
+/// The classes from a position on, by both sides: what is in the places then, and how many were
+/// told.
+fn compare_listing(
+    parents: &[u8],
+    objects: &[u8],
+    start: [u64; 3],
+    places: &[u64],
+) -> (Vec<u64>, u64) {
+    let (mut position, mut out, mut done) = (start, places.to_vec(), [0]);
+    let answer = lfsck_sys::classes(parents, objects, &mut position, &mut out, &mut done);
+    let (mut plain_position, mut plain_out, mut plain_done) = (start, places.to_vec(), 0);
+    let plain_answer = plain::classes(
+        parents,
+        objects,
+        &mut plain_position,
+        &mut plain_out,
+        &mut plain_done,
+    );
+    assert_eq!(plain_answer, answer);
+    assert_eq!((plain_position, plain_done), (position, done[0]));
+    assert_eq!(plain_out, out);
+    (out, done[0])
 }
 
 /// Of FIDs that are known and of others, good and not, in tables that pass the check and in damaged
@@ -223,6 +237,47 @@ fn the_check_is_that_of_the_library() {
     }
     answers.require(100);
 }
+
+/// Stripe sizes at the bounds of their rule in tables that else pass the check: the check, a run,
+/// the classes and a keeper.
+#[test]
+fn stripe_sizes_are_those_of_the_library() {
+    let mut random = Random::for_test("plain stripe sizes");
+    let mut seen = Coverage::of("plain stripe sizes", STRIPE_SIZES);
+    while seen.total() < 2_000 {
+        let (size, expected) = random.pick(&STRIPE_SIZES);
+        let (mut parents, objects) = to_bytes(&random_tables(SHAPE, &mut random), &mut random);
+        let mut rows = parents.chunks_mut(parent::BYTES).filter(|row| row[0] == 1);
+        let Some(row) = rows.next() else { continue };
+        row[parent::LAYOUT_AT..][STRIPE_SIZE_AT..COUNT_AT].copy_from_slice(&size.to_le_bytes());
+        let answer = lfsck_sys::check(&parents, &objects, &[], 0, END);
+        assert_eq!(answer, expected, "{size}");
+        assert_eq!(plain::check(&parents, &objects, &[], 0, END), answer);
+        compare_listing(&parents, &objects, [1, 0, 0], &[7; 2 * call::CLASS]);
+        let lent = (parents, objects);
+        let (ran, ..) = compare_run(&lent, &[], 0, u64::MAX, [1, 0, 0]);
+        assert_eq!(ran, answer, "{size}");
+        let (mut out, mut plain_out) = ([99; call::KEEPER], [99; call::KEEPER]);
+        let [sequence, id] = [OBJECTS[0].sequence, OBJECTS[0].id.into()];
+        let kept = lfsck_sys::keeper(&lent.0, &lent.1, sequence, id, &mut out);
+        let plain_kept = plain::keeper(&lent.0, &lent.1, sequence, id, &mut plain_out);
+        assert_eq!((kept, plain_kept, plain_out), (answer, answer, out));
+        seen.met((size, answer));
+    }
+    seen.require(100);
+}
+
+/// Stripe sizes, and the answer of the check to them.
+const STRIPE_SIZES: [(u32, u32); 8] = [
+    (0, 13),
+    (1, 13),
+    (STRIPE_UNIT - 1, 13),
+    (STRIPE_UNIT, 0),
+    (STRIPE_UNIT + 1, 13),
+    (2 * STRIPE_UNIT, 0),
+    (65_535 * STRIPE_UNIT, 0),
+    (u32::MAX, 13),
+];
 
 /// The numbers of a linkEA of a few records, and bytes for their names.
 fn random_names(random: &mut Random) -> ([u64; 4], Vec<u64>, Vec<u8>) {

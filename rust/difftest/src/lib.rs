@@ -4,6 +4,7 @@
 pub mod dumps;
 pub mod indices;
 pub mod names;
+pub mod stripes;
 pub mod tables;
 
 use std::collections::BTreeMap;

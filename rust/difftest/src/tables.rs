@@ -4,7 +4,7 @@ use std::hint::black_box;
 
 use crate::Random;
 use numbers::fid::VERSION_AT;
-use numbers::layout::{LAST_OST, MOST_SLOTS, POOL_BYTES};
+use numbers::layout::{COUNT_AT, LAST_OST, MOST_SLOTS, POOL_BYTES, STRIPE_SIZE_AT};
 use numbers::{object, parent};
 use reference::fid::{FIRST_SEQUENCE, Fid, LAST_SEQUENCE};
 use reference::layout::{Layout, Stripe, Version};
@@ -104,7 +104,7 @@ fn random_parent(fid: Fid, shape: Shape, random: &mut Random) -> Parent {
             holes_allowed,
             own_id: own.id.into(),
             own_sequence: own.sequence,
-            stripe_size: random.any() as u32,
+            stripe_size: random.stripe_size(),
             generation: random_generation(random),
             slots: (0..slots)
                 .map(|_| random_slot(holes_allowed, shape, random))
@@ -326,9 +326,18 @@ pub fn damage(parents: &mut Vec<u8>, objects: &mut Vec<u8>, random: &mut Random)
             .for_each(|row| row[object::SELF_AT + VERSION_AT] = 1),
         5 => repeat_rows(parents, PARENT_BYTES),
         6 => repeat_rows(objects, OBJECT_BYTES),
+        7 => spoil_stripe_sizes(parents, random),
         _ => return false,
     }
     true
+}
+
+/// A stripe size that is none in every layout, used or not.
+pub fn spoil_stripe_sizes(parents: &mut [u8], random: &mut Random) {
+    for row in parents.chunks_exact_mut(PARENT_BYTES) {
+        let size = random.bad_stripe_size().to_le_bytes();
+        row[parent::LAYOUT_AT..][STRIPE_SIZE_AT..COUNT_AT].copy_from_slice(&size);
+    }
 }
 
 /// Every row once more.

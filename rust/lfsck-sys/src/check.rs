@@ -34,7 +34,8 @@ unsafe extern "C" {
 }
 
 /// Whether a run may be made with this input: 0, or the lowest of 11 to 16 that applies. The
-/// position is stage, row and part.
+/// position is stage, row and part. A used row whose layout has a stripe size that is 0 or no
+/// multiple of 65,536 is 13, here and in every other call that checks tables.
 pub fn check(
     parents: &[u8],
     objects: &[u8],

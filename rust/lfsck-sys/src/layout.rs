@@ -1,4 +1,5 @@
-//! Striping layouts.
+//! Striping layouts. A stripe size that is 0 or no multiple of 65,536 is 13 in all four functions,
+//! also where a layout has no slots.
 
 unsafe extern "C" {
     fn lfsck_layout_read(
@@ -39,7 +40,8 @@ unsafe extern "C" {
 }
 
 /// Reads the header of a layout into 8 numbers: version, pattern, own id, own sequence, stripe
-/// size, stripe count, generation, and where the slots start. Answers 0, 13 or 17.
+/// size, stripe count, generation, and where the slots start. Answers 0, 13 or 17; 13 also where
+/// the stripe size is none, before 17.
 pub fn layout_read(layout: &[u8], fields: &mut [u64]) -> u32 {
     // SAFETY: both slices are live for the call, each with its own count; only `fields`, lent
     // by `&mut`, is written.
@@ -54,7 +56,7 @@ pub fn layout_read(layout: &[u8], fields: &mut [u64]) -> u32 {
 }
 
 /// Reads one slot of a layout into 5 numbers: 0 for a hole or 1, sequence, id, generation, OST
-/// index. Answers 0, 13, 16 or 17.
+/// index. Answers 0, 13, 16 or 17; 13 also where the stripe size is none, before 16.
 pub fn layout_slot(layout: &[u8], index: u64, out: &mut [u64]) -> u32 {
     // SAFETY: both slices are live for the call, each with its own count; only `out`, lent by
     // `&mut`, is written. The index is a number that the library compares with the count.
@@ -71,7 +73,7 @@ pub fn layout_slot(layout: &[u8], index: u64, out: &mut [u64]) -> u32 {
 
 /// Writes a layout to `destination` and its length to `out`. The fields are 7 numbers: version,
 /// pattern, own id, own sequence, stripe size, stripe count, generation; the slots are 5 numbers
-/// each. Answers 0, 13 or 17.
+/// each. Answers 0, 13 or 17; 13 also where the stripe size is none, before 17.
 pub fn layout_write(
     fields: &[u64],
     pool: &[u8],
@@ -98,7 +100,8 @@ pub fn layout_write(
 }
 
 /// Puts the slot of 5 numbers in the place of slot `index` of the layout and raises the layout's
-/// generation, unless the slot is that one already. Answers 0, 13 or 16.
+/// generation, unless the slot is that one already. Answers 0, 13 or 16; 13 also where the stripe
+/// size is none, before 16.
 pub fn slot_rewrite(layout: &mut [u8], index: u64, slot: &[u64]) -> u32 {
     // SAFETY: both slices are live for the call, each with its own count; only `layout`, lent
     // by `&mut`, is written. The index is a number that the library compares with the count.

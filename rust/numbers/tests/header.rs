@@ -34,6 +34,7 @@ fn sizes_and_limits() {
         ("LFSCK_POOL_BYTES", layout::POOL_BYTES),
         ("LFSCK_SLOT_BYTES", layout::SLOT_BYTES),
         ("LFSCK_LAYOUT_BYTES", layout::MOST_BYTES),
+        ("LFSCK_STRIPE_UNIT", layout::STRIPE_UNIT as usize),
         ("LFSCK_PATTERN_PLAIN", layout::PLAIN as usize),
         ("LFSCK_PATTERN_HOLES", layout::HOLES as usize),
         ("LFSCK_LINK_MAGIC", link::MAGIC as usize),

@@ -7,6 +7,8 @@ use crate::take;
 pub const MOST_SLOTS: usize = 2_000;
 /// The greatest index of an OST.
 pub const LAST_OST: u32 = 65_535;
+/// Of what every stripe size is a multiple.
+const STRIPE_UNIT: u32 = 65_536;
 /// The bytes of one slot.
 pub const SLOT_BYTES: usize = 24;
 /// The bytes before the slots, version 1.
@@ -75,6 +77,8 @@ pub enum Fault {
     Count,
     /// Its length is not header and slots.
     Length,
+    /// The stripe size is 0 or no multiple of 65,536.
+    StripeSize,
     /// A slot is a hole, and the pattern allows none.
     Hole,
     /// A slot's FID is not good.
@@ -118,6 +122,14 @@ impl Stripe {
             ost: take::number32(rest)?,
         })
     }
+}
+
+/// A stripe size is not 0 and a multiple of 65,536.
+pub fn check_stripe_size(size: u32) -> Result<(), Fault> {
+    if size == 0 || !size.is_multiple_of(STRIPE_UNIT) {
+        return Err(Fault::StripeSize);
+    }
+    Ok(())
 }
 
 /// A slot is a hole where that is allowed, or a sound stripe.
@@ -175,8 +187,9 @@ impl Layout {
         Some(Ok((layout, count.into())))
     }
 
-    /// The rules on the number of slots and on each of them.
+    /// The rules on the stripe size, on the number of slots and on each of them.
     pub fn check(&self) -> Result<(), Fault> {
+        check_stripe_size(self.stripe_size)?;
         if self.slots.len() > MOST_SLOTS {
             return Err(Fault::Count);
         }
@@ -315,6 +328,36 @@ mod tests {
         assert_eq!(Layout::parse(&layout.encode()), Err(Fault::Hole));
         layout.holes_allowed = true;
         assert_eq!(Layout::parse(&layout.encode()), Ok(layout));
+    }
+
+    #[test]
+    fn a_stripe_size_is_a_multiple_of_65536_and_not_0() {
+        let sizes = [
+            (0, false),
+            (1, false),
+            (32_768, false),
+            (65_535, false),
+            (65_536, true),
+            (65_537, false),
+            (131_072, true),
+            (4_294_901_760, true),
+            (4_294_967_295, false),
+        ];
+        for (size, good) in sizes {
+            let rule = if good { Ok(()) } else { Err(Fault::StripeSize) };
+            assert_eq!(check_stripe_size(size), rule, "{size}");
+            for version in [Version::One, Version::Three([7; 16])] {
+                for count in [0, 1, 2] {
+                    let mut layout = layout_of_e2();
+                    layout.version = version;
+                    layout.stripe_size = size;
+                    layout.slots = vec![layout.slots[0]; count];
+                    assert_eq!(layout.check(), rule, "{size}, {count} slots");
+                    let read = Layout::parse(&layout.encode());
+                    assert_eq!(read, rule.map(|()| layout), "{size}, {count} slots");
+                }
+            }
+        }
     }
 
     #[test]

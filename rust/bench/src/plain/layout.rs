@@ -3,7 +3,7 @@
 use numbers::fid::{ID_AT, SEQUENCE_AT};
 use numbers::layout::{
     COUNT_AT, HEADER_ONE, HEADER_THREE, HOLES, LAST_OST, MAGIC_AT, MAGIC_ONE, MAGIC_THREE,
-    MOST_SLOTS, PATTERN_AT, PLAIN, SLOT_BYTES, SLOT_OST_AT,
+    MOST_SLOTS, PATTERN_AT, PLAIN, SLOT_BYTES, SLOT_OST_AT, STRIPE_SIZE_AT, STRIPE_UNIT,
 };
 use numbers::parent;
 
@@ -38,9 +38,14 @@ pub fn is_good(layout: &[u8]) -> bool {
         && (magic == MAGIC_ONE || magic == MAGIC_THREE)
         && (pattern == PLAIN || pattern == HOLES)
         && count <= MOST_SLOTS
+        && is_stripe_size(number32(layout, STRIPE_SIZE_AT))
         && layout[start..]
             .chunks_exact(SLOT_BYTES)
             .all(|slot| is_good_slot(slot, pattern == HOLES))
+}
+
+fn is_stripe_size(size: u32) -> bool {
+    size != 0 && size.is_multiple_of(STRIPE_UNIT)
 }
 
 /// Slot `index` of the bytes after the header.

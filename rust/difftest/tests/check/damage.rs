@@ -36,6 +36,7 @@ damages! {
     OwnId,
     OwnSequence,
     StripeSize,
+    StripeSizeOther,
     StripeCount,
     LayoutGeneration,
     Pool,
@@ -90,15 +91,15 @@ impl Damage {
             ParentMark | ObjectMark | UnusedParentMark | UnusedObjectMark | FreshMark
             | ParentsLength | ObjectsLength | ReserveLength => Some(11),
             Policy => Some(12),
-            LayoutLength | Magic | Pattern | StripeCount | SlotSequence | SlotId | SlotVersion
-            | SlotOst | Hole => Some(13),
+            LayoutLength | Magic | Pattern | StripeSize | StripeCount | SlotSequence | SlotId
+            | SlotVersion | SlotOst | Hole => Some(13),
             ParentSequence | ParentId | ParentVersion | ObjectSequence | ObjectId
             | ObjectVersion | ObjectOst | ClaimSequence | ClaimId | ClaimIndexAlone
             | FreshUnclaimed | ReserveSequence | ReserveId | ReserveVersion => Some(14),
             ParentTwice | ObjectTwice => Some(15),
             Stage | Row | Part => Some(16),
-            ParentUid | ParentGid | OwnId | OwnSequence | StripeSize | LayoutGeneration | Pool
-            | SlotGeneration | RoomPastLayout | ObjectUid | ObjectGid | ClaimIndex
+            ParentUid | ParentGid | OwnId | OwnSequence | StripeSizeOther | LayoutGeneration
+            | Pool | SlotGeneration | RoomPastLayout | ObjectUid | ObjectGid | ClaimIndex
             | UnusedParentFields | UnusedObjectFields | ReserveTwice => None,
         }
     }
@@ -172,55 +173,57 @@ impl Damage {
         // The magic tells the version, if another damage left it.
         let header = if room[2] == 0xd3 { 48 } else { 32 };
         match self {
-            Magic => put(
-                room,
-                0,
-                &random
-                    .pick(&[0, 0x0BD1_0BD1_u32, 0x0BD2_0BD0, 0x0BD4_0BD0])
-                    .to_le_bytes(),
-            ),
-            Pattern => put(
-                room,
-                4,
-                &random
-                    .pick(&[0, 2, 3, 0x4000_0000, 0x8000_0001_u32])
-                    .to_le_bytes(),
-            ),
-            OwnId => random.fill(&mut room[8..16]),
-            OwnSequence => random.fill(&mut room[16..24]),
-            StripeSize => random.fill(&mut room[24..28]),
-            StripeCount => {
-                let count = u16::from_le_bytes([room[28], room[29]]);
-                let near = [count.wrapping_sub(1), count.wrapping_add(1), count ^ 256];
-                let bounds = COUNTS.map(|bound| bound as u16);
-                let other = match random.below(2) {
-                    0 => random.pick(&near),
-                    _ => random.pick(&bounds),
-                };
-                put(room, 28, &other.to_le_bytes());
-            }
-            LayoutGeneration => random.fill(&mut room[30..32]),
+            Magic | Pattern | OwnId | OwnSequence | StripeSize | StripeSizeOther | StripeCount
+            | LayoutGeneration => self.make_in_header(room, random),
             Pool if header == 48 => random.fill(&mut room[32..48]),
             Pool => return None,
             RoomPastLayout => {
                 let at = length + random.below(room.len().checked_sub(length)?);
                 *room.get_mut(at)? ^= 1 << random.below(8);
             }
-            _ => {
-                let slots = room.get_mut(header..length)?;
-                let holes = self == Hole;
-                let is_wanted = |slot: &[u8]| holes == slot.iter().all(|&byte| byte == 0);
-                let wanted = slots
-                    .chunks_exact(SLOT_BYTES)
-                    .filter(|slot| is_wanted(slot))
-                    .count();
-                let chosen = random.below(wanted.checked_sub(1)? + 1);
-                let mut slots = slots
-                    .chunks_exact_mut(SLOT_BYTES)
-                    .filter(|slot| is_wanted(slot));
-                self.make_in_slot(slots.nth(chosen)?, random);
-            }
+            _ => return self.make_in_slots(room.get_mut(header..length)?, random),
         }
+        Some(())
+    }
+
+    /// A damage to what both versions have before their slots.
+    fn make_in_header(self, header: &mut [u8], random: &mut Random) {
+        use Damage::*;
+        match self {
+            Magic => {
+                let other = random.pick(&[0, 0x0BD1_0BD1_u32, 0x0BD2_0BD0, 0x0BD4_0BD0]);
+                put(header, 0, &other.to_le_bytes());
+            }
+            Pattern => {
+                let other = random.pick(&[0, 2, 3, 0x4000_0000, 0x8000_0001_u32]);
+                put(header, 4, &other.to_le_bytes());
+            }
+            OwnId => random.fill(&mut header[8..16]),
+            OwnSequence => random.fill(&mut header[16..24]),
+            StripeSize => put(header, 24, &random.bad_stripe_size().to_le_bytes()),
+            StripeSizeOther => put(header, 24, &random.stripe_size().to_le_bytes()),
+            StripeCount => {
+                let count = u16::from_le_bytes([header[28], header[29]]);
+                put(header, 28, &other_count(count, random).to_le_bytes());
+            }
+            LayoutGeneration => random.fill(&mut header[30..32]),
+            _ => unreachable!("{self:?} is no damage to a header"),
+        }
+    }
+
+    /// A damage to a hole, or to a slot that names an object.
+    fn make_in_slots(self, slots: &mut [u8], random: &mut Random) -> Option<()> {
+        let holes = self == Damage::Hole;
+        let is_wanted = |slot: &[u8]| holes == slot.iter().all(|&byte| byte == 0);
+        let wanted = slots
+            .chunks_exact(SLOT_BYTES)
+            .filter(|slot| is_wanted(slot))
+            .count();
+        let chosen = random.below(wanted.checked_sub(1)? + 1);
+        let mut slots = slots
+            .chunks_exact_mut(SLOT_BYTES)
+            .filter(|slot| is_wanted(slot));
+        self.make_in_slot(slots.nth(chosen)?, random);
         Some(())
     }
 
@@ -313,6 +316,16 @@ impl Damage {
             }
         }
         Some(())
+    }
+}
+
+/// A stripe count near this one, or at a bound.
+fn other_count(count: u16, random: &mut Random) -> u16 {
+    let near = [count.wrapping_sub(1), count.wrapping_add(1), count ^ 256];
+    let bounds = COUNTS.map(|bound| bound as u16);
+    match random.below(2) {
+        0 => random.pick(&near),
+        _ => random.pick(&bounds),
     }
 }
 

@@ -8,6 +8,7 @@ use std::hint::black_box;
 use std::time::Instant;
 
 use difftest::Random;
+use difftest::stripes::kind_of;
 use difftest::tables::random_generation;
 use numbers::layout::{
     COUNT_AT, HOLES, MAGIC_AT, MAGIC_ONE, MAGIC_THREE, MOST_SLOTS, PATTERN_AT, PLAIN,
@@ -32,6 +33,7 @@ fn layouts_are_read_and_written_alike() {
         let count = count.unwrap_or_else(|| random_count(&mut random));
         let layout = random_layout(count, &mut random);
         seen.slot_counts.met(count);
+        seen.sizes.met((kind_of(layout.stripe_size), count == 0));
         let mut bytes = layout.encode();
         let change = if random.one_in(2) {
             Change::None
@@ -131,7 +133,8 @@ fn note_write(numbers: &LayoutNumbers, short: bool, placeless: bool, answer: u32
     }
 }
 
-// Random layouts, as a program that breaks no rule but the greatest count would write them.
+// Random layouts, as a program that breaks no rule but the greatest count and that of the stripe
+// size would write them.
 
 /// How many slots: mostly few, now and then as many as there may be, or one more.
 fn random_count(random: &mut Random) -> usize {
@@ -158,11 +161,20 @@ fn random_layout(count: usize, random: &mut Random) -> Layout {
         holes_allowed,
         own_id: random.any(),
         own_sequence: random.any(),
-        stripe_size: random.any() as u32,
+        stripe_size: random_stripe_size(random),
         generation: random_generation(random),
         slots: (0..count)
             .map(|_| random_slot(holes_allowed, random))
             .collect(),
+    }
+}
+
+/// Mostly a good one, now and then one that is none, or any number.
+fn random_stripe_size(random: &mut Random) -> u32 {
+    match random.below(32) {
+        0 => random.bad_stripe_size(),
+        1 => random.any() as u32,
+        _ => random.stripe_size(),
     }
 }
 
@@ -418,7 +430,7 @@ impl LayoutNumbers {
         match random.below(12) {
             0 => self.fields[0] = random.pick(&[0, 1, 2, 3, 4, 1 << 32 | 1, u64::MAX]),
             1 => self.fields[1] = random.pick(&[0, 1, 2, 0x4000_0000, 0x4000_0001, 1 << 32 | 1]),
-            2 => self.fields[4] = random.pick(&[u64::from(u32::MAX), 1 << 32, u64::MAX]),
+            2 => self.fields[4] = random_wide_size(random),
             3 => self.fields[5] = random.pick(&[0, 1, MOST, MOST + 1, 1 << 16, u64::MAX]),
             4 => self.fields[5] = self.fields[5].wrapping_add(random.pick(&[1, u64::MAX, 1 << 16])),
             5 => self.fields[6] = random.pick(&[65_535, 65_536, u64::MAX]),
@@ -438,6 +450,15 @@ impl LayoutNumbers {
             let at = 5 * random.below(count);
             damage_slot_numbers(&mut self.slots[at..at + 5], random);
         }
+    }
+}
+
+/// A stripe size that is none: it does not fit its field, or is against the rule there.
+fn random_wide_size(random: &mut Random) -> u64 {
+    let wide = [1 << 32, 1 << 32 | u64::from(random.stripe_size()), u64::MAX];
+    match random.below(2) {
+        0 => random.pick(&wide),
+        _ => random.bad_stripe_size().into(),
     }
 }
 

@@ -3,6 +3,7 @@
 use crate::Change;
 use crate::rewrite::{GENERATIONS, PLACES, REWRITES};
 use difftest::Coverage;
+use difftest::stripes::{BAD, GOOD};
 use numbers::layout::MOST_SLOTS;
 use reference::fid::FidFault;
 use reference::layout::Fault;
@@ -25,6 +26,8 @@ pub struct Seen {
     pub write_order: Coverage<&'static str>,
     pub changes: Coverage<Change>,
     pub slot_counts: Coverage<usize>,
+    /// Stripe sizes, and whether the layout has no slots.
+    pub sizes: Coverage<(&'static str, bool)>,
     /// Lengths at the bounds, and what becomes of them.
     pub lengths: Coverage<(usize, &'static str)>,
 }
@@ -62,8 +65,9 @@ const SLOT_RULES: [Fault; 6] = [
 impl Seen {
     pub fn nothing() -> Seen {
         use Fault::*;
-        let bytes_alone = [Header, Magic, Pattern, Count, Length];
-        let numbers_alone = [Pattern, Count, Amount, Version, Width, Mark];
+        let bytes_alone = [Header, Magic, Pattern, Count, Length, StripeSize];
+        let of_bytes = SLOT_RULES.into_iter().chain(bytes_alone);
+        let numbers_alone = [Pattern, Count, Amount, Version, Width, Mark, StripeSize];
         // A slot of numbers has no FID version.
         let of_numbers = SLOT_RULES
             .into_iter()
@@ -74,10 +78,7 @@ impl Seen {
             write: Coverage::of("write answers", [0, 13, 17]),
             rewrite: Coverage::of("rewrite answers", [0, 13, 16]),
             slot_kinds: Coverage::of("slots", ["hole read", "named read"]),
-            read_rules: Coverage::of(
-                "rules of the reader",
-                SLOT_RULES.into_iter().chain(bytes_alone),
-            ),
+            read_rules: Coverage::of("rules of the reader", of_bytes),
             write_rules: Coverage::of(
                 "rules of the writer",
                 of_numbers.clone().chain(numbers_alone),
@@ -96,6 +97,7 @@ impl Seen {
             write_order: Coverage::of("13 before 17 and reasons for 17 in the writer", WRITE_ORDER),
             changes: Coverage::of("changes to the bytes", Change::ALL),
             slot_counts: Coverage::of("slot counts", 0..=MOST_SLOTS + 1),
+            sizes: Coverage::of("stripe sizes, and whether there are no slots", sizes()),
             lengths: Coverage::of("lengths at the bounds", LENGTHS),
         }
     }
@@ -116,6 +118,13 @@ impl Seen {
         self.write_order.require(1);
         self.changes.require(1);
         self.slot_counts.require(1);
+        self.sizes.require(20);
         self.lengths.require(1);
     }
+}
+
+/// Every kind of stripe size, with slots and without.
+fn sizes() -> impl Iterator<Item = (&'static str, bool)> {
+    let kinds = GOOD.into_iter().chain(BAD);
+    kinds.flat_map(|kind| [(kind, false), (kind, true)])
 }

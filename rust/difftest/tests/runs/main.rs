@@ -1,12 +1,13 @@
 //! Random lists of run calls, made by the library and by the reference: restarts at the start
 //! and at passed positions, refused calls in between, every policy, scarce reserves and rows.
 //! Both sides must keep demand 3, raise a layout's generation with each step that changes its
-//! slots, and agree on every answer, count, position and byte.
+//! slots, leave the stripe sizes of files, and agree on every answer, count, position and byte.
 
 mod demand;
 mod generations;
 mod seen;
 mod side;
+mod stripes;
 
 use std::rc::Rc;
 use std::time::Instant;
@@ -65,6 +66,7 @@ fn lists_of_runs_are_made_alike() {
     );
     assert!(seen.answers.total() >= 200_000);
     seen.require();
+    library.stripes.require();
 }
 
 /// Every call was answered alike, and left alike whatever was lent.
@@ -168,7 +170,7 @@ fn retrace(
     if is_long {
         seen.long.met("made");
     }
-    if random.one_in(if is_long { 16 } else { 4 }) {
+    if random.one_in(if is_long { 8 } else { 4 }) {
         seen.note_call(&list.retrace(side, call, outcome));
         seen.turns.met("retraced");
         if is_long {

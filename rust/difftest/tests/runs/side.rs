@@ -4,7 +4,9 @@ use std::hint::black_box;
 use std::rc::Rc;
 
 use crate::demand::check_not_destroyed;
+use crate::stripes::Stripes;
 use difftest::Random;
+use difftest::tables::spoil_stripe_sizes;
 use numbers::call::REPORT;
 use numbers::fid::VERSION_AT;
 use numbers::{object, parent};
@@ -44,6 +46,8 @@ pub struct Side {
     pub name: &'static str,
     run: Run,
     pub log: Vec<(Call, Outcome)>,
+    /// The stripe sizes before and after every call.
+    pub stripes: Stripes,
     /// The parent table that is lent, and the one that it is a copy of.
     lent: Vec<u8>,
     copied: Rc<Vec<u8>>,
@@ -63,16 +67,23 @@ impl Side {
             name,
             run,
             log: Vec::new(),
+            stripes: Stripes::nothing(),
             lent: Vec::new(),
             copied: Rc::default(),
         }
     }
 
-    /// Makes a call on a copy of the tables. No call, in a list or not, destroys data.
-    pub fn call(&mut self, before: &State, call: &Call) -> Outcome {
-        if !Rc::ptr_eq(&self.copied, &before.parents) {
-            self.lent.clone_from(&before.parents);
+    /// The parent table that is lent is a copy of this one.
+    fn lend(&mut self, parents: &Rc<Vec<u8>>) {
+        if !Rc::ptr_eq(&self.copied, parents) {
+            self.lent.clone_from(parents);
         }
+    }
+
+    /// Makes a call on a copy of the tables. No call, in a list or not, destroys data or changes
+    /// the stripe size of a file.
+    pub fn call(&mut self, before: &State, call: &Call) -> Outcome {
+        self.lend(&before.parents);
         let mut objects = before.objects.clone();
         let mut position = call.position.clone();
         let mut report = call.report.clone();
@@ -99,6 +110,7 @@ impl Side {
         let parents = self.copied.clone();
         let state = State { parents, objects };
         check_not_destroyed(before, &state);
+        self.stripes.hold(before, &state);
         let outcome = Outcome {
             answer,
             state,
@@ -133,7 +145,7 @@ impl State {
             mut parents,
             mut objects,
         } = self.clone();
-        match random.below(7) {
+        match random.below(8) {
             0 => {
                 Rc::make_mut(&mut parents).pop();
             }
@@ -147,6 +159,7 @@ impl State {
                 .chunks_mut(OBJECT_BYTES)
                 .for_each(|row| row[object::SELF_AT + VERSION_AT] = 1),
             5 => Rc::make_mut(&mut parents).extend_from_within(..),
+            6 => spoil_stripe_sizes(Rc::make_mut(&mut parents).as_mut_slice(), random),
             _ => objects.extend_from_within(..),
         }
         State { parents, objects }
