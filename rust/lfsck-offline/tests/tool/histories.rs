@@ -4,7 +4,6 @@
 use difftest::names::random_names;
 use difftest::tables::{OBJECTS, Shape, random_tables, to_bytes};
 use difftest::{Coverage, Random};
-use reference::names::judge;
 
 use crate::json::{self, Value};
 use crate::namespace::{CHILDREN, ENTRIES, MEND, pass, put};
@@ -195,13 +194,17 @@ struct History {
 }
 
 impl History {
-    fn new(name: &str, random: &mut Random) -> History {
+    /// A new case, whose names a mending can mend, or one that stops.
+    fn new(name: &str, mending: u32, random: &mut Random) -> History {
         let (parents, objects) = to_bytes(&random_tables(SHAPE, random), random);
         let reserve: Vec<u8> = OBJECTS.iter().flat_map(|fid| fid.to_bytes()).collect();
         let case = Case::with(name, &parents, &objects, &reserve);
-        let mut names = (0..).map(|_| random_names(random));
-        let names = names.find(|names| judge(names).is_some());
-        put(&case, &names.expect("names that can be judged"));
+        loop {
+            put(&case, &random_names(random));
+            if pass(&case.files()).answer == mending {
+                break;
+            }
+        }
         let tables = case.files();
         History {
             model: Model {
@@ -415,7 +418,8 @@ fn a_case_is_always_as_its_history_says() {
     let mut random = Random::for_test("histories");
     let mut met = Coverage::of("histories", HAPPENS);
     for round in 0..40 {
-        let mut history = History::new(&format!("history-{round}"), &mut random);
+        let mending = if round % 5 == 0 { 38 } else { 0 };
+        let mut history = History::new(&format!("history-{round}"), mending, &mut random);
         (0..20).for_each(|_| met.met(history.go_on(&mut random)));
     }
     met.require(5);
