@@ -1,7 +1,8 @@
 //! Random stripe sizes, and kinds of them.
 
 use crate::Random;
-use numbers::layout::STRIPE_UNIT;
+use numbers::layout::{COUNT_AT, STRIPE_SIZE_AT, STRIPE_UNIT};
+use numbers::parent;
 
 /// The greatest number of units in a stripe size.
 const MOST_UNITS: u32 = u32::MAX / STRIPE_UNIT;
@@ -31,6 +32,14 @@ pub fn kind_of(size: u32) -> &'static str {
         _ if size.is_multiple_of(STRIPE_UNIT) => "another good",
         _ => "another bad",
     }
+}
+
+/// The stripe sizes of the files in their rows; an unused row has none.
+pub fn sizes(parents: &[u8]) -> impl Iterator<Item = Option<u32>> {
+    parents.chunks_exact(parent::BYTES).map(|row| {
+        let size = &row[parent::LAYOUT_AT..][STRIPE_SIZE_AT..COUNT_AT];
+        (row[0] == 1).then(|| u32::from_le_bytes(size.try_into().expect("four bytes")))
+    })
 }
 
 impl Random {

@@ -2,10 +2,8 @@
 
 use crate::side::State;
 use difftest::Coverage;
-use difftest::stripes::{GOOD, MADE, kind_of};
+use difftest::stripes::{GOOD, MADE, kind_of, sizes};
 use numbers::call::END;
-use numbers::layout::{COUNT_AT, STRIPE_SIZE_AT};
-use numbers::parent;
 use reference::interface;
 
 /// Counts of what the calls of a side have met.
@@ -36,7 +34,7 @@ impl Stripes {
     /// Holds the tables after a call to those before it.
     pub fn hold(&mut self, before: &State, after: &State) {
         let mut is_made = false;
-        for (was, is) in rows(before).zip(rows(after)) {
+        for (was, is) in sizes(&before.parents).zip(sizes(&after.parents)) {
             match (was, is) {
                 (Some(was), is) => {
                     assert_eq!(is, Some(was), "the stripe size of a file");
@@ -65,15 +63,6 @@ fn kept(size: u32) -> &'static str {
     } else {
         "none, refused"
     }
-}
-
-/// The stripe sizes of the files in their rows; an unused row has none.
-fn rows(state: &State) -> impl Iterator<Item = Option<u32>> {
-    let rows = state.parents.chunks_exact(parent::BYTES);
-    rows.map(|row| {
-        let size = &row[parent::LAYOUT_AT..][STRIPE_SIZE_AT..COUNT_AT];
-        (row[0] == 1).then(|| u32::from_le_bytes(size.try_into().expect("four bytes")))
-    })
 }
 
 /// Both sides take the tables.

@@ -2,10 +2,9 @@
 
 use crate::seen::{self, Seen};
 use crate::{FILE, OBJECTS, all_layouts, both, layout_of};
-use difftest::stripes::{MADE, kind_of};
+use difftest::stripes::{MADE, sizes};
 use difftest::{Coverage, Random};
 use numbers::call::{ADOPT, CLASS, END, KEEPER, POSITION, REPORT};
-use numbers::layout::{COUNT_AT, STRIPE_SIZE_AT};
 use numbers::{object, parent};
 use reference::fid::Fid;
 use reference::layout::{Layout, Version};
@@ -267,7 +266,7 @@ fn note_files(before: &Case, after: &Case, seen: &mut Coverage<&str>) {
                 seen.met("as before");
             }
             (None, Some(size)) => {
-                assert_eq!(kind_of(size), "1,048,576");
+                assert_eq!(size, MADE);
                 seen.met("made, 1,048,576");
                 is_made = true;
             }
@@ -284,12 +283,4 @@ fn note_files(before: &Case, after: &Case, seen: &mut Coverage<&str>) {
             0
         );
     }
-}
-
-/// The stripe sizes of the files in their rows.
-fn sizes(parents: &[u8]) -> impl Iterator<Item = Option<u32>> {
-    parents.chunks_exact(parent::BYTES).map(|row| {
-        let size = &row[parent::LAYOUT_AT..][STRIPE_SIZE_AT..COUNT_AT];
-        (row[0] == 1).then(|| u32::from_le_bytes(size.try_into().expect("four bytes")))
-    })
 }
