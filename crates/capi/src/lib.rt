@@ -7,3 +7,4 @@ pub mod layouts;
 pub mod links;
 pub mod namespaces;
 pub mod runs;
+pub mod step_writes;

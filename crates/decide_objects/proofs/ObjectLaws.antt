@@ -40,14 +40,6 @@ use Rattle.rules.specs.Settings.{Settings, adopts}
 
 -- ## Small parts
 
-pub owner-same : (k : ℕ) (x : Object) (w : Owner) → sameOwner (x .owner) w ≡ true → Nothing ≡ ownerWrite k x w
-unfolding ownerWrite
-owner-same k x w e = rw e
-
-pub owner-other : (k : ℕ) (x : Object) (w : Owner) → sameOwner (x .owner) w ≡ false → PutObject k (withOwner x w) ≡ ownerWrite k x w
-unfolding ownerWrite
-owner-other k x w e = rw e
-
 pub drop-hole : (os : List ObjectRow) (s : Slot) → s ≡ Hole → Nothing ≡ destroyNamed os s
 unfolding destroyNamed
 drop-hole os s e = rw e

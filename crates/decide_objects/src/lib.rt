@@ -37,40 +37,12 @@ fn may_adopt(policy: u64) -> bool
     policy / 2 % 2 == 1
 }
 
-// The slot that an object gets: its FID, generation 0 and its OST index.
-fn slot_for(x: Object) -> Slot
-    ensures { λ s. ⌜ s ≡ slotFor x ⌝ }
-{
-    let name = x.fid;
-    Slot::Names(name, 0, x.ost)
-}
-
 // The owner of the file of row r.
 fn file_owner(parents: &[u8], r: usize) -> Owner
     requires { ⌜ UsedAt (now parents) r ⌝ }
     ensures { λ w. ⌜ w ≡ ownerOf (parseParent (rowBytes (now (parents .entry)) r)) ⌝ }
 {
     rows::owner_of(rows::row_at(parents, PARENT_SIZE, r))
-}
-
-// The owner of object x, of row k, where it differs.
-fn owner_write(k: usize, x: Object, w: Owner) -> Write
-    ensures { λ a. ⌜ a ≡ ownerWrite k x w ⌝ }
-{
-    let owner = x.owner;
-    if classify_slots::same_owner(owner, w) {
-        return Write::Nothing;
-    }
-    let name = x.fid;
-    let claim = x.claim;
-    let owned = Object {
-        fid: name,
-        ost: x.ost,
-        owner: w,
-        claim: claim,
-        fresh: x.fresh,
-    };
-    Write::Object(k, owned)
 }
 
 // The object that a slot names is destroyed.
@@ -99,7 +71,7 @@ fn adopt_new(parents: &[u8], objects: &[u8], x: Object, place: Place) -> Step
         Row::NoRow => Step::Stops(23),
         Row::RowIs(r) => {
             let w = x.owner;
-            let s = slot_for(x);
+            let s = taking::slot_for(x);
             let f = place.file;
             Step::Repairs(
                 Repair::OfOrphan,
@@ -122,18 +94,18 @@ fn adopt_by(parents: &[u8], objects: &[u8], k: usize, x: Object, place: Place) -
         Way::NoWay => Step::Rests,
         Way::NewParent => adopt_new(parents, objects, x, place),
         Way::Fill(r) => {
-            let s = slot_for(x);
-            let a = owner_write(k, x, file_owner(parents, r));
+            let s = taking::slot_for(x);
+            let a = taking::owner_write(k, x, file_owner(parents, r));
             Step::Repairs(Repair::OfOrphan, Write::Slot(r, j, s), a, Write::Nothing)
         }
         Way::Grow(r) => {
-            let s = slot_for(x);
-            let a = owner_write(k, x, file_owner(parents, r));
+            let s = taking::slot_for(x);
+            let a = taking::owner_write(k, x, file_owner(parents, r));
             Step::Repairs(Repair::OfOrphan, Write::Grow(r, j, s), a, Write::Nothing)
         }
         Way::Take(r) => {
-            let s = slot_for(x);
-            let a = owner_write(k, x, file_owner(parents, r));
+            let s = taking::slot_for(x);
+            let a = taking::owner_write(k, x, file_owner(parents, r));
             let b = drop_named(objects, slots::slot_of(parents, r, j));
             Step::Repairs(Repair::OfOrphan, Write::Slot(r, j, s), a, b)
         }

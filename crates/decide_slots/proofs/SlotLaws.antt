@@ -1,7 +1,7 @@
 -- Headers and slots decided, case by case as the code does it. Assumes nothing.
 use mathlib.Core.Path.{_≡_, sym, ap, _∙_}
 use mathlib.Core.List.{List}
-use mathlib.Core.Bool.{true, false}
+use mathlib.Core.Bool.{true, false, cond}
 use Prim.Native.Nat.{ℕ, _*_, _/_, _<_}
 use borrow.Author.Tests.{eq-eqb, ne-eqb}
 use lib.ListN.{length, take, drop}
@@ -16,9 +16,9 @@ use Rattle.tables.specs.Check.{Sound}
 use Rattle.tables.specs.declared.Object.{Object}
 use Rattle.tables.specs.declared.Owner.{Owner}
 use Rattle.tables.specs.declared.Claim.the-variants.{Claims}
-use Rattle.rules.specs.Rows.{selfOf, ownerOf, slotAt, objectRow, objectAt, freeObject, sameOwner}
+use Rattle.rules.specs.Rows.{selfOf, ownerOf, slotAt, firstRow, objectRow, objectAt, freeObject, sameOwner}
 use Rattle.rules.specs.Classes.{headerClass, slotClass}
-use Rattle.rules.specs.Repairs.{repairHeader, newObject, withClaim, usable, redirect, redirectTo, makeObject, repairSlot, mendAt, mended, mendWrite, indexWrite, mendObject}
+use Rattle.rules.specs.Repairs.{repairHeader, newObject, withClaim, usable, redirect, redirectTo, isReusable, reusable, reuse, redirectBy, makeObject, repairSlot, mendAt, mended, mendWrite, indexWrite, mendObject}
 use Rattle.rules.specs.Steps.{slotStep}
 use Rattle.rules.specs.declared.HeaderClass.{HeaderClass}
 use Rattle.rules.specs.declared.HeaderClass.the-variants.{UNUSED, SELF, CLEAN as CLEAN-HEADER}
@@ -26,6 +26,7 @@ use Rattle.rules.specs.declared.SlotClass.{SlotClass}
 use Rattle.rules.specs.declared.SlotClass.the-variants.{HOLE, MULTIPLE, DANGLING, BLANK, UNMATCHED, WRONGOST as WRONG-OST, OWNER, CLEAN}
 use Rattle.rules.specs.declared.Repair.{Repair}
 use Rattle.rules.specs.declared.Repair.the-variants.{OfSelf, OfMultiple, OfDangling, OfBlank, OfUnmatched, OfOwner, OfWrongOst}
+use Rattle.rules.specs.declared.Row.{Row}
 use Rattle.rules.specs.declared.Row.the-variants.{RowIs, NoRow}
 use Rattle.rules.specs.declared.Usable.{Usable}
 use Rattle.rules.specs.declared.Usable.the-variants.{Takes, UsedUp}
@@ -83,6 +84,31 @@ module _ (p o res : List ℕ) (r j ost : ℕ) (v : Usable) (e : v ≡ usable (pa
   pub reserve-empty : v ≡ UsedUp → Decides p o (Stops 21) (λ T. redirect T r j ost (usable T (parseReserve res)))
   unfolding redirect
   reserve-empty q = decides-stop p o _ 21 (rw (← e, q))
+
+-- an object that is there for slot j of the file m, or the reserve
+module _ (p o : List ℕ) (settings : Settings) (r j ost : ℕ) where
+  pub multiple-off : creates (settings .policy) ≡ false →
+      cond (creates (settings .policy)) (redirectBy settings (parse p o) r j ost (reusable (parse p o) r j)) Rests ≡ Rests
+  multiple-off t = rw t
+
+  module _ (u : UsedAt p r) (row : List ℕ) (e : row ≡ rowBytes p r) (m : MdtFid) (k : m ≡ decodeParent row .self) (found : Row)
+      (q : found ≡ firstRow (parseObjects o) (isReusable (parseParents p) (placeAt m j))) where
+    found-is : found ≡ reusable (parse p o) r j
+    unfolding reusable selfOf
+    found-is = rw (row-says p r u row e, ← k) q
+
+    module _ (t : creates (settings .policy) ≡ true) where
+      pub multiple-none : found ≡ NoRow →
+          redirect (parse p o) r j ost (usable (parse p o) (settings .reserve))
+          ≡ cond (creates (settings .policy)) (redirectBy settings (parse p o) r j ost (reusable (parse p o) r j)) Rests
+      unfolding redirectBy
+      multiple-none z = rw (t, ← found-is, z)
+
+      pub multiple-some : (i : ℕ) → found ≡ RowIs i →
+          reuse (parseParents p) r j i (objectAt (parseObjects o) i)
+          ≡ cond (creates (settings .policy)) (redirectBy settings (parse p o) r j ost (reusable (parse p o) r j)) Rests
+      unfolding redirectBy
+      multiple-some i z = rw (t, ← found-is, z)
 
 -- ## BLANK, UNMATCHED, WRONG-OST and OWNER
 
@@ -150,17 +176,14 @@ module _ (p o : List ℕ) (settings : Settings) (r j : ℕ) (f : OstFid) (n ost 
   unfolding repairSlot
   slot-clean q = rw (← e, q)
 
-  pub slot-multiple-off : c ≡ MULTIPLE → creates (settings .policy) ≡ false → repairSlot settings (parse p o) r j f n ost (slotClass (parse p o) r j) ≡ Rests
-  unfolding repairSlot
-  slot-multiple-off q t = rw (← e, q, t)
-
   pub slot-dangling-off : c ≡ DANGLING → creates (settings .policy) ≡ false → repairSlot settings (parse p o) r j f n ost (slotClass (parse p o) r j) ≡ Rests
   unfolding repairSlot
   slot-dangling-off q t = rw (← e, q, t)
 
-  pub slot-multiple : c ≡ MULTIPLE → creates (settings .policy) ≡ true → redirect (parse p o) r j ost (usable (parse p o) (settings .reserve)) ≡ repairSlot settings (parse p o) r j f n ost (slotClass (parse p o) r j)
+  pub slot-multiple : c ≡ MULTIPLE →
+      cond (creates (settings .policy)) (redirectBy settings (parse p o) r j ost (reusable (parse p o) r j)) Rests ≡ repairSlot settings (parse p o) r j f n ost (slotClass (parse p o) r j)
   unfolding repairSlot
-  slot-multiple q t = rw (← e, q, t)
+  slot-multiple q = rw (← e, q)
 
   pub slot-dangling : c ≡ DANGLING → creates (settings .policy) ≡ true → makeObject (newObject (parseParents p) f r j ost) (freeObject (parseObjects o)) ≡ repairSlot settings (parse p o) r j f n ost (slotClass (parse p o) r j)
   unfolding repairSlot

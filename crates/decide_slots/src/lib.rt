@@ -17,6 +17,7 @@ use tables::rows;
 use tables::rows::OBJECT_SIZE;
 use tables::rows::PARENT_SIZE;
 ghost use mathlib.Core.Path.{_≡_};
+ghost use mathlib.Core.Bool.{cond};
 ghost use Prim.Native.Nat.{_/_, _<_};
 ghost use lib.ListN.{length};
 ghost use Rattle.tables.specs.Bytes.{parentSize, parseReserve, parseParents};
@@ -24,8 +25,9 @@ ghost use Rattle.tables.specs.Check.{Sound};
 ghost use Rattle.tables.specs.Positions.{rowAt};
 ghost use Rattle.rules.specs.Rows.{objectRow, freeObject, slotAt};
 ghost use Rattle.rules.specs.Classes.{headerClass, slotClass};
-ghost use Rattle.rules.specs.Repairs.{repairHeader, newObject, mended, mendWrite, indexWrite, mendAt, usable, redirect, redirectTo, makeObject, repairSlot};
+ghost use Rattle.rules.specs.Repairs.{repairHeader, newObject, mended, mendWrite, indexWrite, mendAt, usable, redirect, redirectTo, reusable, redirectBy, makeObject, repairSlot};
 ghost use Rattle.rules.specs.Steps.{slotStep};
+ghost use Rattle.rules.specs.declared.Step.the-variants.{Rests};
 ghost use Rattle.stores.specs.UsedRow.{UsedAt};
 ghost use Rattle.writes.specs.Plan.{Decides};
 ghost use Rattle.writes.specs.Ready.{SlotReady};
@@ -102,6 +104,35 @@ fn redirect(parents: &[u8], objects: &[u8], reserve: &[u8], r: usize, j: u32, os
     match found {
         Usable::UsedUp => Step::Stops(21),
         Usable::Takes(f) => redirect_to(parents, objects, r, j, ost, f),
+    }
+}
+
+// MULTIPLE, with create: the object that is there for this very slot, and only without one the reserve.
+fn multiple(
+    parents: &[u8],
+    objects: &[u8],
+    reserve: &[u8],
+    policy: u64,
+    r: usize,
+    j: u32,
+    ost: u32,
+) -> Step
+    requires { ⌜ SlotReady (now parents) (now objects) r j ⌝ }
+    ensures { λ d. ⌜ Decides (now (parents .entry)) (now (objects .entry)) d (λ T. cond (creates policy) (redirectBy (settingsOf policy (now (reserve .entry))) T r j ost (reusable T r j)) Rests) ⌝ }
+{
+    if !creates(policy) {
+        return Step::Rests;
+    }
+    let row = rows::row_at(parents, PARENT_SIZE, r);
+    let file = rows::self_of(row);
+    let place = Place {
+        file: file,
+        index: j,
+    };
+    let found = taking::reusable(parents, objects, place);
+    match found {
+        Row::NoRow => redirect(parents, objects, reserve, r, j, ost),
+        Row::RowIs(o) => taking::reuse(parents, objects, r, j, o),
     }
 }
 
@@ -222,12 +253,7 @@ fn named_slot(
     match class {
         SlotClass::HOLE => Step::Rests,
         SlotClass::CLEAN => Step::Rests,
-        SlotClass::MULTIPLE => {
-            if !creates(policy) {
-                return Step::Rests;
-            }
-            redirect(parents, objects, reserve, r, j, ost)
-        }
+        SlotClass::MULTIPLE => multiple(parents, objects, reserve, policy, r, j, ost),
         SlotClass::DANGLING => {
             if !creates(policy) {
                 return Step::Rests;

@@ -62,7 +62,7 @@ allFit (e ∷ es) = fits (e .of .parents) && allFit es
 -- ## As the bytes say
 
 module _ (past : ℕ → List ℕ) (long : (n : ℕ) → length (past n) ≡ n) where
-  row-whole : (l : List ℕ) → short l ≡ true → length (filled past l) ≡ parentSize
+  pub row-whole : (l : List ℕ) → short l ≡ true → length (filled past l) ≡ parentSize
   unfolding filled short
   row-whole l k =
       let m : length l ≤ parentSize = leb-true (length l) parentSize k in

@@ -29,7 +29,7 @@ use Rattle.rules.specs.Keeper.{keeper, isPlace}
 use Rattle.rules.specs.Places.{claims, placeOf}
 use Rattle.rules.specs.Classes.{headerClass, claimedClass, claimClass, keeperClass, slotClassOf, slotClass, unnamedClass, objectClassOf, objectClass}
 use Rattle.rules.specs.Settings.{Settings, creates, adopts}
-use Rattle.rules.specs.Repairs.{withSlots, grown, made, putParent, putObject, applyWrite, applyWrites, repairHeader, newObject, usable, redirectTo, redirect, makeObject, mended, mendWrite, indexWrite, mendObject, mendAt, repairSlot, slotFor, makeParent, adoptBy, adopt, repairObject}
+use Rattle.rules.specs.Repairs.{withSlots, grown, made, putParent, putObject, applyWrite, applyWrites, repairHeader, newObject, usable, redirectTo, redirect, isReusable, reusable, reuse, redirectBy, makeObject, mended, mendWrite, indexWrite, mendObject, mendAt, repairSlot, slotFor, ownerWrite, withOwner, makeParent, adoptBy, adopt, repairObject}
 use Rattle.rules.specs.Steps.{slotStep, partStep, objectStep, stepAt}
 use Rattle.rules.specs.Generations.{restripes, changesSlots, ChangedStep}
 use Rattle.rules.specs.declared.Row.{Row}
@@ -50,7 +50,7 @@ use Rattle.rules.specs.declared.Write.the-variants.{Nothing, Object as P
 use Rattle.rules.specs.declared.Step.{Step}
 use Rattle.rules.specs.declared.Step.the-variants.{Rests as rests, Repairs as repairs, Stops as stops}
 use Rattle.rules.proofs.Searches.{named-inside}
-use Rattle.rules.proofs.Theorem.{row-same, slot-same, putSlot, named-none, parent-inside, free-row, usable-free, Means, none-at-all, to-make, to-fill, to-grow, to-take, way-means}
+use Rattle.rules.proofs.Theorem.{row-same, slot-same, putSlot, named-none, parent-inside, free-row, usable-free, reusable-means, reusable-passes, Means, none-at-all, to-make, to-fill, to-grow, to-take, way-means}
 use Rattle.rules.proofs.Raised.{Aside, aside-nothing, aside-owner, aside-named}
 
 -- ## Rows that differ
@@ -134,6 +134,32 @@ changes-redirect T r j f n ost gs at (Takes g) e = go (freeObject (T .objects))
         let in-rows = named-there T r j f n ost at in
         slot-differs T r j (Names g 0 ost) (Names f n ost) (in-rows .0) (in-rows .1) at (other-object T r j f g n ost 0 ost at (usable-free T gs g e .1))
 
+mend-differs : (T : Tables) (right index : Bool) (o : ℕ) (y : Object) (r j : ℕ) (s : Slot) → index ≡ false → Differ (T .parents) (putSlot T r j s .parents) →
+    Differ (T .parents) (applyWrites (cond right Nothing (PutObject o y)) (cond index Nothing (PutSlot r j s)) Nothing T .parents)
+unfolding applyWrites applyWrite putObject putSlot putParent
+mend-differs T true false o y r j s e d = d
+mend-differs T false false o y r j s e d = d
+mend-differs T right true o y r j s e d = absurd (true≢false e)
+
+changes-reuse : (T : Tables) (r j : ℕ) (f : OstFid) (n ost o : ℕ) → slotAt (T .parents) r j ≡ Names f n ost → (y : ObjectRow) →
+    isReusable (T .parents) (placeOf (rowAt (T .parents) r) j) y ≡ true → Changes T (reuse (T .parents) r j o y)
+unfolding Changes reuse ownerWrite slotFor
+changes-reuse T r j f n ost o at (unused b) e = tt
+changes-reuse T r j f n ost o at (used x) e = λ l.
+    let in-rows = named-there T r j f n ost at in
+    mend-differs T (sameOwner (x .owner) owner) false o (withOwner x owner) r j (Names (x .fid) 0 (x .ost)) refl
+    (slot-differs T r j (Names (x .fid) 0 (x .ost)) (Names f n ost) (in-rows .0) (in-rows .1) at
+    (other-object T r j f (x .fid) n ost 0 (x .ost) at (reusable-means (T .parents) (placeOf (rowAt (T .parents) r) j) x e .2)))
+  where
+    owner : Owner
+    owner = ownerOf (rowAt (T .parents) r)
+
+changes-by : (settings : Settings) (T : Tables) (r j : ℕ) (f : OstFid) (n ost : ℕ) → slotAt (T .parents) r j ≡ Names f n ost → (a : Row) → reusable T r j ≡ a →
+    Changes T (redirectBy settings T r j ost a)
+unfolding redirectBy
+changes-by settings T r j f n ost at NoRow e = changes-redirect T r j f n ost (settings .reserve) at (usable T (settings .reserve)) refl
+changes-by settings T r j f n ost at (RowIs o) e = changes-reuse T r j f n ost o at (objectAt (T .objects) o) (reusable-passes T r j o e)
+
 changes-make : (T : Tables) (x : Object) (a : Row) → Changes T (makeObject x a)
 unfolding Changes changesSlots makeObject
 changes-make T x NoRow = tt
@@ -165,13 +191,6 @@ other-index : (f : OstFid) (n ost index : ℕ) → eqb index ost ≡ false → s
 unfolding sameSlot
 other-index f n ost index e = rw (same-self (f .0), eq-eqb n n refl, ne-eqb ost index (λ q. eqb-false index ost e (sym q)))
 
-mend-differs : (T : Tables) (right index : Bool) (o : ℕ) (y : Object) (r j : ℕ) (s : Slot) → index ≡ false → Differ (T .parents) (putSlot T r j s .parents) →
-    Differ (T .parents) (applyWrites (cond right Nothing (PutObject o y)) (cond index Nothing (PutSlot r j s)) Nothing T .parents)
-unfolding applyWrites applyWrite putObject putSlot putParent
-mend-differs T true false o y r j s e d = d
-mend-differs T false false o y r j s e d = d
-mend-differs T right true o y r j s e d = absurd (true≢false e)
-
 changes-index : (T : Tables) (r j : ℕ) (f : OstFid) (n ost : ℕ) → slotAt (T .parents) r j ≡ Names f n ost → slotClassOf T r j (Names f n ost) ≡ WRONG-OST →
     Changes T (mendAt T OfWrongOst r j f n ost (objectRow (T .objects) f))
 unfolding Changes mendAt mendObject mendWrite indexWrite slotClassOf keeperClass objectOf objectInRow objectIn objectAt
@@ -201,7 +220,7 @@ changes-slot : (settings : Settings) (T : Tables) (r j : ℕ) (f : OstFid) (n os
 unfolding repairSlot changesSlots
 changes-slot settings T r j f n ost at HOLE e = changes-rests T
 changes-slot settings T r j f n ost at MULTIPLE e =
-    changes-when T (creates (settings .policy)) _ (changes-redirect T r j f n ost (settings .reserve) at (usable T (settings .reserve)) refl)
+    changes-when T (creates (settings .policy)) _ (changes-by settings T r j f n ost at (reusable T r j) refl)
 changes-slot settings T r j f n ost at DANGLING e =
     changes-when T (creates (settings .policy)) _ (changes-make T (newObject (T .parents) f r j ost) (freeObject (T .objects)))
 changes-slot settings T r j f n ost at BLANK e = changes-mend T OfBlank refl r j f n ost (objectRow (T .objects) f)

@@ -22,7 +22,7 @@ use Rattle.rules.specs.Keeper.{keeper, isPlace}
 use Rattle.rules.specs.Places.{way, claims, placeOf}
 use Rattle.rules.specs.Classes.{headerClass, claimedClass, claimClass, keeperClass, slotClassOf, slotClass, objectClass}
 use Rattle.rules.specs.Settings.{Settings, creates, adopts}
-use Rattle.rules.specs.Repairs.{putParent, putObject, applyWrite, applyWrites, ownHeader, withOwn, repairHeader, newObject, usable, redirectTo, redirect, makeObject, mended, mendWrite, indexWrite, mendObject, mendAt, repairSlot, makeParent, adoptBy, adopt, repairObject}
+use Rattle.rules.specs.Repairs.{putParent, putObject, applyWrite, applyWrites, ownHeader, withOwn, repairHeader, newObject, usable, redirectTo, redirect, reusable, reuse, redirectBy, makeObject, mended, mendWrite, indexWrite, mendObject, mendAt, repairSlot, makeParent, adoptBy, adopt, repairObject}
 use Rattle.rules.specs.Steps.{slotStep, partStep, objectStep, stepAt}
 use Rattle.rules.specs.Generations.{leavesSlots, Left, LeftStep}
 use Rattle.rules.specs.declared.Row.{Row}
@@ -92,6 +92,15 @@ left-redirect T r j ost (Takes f) = go (freeObject (T .objects))
     go NoRow = tt
     go (RowIs o) = λ l. absurd (true≢false (sym l))
 
+left-by : (settings : Settings) (T : Tables) (r j ost : ℕ) (a : Row) → Leaves T (redirectBy settings T r j ost a)
+unfolding Leaves leavesSlots redirectBy reuse
+left-by settings T r j ost NoRow = left-redirect T r j ost (usable T (settings .reserve))
+left-by settings T r j ost (RowIs o) = go (objectAt (T .objects) o)
+  where
+    go : (y : ObjectRow) → Leaves T (reuse (T .parents) r j o y)
+    go (unused b) = tt
+    go (used x) = λ l. absurd (true≢false (sym l))
+
 left-make : (T : Tables) (x : Object) (a : Row) → Leaves T (makeObject x a)
 unfolding Leaves makeObject applyWrites applyWrite putObject
 left-make T x NoRow = tt
@@ -151,7 +160,7 @@ left-slot : (settings : Settings) (T : Tables) (r j : ℕ) (f : OstFid) (n ost :
     Leaves T (repairSlot settings T r j f n ost c)
 unfolding repairSlot leavesSlots
 left-slot settings T r j f n ost HOLE e = left-rests T
-left-slot settings T r j f n ost MULTIPLE e = left-when T (creates (settings .policy)) _ (left-redirect T r j ost (usable T (settings .reserve)))
+left-slot settings T r j f n ost MULTIPLE e = left-when T (creates (settings .policy)) _ (left-by settings T r j ost (reusable T r j))
 left-slot settings T r j f n ost DANGLING e = left-when T (creates (settings .policy)) _ (left-make T (newObject (T .parents) f r j ost) (freeObject (T .objects)))
 left-slot settings T r j f n ost BLANK e = left-mend T OfBlank refl r j f n ost (objectRow (T .objects) f)
 left-slot settings T r j f n ost (UNMATCHED g i) e = left-mend T OfUnmatched refl r j f n ost (objectRow (T .objects) f)

@@ -26,7 +26,7 @@ use Rattle.rules.specs.Rows.{ownerOf, generationIn, freeParent, slotAt, 
 use Rattle.rules.specs.Places.{way, claims, placeOf}
 use Rattle.rules.specs.Classes.{headerClass, slotClass, objectClass}
 use Rattle.rules.specs.Settings.{Settings, creates, adopts}
-use Rattle.rules.specs.Repairs.{putParent, putObject, applyWrite, applyWrites, withSlots, withSlot, ownHeader, withOwn, withOwner, grown, made, repairHeader, usable, redirectTo, redirect, makeObject, mended, mendWrite, indexWrite, mendObject, mendAt, repairSlot, slotFor, ownerWrite, makeParent, destroyAt, destroyNamed, adoptBy, adopt, repairObject}
+use Rattle.rules.specs.Repairs.{putParent, putObject, applyWrite, applyWrites, withSlots, withSlot, ownHeader, withOwn, withOwner, grown, made, repairHeader, usable, redirectTo, redirect, reusable, reuse, redirectBy, makeObject, mended, mendWrite, indexWrite, mendObject, mendAt, repairSlot, slotFor, ownerWrite, makeParent, destroyAt, destroyNamed, adoptBy, adopt, repairObject}
 use Rattle.rules.specs.Steps.{slotStep, partStep, objectStep, stepAt}
 use Rattle.rules.specs.Runs.{Run, halt, after, onStep, run, stepTables}
 use Rattle.rules.specs.Generations.{GoesOn, Begins, RaisedStep, restripes, restripesFrom, restripings, RaisedRun}
@@ -187,6 +187,19 @@ raises-redirect T r j ost (Takes f) = go (freeObject (T .objects))
     go NoRow = raises-stops T 22
     go (RowIs o) = raises-second T _ _ _ (aside-object o _) (λ S. goes-at S r j _)
 
+raises-reuse : (T : Tables) (r j o : ℕ) (y : ObjectRow) → Raises T (reuse (T .parents) r j o y)
+unfolding reuse ownerWrite
+raises-reuse T r j o (unused b) = raises-rests T
+raises-reuse T r j o (used x) =
+    let owner : Owner = ownerOf (rowAt (T .parents) r) in
+    let new : Write = PutObject o (withOwner x owner) in
+    raises-second T _ (cond (sameOwner (x .owner) owner) Nothing new) _ (aside-when (sameOwner (x .owner) owner) new (aside-object o (withOwner x owner))) (λ S. goes-at S r j _)
+
+raises-by : (settings : Settings) (T : Tables) (r j ost : ℕ) (a : Row) → Raises T (redirectBy settings T r j ost a)
+unfolding redirectBy
+raises-by settings T r j ost NoRow = raises-redirect T r j ost (usable T (settings .reserve))
+raises-by settings T r j ost (RowIs o) = raises-reuse T r j o (objectAt (T .objects) o)
+
 raises-make : (T : Tables) (x : Object) (a : Row) → Raises T (makeObject x a)
 unfolding makeObject
 raises-make T x NoRow = raises-stops T 22
@@ -214,7 +227,7 @@ raises-mend T c r j f n ost (RowIs o) = go (objectAt (T .objects) o)
 raises-slot : (settings : Settings) (T : Tables) (r j : ℕ) (f : OstFid) (n ost : ℕ) (c : SlotClass) → Raises T (repairSlot settings T r j f n ost c)
 unfolding repairSlot
 raises-slot settings T r j f n ost HOLE = raises-rests T
-raises-slot settings T r j f n ost MULTIPLE = raises-when T (creates (settings .policy)) _ (raises-redirect T r j ost (usable T (settings .reserve)))
+raises-slot settings T r j f n ost MULTIPLE = raises-when T (creates (settings .policy)) _ (raises-by settings T r j ost (reusable T r j))
 raises-slot settings T r j f n ost DANGLING = raises-when T (creates (settings .policy)) _ (raises-make T _ (freeObject (T .objects)))
 raises-slot settings T r j f n ost BLANK = raises-mend T OfBlank r j f n ost (objectRow (T .objects) f)
 raises-slot settings T r j f n ost (UNMATCHED g i) = raises-mend T OfUnmatched r j f n ost (objectRow (T .objects) f)

@@ -1,7 +1,7 @@
 use mathlib.Core.Path.{refl}
 use Rattle.rules.specs.Repairs.{slotFor}
-use Rattle.decide_objects.proofs.slot_for.Statement.{statement}
-use Rattle.decide_objects.proofs.slot_for.Tie as tie
+use Rattle.taking.proofs.slot_for.Statement.{statement}
+use Rattle.taking.proofs.slot_for.Tie as tie
 
 returns : tie.Need-returns
 unfolding slotFor

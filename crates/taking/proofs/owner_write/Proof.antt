@@ -1,8 +1,8 @@
 use Rattle.rules.specs.Repairs.{withOwner}
-use Rattle.decide_objects.proofs.ObjectLaws.{owner-same, owner-other}
+use Rattle.taking.proofs.TakingLaws.{owner-same, owner-other}
 use borrow.Author.Needs.{needs}
-use Rattle.decide_objects.proofs.owner_write.Statement.{statement}
-use Rattle.decide_objects.proofs.owner_write.Tie as tie
+use Rattle.taking.proofs.owner_write.Statement.{statement}
+use Rattle.taking.proofs.owner_write.Tie as tie
 
 returns : tie.Need-returns
 returns c = owner-same _ _ _ (cc)
