@@ -68,6 +68,12 @@ enum {
     LFSCK_ADOPT = 2   /* put objects that no slot names in their places, destroy empty ones */
 };
 
+/* The tables that a step writes, as numbers. */
+enum {
+    LFSCK_TABLE_PARENTS = 0,
+    LFSCK_TABLE_OBJECTS = 1
+};
+
 /* The stages of a position. */
 enum {
     LFSCK_STAGE_PARENTS = 1, /* part 0 is a row's header, j + 1 its slot j */
@@ -150,6 +156,8 @@ enum {
     LFSCK_CLASS_NUMBERS = 4,    /* a class and what it carries */
     LFSCK_KEEPER_NUMBERS = 4,   /* a keeper and the slots compared */
     LFSCK_REPORT_NUMBERS = 10,  /* the report of a run */
+    LFSCK_WRITES_NUMBERS = 7,   /* the writes of a step: how many, and up to three rows */
+    LFSCK_ROW_NUMBERS = 2,      /* a row that is written: table and row */
     LFSCK_LINK_FIELDS = 4,      /* the header of a linkEA */
     LFSCK_RECORD_READ = 6,      /* a record of a linkEA that was read */
     LFSCK_RECORD_WRITE = 5,     /* a record of a linkEA to be written */
@@ -343,6 +351,50 @@ uint32_t lfsck_run(uint8_t *parents, size_t parents_bytes,
                    uint64_t policy, uint64_t most,
                    uint64_t *position, size_t position_count,
                    uint64_t *report, size_t report_count);
+
+/*
+ * The writes of the step at a position: which rows of the tables as they stand the step changes,
+ * and in which order they are to be stored. A row is written whole, a file with its layout. Where
+ * an orphan takes a place the order is its file, the orphan where its owner changes, and the row
+ * that is destroyed; in every other step it is the object and then the file. Rows that stay as they
+ * are are left out, so a step that repairs nothing has no writes. Nothing lent is changed but out.
+ *
+ *   parents, objects  the tables
+ *   reserve           as lfsck_run
+ *   policy            0 to 3
+ *   stage, row, part  the position; the end has no step
+ *   out               7 numbers, written: how many writes, at most 3; then table and row of each in
+ *                     their order; zeros in the places that are not used
+ *
+ * LFSCK_OK           the writes are in the first 7 numbers
+ * LFSCK_BAD_TABLE to LFSCK_FID_TWICE
+ *                    as lfsck_check
+ * LFSCK_NO_POSITION  there is no such position, or it is the end
+ * LFSCK_NO_ROOM      fewer than 7 numbers
+ * LFSCK_NO_RESERVE, LFSCK_NO_OBJECT_ROW, LFSCK_NO_PARENT_ROW
+ *                    the step cannot be made, as lfsck_run would answer; nothing is written
+ *
+ * A program that keeps its tables elsewhere, on disks say, repairs them so that it may be cut off
+ * between any two writes:
+ *
+ *   1. Read the tables, and take the start from lfsck_start.
+ *   2. Until the position is the end: ask for the writes of its step; make the step on the copy in
+ *      memory, lfsck_run with most 1; store the rows that were named, one after the other in that
+ *      order, each as the copy now has it, and each surely stored (fsync) before the next.
+ *   3. After a cut, begin again at 1, with the same policy and reserve. A position that was saved
+ *      before the cut is thrown away: a run that is taken up there may end with other tables.
+ *
+ * One row must be stored whole or not at all. Then the tables pass the check after every write, and
+ * a run from the start over them ends with the tables of the run without a cut, byte for byte, if
+ * that one answers LFSCK_OK and the steps are enough: as many as lfsck_steps counts after the cut,
+ * or more. The counts in the report may differ. Nothing is promised where the run without a cut
+ * stops, nor where whole tables are stored one after the other in place of rows.
+ */
+uint32_t lfsck_step_writes(const uint8_t *parents, size_t parents_bytes,
+                           const uint8_t *objects, size_t objects_bytes,
+                           const uint8_t *reserve, size_t reserve_bytes,
+                           uint64_t policy, uint64_t stage, uint64_t row, uint64_t part,
+                           uint64_t *out, size_t out_count);
 
 /*
  * A header is version (1 or 3), pattern, own id, own sequence, stripe size, stripe count and

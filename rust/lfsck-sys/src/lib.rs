@@ -18,6 +18,7 @@ mod layout;
 mod link;
 mod names;
 mod run;
+mod writes;
 
 pub use check::{check, start, steps};
 pub use class::{class, classes};
@@ -27,3 +28,4 @@ pub use layout::{layout_read, layout_slot, layout_write, slot_rewrite};
 pub use link::{link_read, link_record, link_write};
 pub use names::{names_find, names_judge, names_mend, names_pass};
 pub use run::run;
+pub use writes::step_writes;

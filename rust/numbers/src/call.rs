@@ -28,6 +28,16 @@ pub const KEEPER: usize = 4;
 pub const COUNTED: usize = 9;
 /// The numbers of a run's report: the steps and the counts.
 pub const REPORT: usize = 1 + COUNTED;
+/// The parent table as the table of a write.
+pub const TABLE_PARENTS: u64 = 0;
+/// The object table as the table of a write.
+pub const TABLE_OBJECTS: u64 = 1;
+/// The numbers of a row that is written: table and row.
+pub const ROW: usize = 2;
+/// The most writes of a step.
+pub const MOST_WRITES: usize = 3;
+/// The numbers of a step's writes: how many, and the rows.
+pub const WRITES: usize = 1 + ROW * MOST_WRITES;
 /// The numbers of a header that is read.
 pub const HEADER_READ: usize = 8;
 /// The numbers of a header that is written.

@@ -66,6 +66,8 @@ fn what_calls_are_handed() {
         ("LFSCK_CLASS_NUMBERS", call::CLASS),
         ("LFSCK_KEEPER_NUMBERS", call::KEEPER),
         ("LFSCK_REPORT_NUMBERS", call::REPORT),
+        ("LFSCK_WRITES_NUMBERS", call::WRITES),
+        ("LFSCK_ROW_NUMBERS", call::ROW),
         ("LFSCK_LINK_FIELDS", call::LINK_HEADER),
         ("LFSCK_RECORD_READ", call::LINK_READ),
         ("LFSCK_RECORD_WRITE", call::LINK_WRITTEN),
@@ -80,6 +82,8 @@ fn what_calls_are_handed() {
     for (name, number) in [
         ("LFSCK_CREATE", call::CREATE),
         ("LFSCK_ADOPT", call::ADOPT),
+        ("LFSCK_TABLE_PARENTS", call::TABLE_PARENTS),
+        ("LFSCK_TABLE_OBJECTS", call::TABLE_OBJECTS),
         ("LFSCK_STAGE_PARENTS", call::STAGE_PARENTS),
         ("LFSCK_STAGE_OBJECTS", call::STAGE_OBJECTS),
         ("LFSCK_STAGE_END", call::STAGE_END),
