@@ -10,6 +10,7 @@ mod layout;
 mod link;
 mod names;
 mod run;
+mod writes;
 
 pub use check::{check, start, steps};
 pub use class::{class, classes};
@@ -22,6 +23,7 @@ pub use layout::{
 pub use link::{LinkFault, LinkFaults, link_of_numbers, link_read, link_record, link_write};
 pub use names::{Working, names_find, names_judge, names_mend, names_pass};
 pub use run::run;
+pub use writes::step_writes;
 
 use crate::answer::{DONE, NO_ROOM};
 

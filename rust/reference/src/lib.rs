@@ -21,3 +21,4 @@ pub mod site;
 pub mod step;
 pub mod tables;
 mod take;
+pub mod writes;

@@ -108,8 +108,13 @@ fn repair_slot(
     Ok(true)
 }
 
-/// A new fresh object for the slot, under the first FID of the reserve that nothing uses.
+/// Gives the slot an object of its own: a fresh one that waits for it, or else a new one under the
+/// first FID of the reserve that nothing uses.
 fn redirect(site: &mut Site, place: Place, stripe: Stripe, reserve: &[Fid]) -> Result<(), Stop> {
+    if let Some(row) = waiting_row(site, place) {
+        take_place(site, row, place);
+        return Ok(());
+    }
     let is_used = |fid: Fid| site.object_row(fid).is_some() || site.named_by(fid).next().is_some();
     let unused = reserve.iter().copied().find(|&fid| !is_used(fid));
     let redirected = Stripe {
@@ -122,13 +127,30 @@ fn redirect(site: &mut Site, place: Place, stripe: Stripe, reserve: &[Fid]) -> R
     Ok(())
 }
 
+/// The first row with a fresh object that claims this very slot and that no slot names.
+pub(crate) fn waiting_row(site: &Site, place: Place) -> Option<usize> {
+    let waits = |object: &Object| {
+        object.fresh
+            && object.claim == site.claim_on(place)
+            && site.named_by(object.fid).next().is_none()
+    };
+    let rows = &site.tables().objects;
+    rows.iter().position(|row| row.as_ref().is_some_and(waits))
+}
+
+/// The first unused object row.
+pub(crate) fn unused_object_row(site: &Site) -> Option<usize> {
+    site.tables().objects.iter().position(Option::is_none)
+}
+
+/// The first unused parent row.
+pub(crate) fn unused_parent_row(site: &Site) -> Option<usize> {
+    site.tables().parents.iter().position(Option::is_none)
+}
+
 /// A fresh object for a slot that names, or is to name, it.
 fn make_object(site: &mut Site, place: Place, stripe: Stripe) -> Result<(), Stop> {
-    let objects = &site.tables().objects;
-    let row = objects
-        .iter()
-        .position(Option::is_none)
-        .ok_or(NO_OBJECT_ROW)?;
+    let row = unused_object_row(site).ok_or(NO_OBJECT_ROW)?;
     let object = site.parent(place.row).map(|parent| Object {
         fid: stripe.object,
         ost: stripe.ost,
@@ -197,11 +219,7 @@ fn adopt(site: &mut Site, orphan: usize) -> Result<(), Stop> {
 
 /// A file that has nothing but the orphan, in its last slot.
 fn make_parent(site: &mut Site, orphan: Object, fid: Fid, slot: usize) -> Result<(), Stop> {
-    let parents = &site.tables().parents;
-    let row = parents
-        .iter()
-        .position(Option::is_none)
-        .ok_or(NO_PARENT_ROW)?;
+    let row = unused_parent_row(site).ok_or(NO_PARENT_ROW)?;
     let mut slots = vec![None; slot];
     slots.push(Some(stripe_of(orphan)));
     let layout = Layout {
@@ -218,9 +236,9 @@ fn make_parent(site: &mut Site, orphan: Object, fid: Fid, slot: usize) -> Result
     Ok(())
 }
 
-/// The slot names the orphan, and the orphan has its file's owner.
-fn take_place(site: &mut Site, orphan: usize, place: Place) {
-    let Some(object) = site.object(orphan).copied() else {
+/// The slot names the object that claims it, and the object has its file's owner.
+fn take_place(site: &mut Site, row: usize, place: Place) {
+    let Some(object) = site.object(row).copied() else {
         return;
     };
     set_slot(site, place, stripe_of(object));
