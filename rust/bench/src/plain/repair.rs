@@ -12,7 +12,7 @@ use numbers::{object, parent};
 use super::bytes::{Fid, number16, number32, row, row_mut};
 use super::class::{Class, Way, header, object, slot, way};
 use super::layout::{is_hole, slot_start, stripe_count};
-use super::search::{object_row, slot_at, unused, usable};
+use super::search::{object_row, slot_at, unused, usable, waiting};
 
 /// The stripe size of a file that is made.
 const STRIPE_SIZE_MADE: u32 = 1 << 20;
@@ -56,13 +56,7 @@ fn slot_step(lent: &mut Lent, policy: u64, at: usize, index: usize) -> Stepped {
     };
     let create = policy & CREATE != 0;
     match slot(lent.parents, lent.objects, at, index) {
-        Class::Multiple if create => {
-            let fid = usable(lent.parents, lent.objects, lent.reserve).ok_or(NO_RESERVE)?;
-            make_object(lent, at, index, fid, ost)?;
-            write_slot(slot_mut(lent, at, index), fid, ost);
-            raise_generation(lent, at);
-            Ok(Some(1))
-        }
+        Class::Multiple if create => redirect(lent, at, index, ost),
         Class::Dangling if create => {
             make_object(lent, at, index, fid, ost)?;
             Ok(Some(2))
@@ -72,6 +66,34 @@ fn slot_step(lent: &mut Lent, policy: u64, at: usize, index: usize) -> Stepped {
         Class::Owner => Ok(mend(lent, at, index, fid, 5)),
         Class::WrongOst => Ok(mend(lent, at, index, fid, 8)),
         _ => Ok(None),
+    }
+}
+
+/// The slot gets a fresh object that waits for it, or else a new one.
+fn redirect(lent: &mut Lent, at: usize, index: usize, ost: u32) -> Stepped {
+    let claim = claim_on(lent, at, index);
+    let (fid, ost) = match waiting(lent.parents, lent.objects, claim) {
+        Some(object) => {
+            match_object(lent, at, index, object);
+            let own = row(lent.objects, object::BYTES, object);
+            (Fid::read(own, SELF_AT), number32(own, object::OST_AT))
+        }
+        None => {
+            let fid = usable(lent.parents, lent.objects, lent.reserve).ok_or(NO_RESERVE)?;
+            make_object(lent, at, index, fid, ost)?;
+            (fid, ost)
+        }
+    };
+    write_slot(slot_mut(lent, at, index), fid, ost);
+    raise_generation(lent, at);
+    Ok(Some(1))
+}
+
+/// The claim of an object that belongs in a slot.
+fn claim_on(lent: &Lent, at: usize, index: usize) -> Fid {
+    Fid {
+        version: index as u32,
+        ..Fid::read(row(lent.parents, parent::BYTES, at), SELF_AT)
     }
 }
 
@@ -95,11 +117,7 @@ fn mend(lent: &mut Lent, at: usize, index: usize, fid: Fid, count: usize) -> Opt
 fn matches(lent: &Lent, at: usize, index: usize, object: usize) -> bool {
     let parent = row(lent.parents, parent::BYTES, at);
     let object = row(lent.objects, object::BYTES, object);
-    let place = Fid {
-        version: index as u32,
-        ..Fid::read(parent, SELF_AT)
-    };
-    Fid::read(object, object::CLAIM_AT) == place
+    Fid::read(object, object::CLAIM_AT) == claim_on(lent, at, index)
         && object[object::OWNER_AT..object::CLAIM_AT] == parent[parent::OWNER_AT..parent::LENGTH_AT]
 }
 
@@ -160,11 +178,8 @@ fn make_object(lent: &mut Lent, at: usize, index: usize, fid: Fid, ost: u32) -> 
 
 /// The object claims the slot and has its file's owner.
 fn match_object(lent: &mut Lent, at: usize, index: usize, object: usize) {
+    let claim = claim_on(lent, at, index);
     let parent = row(lent.parents, parent::BYTES, at);
-    let claim = Fid {
-        version: index as u32,
-        ..Fid::read(parent, SELF_AT)
-    };
     let object = row_mut(lent.objects, object::BYTES, object);
     claim.write(object, object::CLAIM_AT);
     object[object::OWNER_AT..object::CLAIM_AT]

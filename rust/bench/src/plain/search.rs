@@ -123,3 +123,16 @@ pub fn usable(parents: &[u8], objects: &[u8], reserve: &[u8]) -> Option<Fid> {
         |fid: Fid| object_row(objects, fid).is_some() || first_naming(parents, fid).found.is_some();
     fids.into_iter().find(|&fid| !in_use(fid))
 }
+
+/// The first row with a fresh object that has this claim and that no slot names.
+pub fn waiting(parents: &[u8], objects: &[u8], claim: Fid) -> Option<usize> {
+    let mut rows = objects.chunks_exact(object::BYTES);
+    rows.position(|row| {
+        is_used(row)
+            && row[object::FRESH_AT] == 1
+            && Fid::read(row, object::CLAIM_AT) == claim
+            && first_naming(parents, Fid::read(row, object::SELF_AT))
+                .found
+                .is_none()
+    })
+}
