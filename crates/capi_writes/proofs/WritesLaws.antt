@@ -98,13 +98,16 @@ front : (v l : List ℕ) → length v ≡ writesSize → writesSize ≤ length l
 front v l e h = sets-front v l (omega arith) ∙ ap (λ (n : ℕ). v ++ drop n l) e
 
 module _ (l : List ℕ) (h : writesSize ≤ length l) (a b c : Write) where
+  -- what is handed out stands at the front
+  pub numbers-front : sets l 0 (writesNumbers (target a ++ target b ++ target c)) ≡ writesNumbers (target a ++ target b ++ target c) ++ drop writesSize l
+  numbers-front = front (writesNumbers (target a ++ target b ++ target c)) l (seven (target-short a) (target-short b) (target-short c)) h
+
   pub writes-put : (l₀ l₁ l₂ l₃ x : List ℕ) (i j k : ℕ) → l₀ ≡ sets l 0 (writesNumbers []) → Put 0 l₀ a i l₁ → Put i l₁ b j l₂ → Put j l₂ c k l₃ →
       x ≡ set l₃ 0 k → x ≡ sets l 0 (writesNumbers (target a ++ target b ++ target c))
   unfolding Put
   writes-put l₀ l₁ l₂ l₃ x i j k p q r s e =
       let f = front (writesNumbers []) l (seven none none none) h in
-      let g = front (writesNumbers (target a ++ target b ++ target c)) l (seven (target-short a) (target-short b) (target-short c)) h in
-      rw (e, s .1, s .0, r .1, r .0, q .1, q .0, p, f, g) (filled (drop writesSize l) (target-short a) (target-short b) (target-short c))
+      rw (e, s .1, s .0, r .1, r .0, q .1, q .0, p, f, numbers-front) (filled (drop writesSize l) (target-short a) (target-short b) (target-short c))
 
 -- ## The answer, and what is handed out
 

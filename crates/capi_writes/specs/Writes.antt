@@ -1,5 +1,5 @@
 -- The writes of a step as numbers: what its export hands out. Document 02, 2026-09.
-use Prim.Native.Nat.{ℕ}
+use Prim.Native.Nat.{ℕ, _+_, _*_}
 use mathlib.Core.List.{List, [], _∷_, _++_}
 use mathlib.Core.Bool.{cond}
 use lib.Dec.{eqb, ltb}
@@ -8,14 +8,18 @@ use lib.Seq.{sets}
 use Rattle.tables.specs.Check.{checkNumber}
 use Rattle.tables.specs.Positions.{isEnd}
 use Rattle.tables.specs.declared.Position.{Position}
-use Rattle.rules.specs.Cuts.{Target, object-row, destroyed-row, parent-row, target}
+use Rattle.rules.specs.Cuts.{Target, object-row, destroyed-row, parent-row, targets}
 use Rattle.rules.specs.declared.Step.{Step}
 use Rattle.rules.specs.declared.Step.the-variants.{Rests, Repairs, Stops}
 use Rattle.repair.specs.StepBytes.{stepOf}
 
--- "7 numbers"
+-- "three times table and row"
+abbrev pub mostWrites : ℕ
+mostWrites = 3
+
+-- "7 numbers": how many writes, and two for each
 abbrev pub writesSize : ℕ
-writesSize = 7
+writesSize = 1 + 2 * mostWrites
 
 -- "table (0 parents, 1 objects)"
 unfoldable pub tableOf : Target → ℕ
@@ -35,7 +39,7 @@ rowNumbers (t ∷ l) = tableOf t ∷ rowOf t ∷ rowNumbers l
 
 -- "how many writes, then three times table and row; unused places 0"
 unfoldable pub writesNumbers : List Target → List ℕ
-writesNumbers l = length l ∷ take 6 (rowNumbers l ++ replicate 6 0)
+writesNumbers l = length l ∷ take (2 * mostWrites) (rowNumbers l ++ replicate (2 * mostWrites) 0)
 
 -- ## The answer
 
@@ -55,8 +59,8 @@ writesAnswer parents objects reserve policy at out =
 
 -- with 21 to 23 nothing
 unfoldable pub told : Step → List ℕ → List ℕ
-told Rests out = sets out 0 (writesNumbers [])
-told (Repairs c x y z) out = sets out 0 (writesNumbers (target x ++ target y ++ target z))
+told Rests out = sets out 0 (writesNumbers (targets Rests))
+told (Repairs c x y z) out = sets out 0 (writesNumbers (targets (Repairs c x y z)))
 told (Stops n) out = out
 
 unfoldable pub writesOut : List ℕ → List ℕ → List ℕ → ℕ → Position → List ℕ → List ℕ

@@ -9,10 +9,13 @@ ghost use lib.ListN.{length};
 ghost use lib.Seq.{sets};
 ghost use Rattle.tables.specs.Positions.{place};
 ghost use Rattle.rules.specs.Cuts.{target};
-ghost use Rattle.capi_writes.specs.Writes.{writesSize, rowNumbers, writesNumbers, stepNumber, told, writesAnswer, writesOut};
+ghost use Rattle.capi_writes.specs.Writes.{mostWrites, writesSize, rowNumbers, writesNumbers, stepNumber, told, writesAnswer, writesOut};
 
-// The numbers that the writes of a step are told by: how many, then table and row of each.
-pub const WRITES_SIZE: usize = 7;
+// The most writes of a step.
+pub const MOST_WRITES: usize = 3;
+
+// The numbers that they are told by: how many, then table and row of each.
+pub const WRITES_SIZE: usize = 1 + 2 * MOST_WRITES;
 
 const PARENTS: u64 = 0;
 
@@ -20,7 +23,7 @@ const OBJECTS: u64 = 1;
 
 // Stores table and row of write n, counted from 0, and says which comes next.
 fn put_row(out: &mut [u64], n: usize, table: u64, row: usize) -> usize
-    requires { ⌜ (n < 3) × (writesSize ≤ length (now out)) ⌝ }
+    requires { ⌜ (n < mostWrites) × (writesSize ≤ length (now out)) ⌝ }
     ensures next { λ r. ⌜ r ≡ n + 1 ⌝ }
     ensures out { λ _. ⌜ now (out .exit) ≡ sets (now (out .entry)) (1 + 2 * n) (table ∷ row ∷ []) ⌝ }
 {
@@ -32,7 +35,7 @@ fn put_row(out: &mut [u64], n: usize, table: u64, row: usize) -> usize
 
 // The same of a write, which may be left out.
 fn put_write(out: &mut [u64], n: usize, w: Write) -> usize
-    requires { ⌜ (n < 3) × (writesSize ≤ length (now out)) ⌝ }
+    requires { ⌜ (n < mostWrites) × (writesSize ≤ length (now out)) ⌝ }
     ensures next { λ r. ⌜ r ≡ n + length (target w) ⌝ }
     ensures out { λ _. ⌜ now (out .exit) ≡ sets (now (out .entry)) (1 + 2 * n) (rowNumbers (target w)) ⌝ }
 {

@@ -75,6 +75,12 @@ target (PutSlot r j s) = parent-row r ∷ []
 target (GrowTo r i s) = parent-row r ∷ []
 target (Make r f w i s) = parent-row r ∷ []
 
+-- "Give each step as an ordered list of whole-record writes": the records that are written, of a step that rests or stops none
+unfoldable pub targets : Step → List Target
+targets rests = []
+targets (repairs k a b c) = target a ++ target b ++ target c
+targets (stops n) = []
+
 -- "when an orphan takes a place the layout, then the orphan's owner, then the destroyed row", which is another: the orphan's row is o
 pub data LayoutFirst (o : ℕ) : List Target → Type 0 where
   placed-alone : {r : ℕ} → LayoutFirst o (parent-row r ∷ [])
@@ -100,11 +106,11 @@ OrderFor o OfEmpty l = ObjectFirst l
 OrderFor o OfOrphan l = LayoutFirst o l
 OrderFor o OfWrongOst l = ObjectFirst l
 
--- the writes of the step at row o stand in that order, each of another record, and a repair makes at least one
+-- the list of the step at row o stands in that order, no record twice and at least one; and it is empty of a step that repairs nothing
 unfoldable pub InOrder : ℕ → Step → Type 0
-InOrder o rests = Unit {0}
-InOrder o (repairs k a b c) = OrderFor o k (target a ++ target b ++ target c)
-InOrder o (stops n) = Unit {0}
+InOrder o rests = targets rests ≡ []
+InOrder o (repairs k a b c) = OrderFor o k (targets (repairs k a b c))
+InOrder o (stops n) = targets (stops n) ≡ []
 
 -- ## A cut between two writes
 

@@ -4,16 +4,16 @@ use native.Mathlib.Nat.{mul-zero, mul-suc, zero-add, suc-add}
 use native.Mathlib.Omega.{arith}
 use mathlib.Core.Path.{_≡_, refl, sym, ap, _∙_}
 use mathlib.Core.List.{List, [], _∷_, _++_, map}
-use lib.ListN.{length, getD, take, drop, set, length-set}
+use lib.ListN.{length, getD, take, drop, set, replicate, length-set}
 use lib.Seq.{sets, take-nil, drop-nil, take-at, drop-append-add}
 use Rattle.wire.proofs.Splice.{sets-mid, sets-whole}
 use Rattle.tables.specs.Records.{unused, Tables}
-use Rattle.tables.specs.Bytes.{parentSize, objectSize, renderParent, renderObject, parse, join, renderParents, renderObjects}
+use Rattle.tables.specs.Bytes.{parentSize, objectSize, renderRow, renderParent, renderObject, parse, join, renderParents, renderObjects}
 use Rattle.tables.specs.Positions.{rowAt}
 use Rattle.tables.proofs.WritableRows.{FitParent, FitObject, parent-length, object-length}
 use Rattle.tables.proofs.ParseLaws.{FitTables, tables-read-back}
 use Rattle.rules.specs.Rows.{objectAt}
-use Rattle.rules.specs.Repairs.{putParent, putObject}
+use Rattle.rules.specs.Repairs.{destroyed, putParent, putObject}
 use Rattle.rules.specs.Cuts.{Target, object-row, destroyed-row, parent-row}
 use Rattle.theorems.specs.Calls.{Lent}
 use Rattle.theorems.specs.Cuts.{copyRow, stored, storedAll}
@@ -63,6 +63,18 @@ module _ {R : Type 0} (write : R → List ℕ) (size : ℕ) (d : R) where
       ap (λ (k : ℕ). drop k (write y ++ join (map write ys))) n ∙ drop-append-add (write y) (join (map write ys)) (size * i) in
       rw (m, z, sets-past (write x) (join (map write xs)) (take size (drop (size * i) (join (map write ys)))) (size * i))
       (ap (λ (t : List ℕ). write x ++ t) (copy-row xs ys i (λ r k. a (suc r) (omega arith)) (λ r k. b (suc r) (omega arith)) (omega arith)))
+
+  -- a row of the bytes
+  row-of : (ws : List R) (i : ℕ) → Sized ws → i < length ws → take size (drop (size * i) (join (map write ws))) ≡ write (getD ws i d)
+  unfolding Sized join
+  row-of [] i a h = absurd (omega arith)
+  row-of (w ∷ ws) zero a h =
+      let p : length (write w) ≡ size = a 0 (omega arith) in
+      rw (mul-zero, take-at (write w) (join (map write ws)) size p)
+  row-of (w ∷ ws) (suc i) a h =
+      let p : length (write w) ≡ size = a 0 (omega arith) in
+      let m : size * suc i ≡ length (write w) + size * i = omega (arith, mul-suc size i) in
+      rw (m, drop-append-add (write w) (join (map write ws)) (size * i)) (row-of ws i (λ r k. a (suc r) (omega arith)) (omega arith))
 
 -- what holds of every row of both tables holds of every row of a table with one row copied
 module _ {R : Type 0} (P : R → Type 0) (d : R) where
@@ -176,3 +188,9 @@ module _ (Y : Tables) where
   stored-stays X x h e =
       let q : written (copied Y x X) ≡ written X = sym (stored-copied X x h) ∙ e in
       sym (tables-read-back (copied Y x X) (alike-copied X x h .fits)) ∙ ap (λ (t : Lent). parse (t .parents) (t .objects)) q ∙ tables-read-back X (h .fits)
+
+-- "A destroyed row becomes zero throughout"
+pub destroyed-zero : (Y : Tables) → FitTables Y → (k : ℕ) → k < length (Y .objects) → objectAt (Y .objects) k ≡ destroyed →
+    take objectSize (drop (objectSize * k) (renderObjects Y)) ≡ replicate objectSize 0
+unfolding renderObjects objectAt renderObject renderRow destroyed
+destroyed-zero Y f k h e = row-of renderObject objectSize (unused []) (Y .objects) k (sized-objects Y f) h ∙ ap renderObject e

@@ -1,15 +1,16 @@
 -- The first records of a step, put one after the other, are the first of its writes. Assumes nothing.
-use Prim.Native.Nat.{ℕ, zero, suc}
+use Prim.Native.Nat.{ℕ, zero, suc, _<_}
+use native.Mathlib.Decide.{decLt}
 use native.Mathlib.Omega.{arith}
 use mathlib.Core.Path.{_≡_, refl, sym, ap, subst, _∙_}
 use mathlib.Core.List.{List, [], _∷_, _++_, append-nil, append-assoc, List·Memᴰ, List·Memᴰ·cases-cons, List·Memᴰ·not-nil}
 use mathlib.Core.Logic.{_⊎_, inl, inr, ⊎-elim}
 use lib.ListN.{length, getD, take, set, length-set}
-use lib.Seq.{getD-set-other, set-comm, take-nil}
+use lib.Seq.{getD-set-same, getD-set-other, set-out, set-comm, take-nil}
 use Rattle.tables.specs.Records.{ParentRow, ObjectRow, unused, Tables}
 use Rattle.tables.specs.Positions.{rowAt}
 use Rattle.rules.specs.Rows.{objectAt}
-use Rattle.rules.specs.Repairs.{putParent, putObject, applyWrite, applyWrites}
+use Rattle.rules.specs.Repairs.{destroyed, putParent, putObject, applyWrite, applyWrites}
 use Rattle.rules.specs.declared.Write.{Write}
 use Rattle.rules.specs.declared.Write.the-variants.{Nothing, Object as PutObject, Destroy, Own, Slot as PutSlot, Grow as GrowTo, Make}
 use Rattle.rules.specs.declared.Repair.{Repair}
@@ -17,8 +18,7 @@ use Rattle.rules.specs.declared.Repair.the-variants.{OfSelf, OfMultiple, OfDang
 use Rattle.rules.specs.declared.Step.{Step}
 use Rattle.rules.specs.declared.Step.the-variants.{Rests as rests, Repairs as repairs, Stops as stops}
 use Rattle.rules.specs.Runs.{stepTables}
-use Rattle.rules.specs.Cuts.{Changes, EachChanges, Target, object-row, destroyed-row, parent-row, target, LayoutFirst, placed-alone, placed-owned, placed-emptied, placed-both, ObjectFirst, object-alone, destroyed-alone, layout-alone, object-layout, OrderFor, InOrder, firstWrites, cutStep}
-use Rattle.theorems.specs.Cuts.{targets}
+use Rattle.rules.specs.Cuts.{Changes, EachChanges, Target, object-row, destroyed-row, parent-row, target, targets, LayoutFirst, placed-alone, placed-owned, placed-emptied, placed-both, ObjectFirst, object-alone, destroyed-alone, layout-alone, object-layout, OrderFor, InOrder, firstWrites, cutStep}
 use Rattle.theorems.proofs.CutRows.{copied, copiedAll}
 
 -- ## No record twice
@@ -74,14 +74,14 @@ order-once o OfWrongOst l h = object-once h
 data OneRow (Z : Tables) : List Target → Tables → Type 0 where
   no-row : OneRow Z [] Z
   an-object : (o : ℕ) (w : ObjectRow) → OneRow Z (object-row o ∷ []) (putObject Z o w)
-  a-destroyed : (o : ℕ) (w : ObjectRow) → OneRow Z (destroyed-row o ∷ []) (putObject Z o w)
+  a-destroyed : (o : ℕ) → OneRow Z (destroyed-row o ∷ []) (putObject Z o destroyed)
   a-parent : (r : ℕ) (w : ParentRow) → OneRow Z (parent-row r ∷ []) (putParent Z r w)
 
 one-row : (Z : Tables) (w : Write) → OneRow Z (target w) (applyWrite Z w)
 unfolding target applyWrite
 one-row Z Nothing = no-row
 one-row Z (PutObject o x) = an-object o _
-one-row Z (Destroy o) = a-destroyed o _
+one-row Z (Destroy o) = a-destroyed o
 one-row Z (Own r) = a-parent r _
 one-row Z (PutSlot r j s) = a-parent r _
 one-row Z (GrowTo r i s) = a-parent r _
@@ -105,9 +105,9 @@ one-other Z X x no-row h = refl
 one-other Z X (object-row q) (an-object o w) h = other-object Z X q o w (h .0)
 one-other Z X (destroyed-row q) (an-object o w) h = other-object Z X q o w (h .0)
 one-other Z X (parent-row q) (an-object o w) h = refl
-one-other Z X (object-row q) (a-destroyed o w) h = other-object Z X q o w (h .0)
-one-other Z X (destroyed-row q) (a-destroyed o w) h = other-object Z X q o w (h .0)
-one-other Z X (parent-row q) (a-destroyed o w) h = refl
+one-other Z X (object-row q) (a-destroyed o) h = other-object Z X q o destroyed (h .0)
+one-other Z X (destroyed-row q) (a-destroyed o) h = other-object Z X q o destroyed (h .0)
+one-other Z X (parent-row q) (a-destroyed o) h = refl
 one-other Z X (object-row q) (a-parent r w) h = refl
 one-other Z X (destroyed-row q) (a-parent r w) h = refl
 one-other Z X (parent-row q) (a-parent r w) h = other-parent Z X q r w (h .0)
@@ -123,7 +123,7 @@ one-copied : (X : Tables) {l : List Target} {S : Tables} → OneRow X l S → co
 unfolding copiedAll copied putObject putParent objectAt rowAt
 one-copied X no-row = refl
 one-copied X (an-object o w) = λ i. record { parents = X .parents; objects = put-again (X .objects) o w (unused []) i }
-one-copied X (a-destroyed o w) = λ i. record { parents = X .parents; objects = put-again (X .objects) o w (unused []) i }
+one-copied X (a-destroyed o) = λ i. record { parents = X .parents; objects = put-again (X .objects) o destroyed (unused []) i }
 one-copied X (a-parent r w) = λ i. record { parents = put-again (X .parents) r w (unused []) i; objects = X .objects }
 
 -- ## A list of writes
@@ -187,9 +187,9 @@ module _ (ws : List Write) (X : Tables) (more : (S : Tables) (m : ℕ) → NoTwi
   first-more zero (an-object o w) h = record { writes = 0; same = refl }
   first-more (suc m) (an-object o w) h =
       one-more (object-row o) ws X (putObject X o w) m (h .0) (one-copied X (an-object o w)) (more (putObject X o w) m (h .1))
-  first-more zero (a-destroyed o w) h = record { writes = 0; same = refl }
-  first-more (suc m) (a-destroyed o w) h =
-      one-more (destroyed-row o) ws X (putObject X o w) m (h .0) (one-copied X (a-destroyed o w)) (more (putObject X o w) m (h .1))
+  first-more zero (a-destroyed o) h = record { writes = 0; same = refl }
+  first-more (suc m) (a-destroyed o) h =
+      one-more (destroyed-row o) ws X (putObject X o destroyed) m (h .0) (one-copied X (a-destroyed o)) (more (putObject X o destroyed) m (h .1))
   first-more zero (a-parent r w) h = record { writes = 0; same = refl }
   first-more (suc m) (a-parent r w) h =
       one-more (parent-row r) ws X (putParent X r w) m (h .0) (one-copied X (a-parent r w)) (more (putParent X r w) m (h .1))
@@ -214,8 +214,8 @@ module _ (ws : List Write) (X : Tables) (more : (S : Tables) → NoTwice (names 
   whole-first no-row h = more X h
   whole-first (an-object o w) h =
       whole-more (object-row o) ws X (putObject X o w) (h .0) (one-copied X (an-object o w)) (more (putObject X o w) (h .1))
-  whole-first (a-destroyed o w) h =
-      whole-more (destroyed-row o) ws X (putObject X o w) (h .0) (one-copied X (a-destroyed o w)) (more (putObject X o w) (h .1))
+  whole-first (a-destroyed o) h =
+      whole-more (destroyed-row o) ws X (putObject X o destroyed) (h .0) (one-copied X (a-destroyed o)) (more (putObject X o destroyed) (h .1))
   whole-first (a-parent r w) h =
       whole-more (parent-row r) ws X (putParent X r w) (h .0) (one-copied X (a-parent r w)) (more (putParent X r w) (h .1))
 
@@ -289,10 +289,10 @@ needed-first ws X no-row more c h y m e = more y m h e
 needed-first ws X (an-object o w) more c h y m e =
     let S = putObject X o w in
     needed-one ws X S more (object-row o) c h (one-copied X (an-object o w)) (λ z n. stays-object (makes ws S) X o w z n) y m e
-needed-first ws X (a-destroyed o w) more c h y m e =
-    let S = putObject X o w in
-    needed-one ws X S more (destroyed-row o) c h (one-copied X (a-destroyed o w))
-    (λ z n. stays-object (makes ws S) X o w z (other-destroyed o z n)) y m e
+needed-first ws X (a-destroyed o) more c h y m e =
+    let S = putObject X o destroyed in
+    needed-one ws X S more (destroyed-row o) c h (one-copied X (a-destroyed o))
+    (λ z n. stays-object (makes ws S) X o destroyed z (other-destroyed o z n)) y m e
 needed-first ws X (a-parent r w) more c h y m e =
     let S = putParent X r w in
     needed-one ws X S more (parent-row r) c h (one-copied X (a-parent r w)) (λ z n. stays-parent (makes ws S) X r w z n) y m e
@@ -306,6 +306,53 @@ unfolding makes names AllChange
 needed-writes [] X h c y m e = absurd (List·Memᴰ·not-nil m)
 needed-writes (w ∷ ws) X h c y m e =
     needed-first ws X (one-row X w) (λ z l k. needed-writes ws (applyWrite X w) k (c .1) z l) (left-out X w (c .0)) h y m e
+
+-- ## A destroyed row
+
+-- a write that isn't of row k leaves what stands there, and so do more of them
+one-beside : (Z : Tables) (k : ℕ) {l : List Target} {S : Tables} → OneRow Z l S → AllOther (destroyed-row k) l → objectAt (S .objects) k ≡ objectAt (Z .objects) k
+unfolding AllOther Other putObject putParent objectAt
+one-beside Z k no-row h = refl
+one-beside Z k (an-object o w) h = getD-set-other (Z .objects) o k w (unused []) (h .0)
+one-beside Z k (a-destroyed o) h = getD-set-other (Z .objects) o k destroyed (unused []) (h .0)
+one-beside Z k (a-parent r w) h = refl
+
+all-beside : (ws : List Write) (Z : Tables) (k : ℕ) → AllOther (destroyed-row k) (names ws) → objectAt (makes ws Z .objects) k ≡ objectAt (Z .objects) k
+unfolding makes names
+all-beside [] Z k h = refl
+all-beside (w ∷ ws) Z k h =
+    let a = other-append (destroyed-row k) (target w) (names ws) h in
+    all-beside ws (applyWrite Z w) k (a .1) ∙ one-beside Z k (one-row Z w) (a .0)
+
+-- row k is destroyed by the first write or by one of those after it
+module _ (ws : List Write) (X : Tables) (k : ℕ) (inside : k < length (X .objects))
+    (more : (S : Tables) → NoTwice (names ws) → List·Memᴰ (destroyed-row k) (names ws) → k < length (S .objects) → objectAt (makes ws S .objects) k ≡ destroyed) where
+  gone-later : (x : Target) (S : Tables) → (destroyed-row k ≡ x → ⊥) → k < length (S .objects) → NoTwice (names ws) → List·Memᴰ (destroyed-row k) (x ∷ names ws) →
+      objectAt (makes ws S .objects) k ≡ destroyed
+  gone-later x S n v h m = ⊎-elim (λ e. absurd (n e)) (λ q. more S h q v) (List·Memᴰ·cases-cons m)
+
+  gone-here : (o : ℕ) → k ≡ o → AllOther (destroyed-row o) (names ws) → objectAt (makes ws (putObject X o destroyed) .objects) k ≡ destroyed
+  unfolding putObject objectAt
+  gone-here o e h =
+      all-beside ws (putObject X o destroyed) k (subst (λ (i : ℕ). AllOther (destroyed-row i) (names ws)) (sym e) h)
+      ∙ ap (λ (i : ℕ). getD (set (X .objects) i destroyed) k (unused [])) (sym e) ∙ getD-set-same (X .objects) k destroyed (unused []) inside
+
+  gone-first : {l : List Target} {S : Tables} → OneRow X l S → NoTwice (l ++ names ws) → List·Memᴰ (destroyed-row k) (l ++ names ws) →
+      objectAt (makes ws S .objects) k ≡ destroyed
+  unfolding NoTwice putObject putParent
+  gone-first no-row h m = more X h m inside
+  gone-first (an-object o w) h m =
+      gone-later (object-row o) (putObject X o w) (λ e. let z : _≡_ {A = ℕ} 0 1 = cc in omega arith) (rw (length-set (X .objects) o w) inside) (h .1) m
+  gone-first (a-destroyed o) h m =
+      ⊎-elim (λ e. gone-here o (let d : k ≡ o = cc in d) (h .0))
+      (λ q. more (putObject X o destroyed) (h .1) q (rw (length-set (X .objects) o destroyed) inside)) (List·Memᴰ·cases-cons m)
+  gone-first (a-parent r w) h m = gone-later (parent-row r) (putParent X r w) (λ e. let z : _≡_ {A = ℕ} 0 1 = cc in omega arith) inside (h .1) m
+
+gone-writes : (ws : List Write) (X : Tables) (k : ℕ) → NoTwice (names ws) → List·Memᴰ (destroyed-row k) (names ws) → k < length (X .objects) →
+    objectAt (makes ws X .objects) k ≡ destroyed
+unfolding makes names
+gone-writes [] X k h m v = absurd (List·Memᴰ·not-nil m)
+gone-writes (w ∷ ws) X k h m v = gone-first ws X k v (λ S n q u. gone-writes ws S k n q u) (one-row X w) h m
 
 -- ## A step
 
@@ -330,7 +377,7 @@ first-three (suc (suc zero)) a b c X = refl
 first-three (suc (suc (suc j))) a b c X = ap (λ (l : List Write). makes l (applyWrite (applyWrite (applyWrite X a) b) c)) (take-nil j)
 
 written-once : (o : ℕ) (k : Repair) (a b c : Write) → InOrder o (repairs k a b c) → NoTwice (names (a ∷ b ∷ c ∷ []))
-unfolding InOrder
+unfolding InOrder targets
 written-once o k a b c h = subst NoTwice (names-three a b c) (order-once o k (target a ++ target b ++ target c) h)
 
 -- the first m records of a step that are put as it leaves them are the first so many of its writes
@@ -362,6 +409,20 @@ needed-copied o (stops n) X h c x m e = absurd (List·Memᴰ·not-nil m)
 needed-copied o (repairs k a b d) X h c x m e =
     needed-writes (a ∷ b ∷ d ∷ []) X (written-once o k a b d h) (c .0, (c .1, (c .2, tt))) x (subst (List·Memᴰ x) (targets-are k a b d) m) e
 
+-- a row that it destroys is there, and is destroyed
+pub gone-copied : (o : ℕ) (u : Step) (X : Tables) → InOrder o u → EachChanges X u → (k : ℕ) → List·Memᴰ (destroyed-row k) (targets u) →
+    (k < length (X .objects)) × (objectAt (stepTables u X .objects) k ≡ destroyed)
+unfolding targets stepTables makes applyWrites copied putObject
+gone-copied o rests X h c k m = absurd (List·Memᴰ·not-nil m)
+gone-copied o (stops n) X h c k m = absurd (List·Memᴰ·not-nil m)
+gone-copied o (repairs r a b d) X h c k m = go (decLt k (length (X .objects)))
+  where
+    go : Dec (k < length (X .objects)) → (k < length (X .objects)) × (objectAt (applyWrites a b d X .objects) k ≡ destroyed)
+    go (yes v) = (v, gone-writes (a ∷ b ∷ d ∷ []) X k (written-once o r a b d h) (subst (List·Memᴰ (destroyed-row k)) (targets-are r a b d) m) v)
+    go (no n) =
+        absurd (needed-copied o (repairs r a b d) X h c (destroyed-row k) m
+        (λ i. record { parents = X .parents; objects = set-out (X .objects) k (objectAt (applyWrites a b d X .objects) k) (omega arith) i }))
+
 -- no table changes its number of rows
 SameSize : Tables → Tables → Type 0
 SameSize S X = (length (S .parents) ≡ length (X .parents)) × (length (S .objects) ≡ length (X .objects))
@@ -370,7 +431,7 @@ one-size : (X : Tables) {l : List Target} {S : Tables} → OneRow X l S → Same
 unfolding SameSize putObject putParent
 one-size X no-row = (refl, refl)
 one-size X (an-object o w) = (refl, length-set (X .objects) o w)
-one-size X (a-destroyed o w) = (refl, length-set (X .objects) o w)
+one-size X (a-destroyed o) = (refl, length-set (X .objects) o destroyed)
 one-size X (a-parent r w) = (length-set (X .parents) r w, refl)
 
 write-size : (X : Tables) (w : Write) → SameSize (applyWrite X w) X

@@ -16,12 +16,12 @@ use Rattle.rules.specs.Runs.{Run, halt, run, stepTables}
 use Rattle.rules.specs.Calls.{runOf}
 use Rattle.rules.specs.Promises.{Ended, then, uncut as uncutRecords}
 use Rattle.rules.specs.Settings.{Settings, settingsOf}
-use Rattle.rules.specs.Cuts.{Target, cutTables, CutMended as CutMendedRecords, CutsMended}
+use Rattle.rules.specs.Cuts.{Target, targets, cutTables, CutMended as CutMendedRecords, CutsMended}
 use Rattle.steps.specs.Ran.{Ran, rendered}
 use Rattle.steps.proofs.Standing.{Good, reserve-fits}
 use Rattle.theorems.specs.Calls.{Lent, tablesOf, Accepted, ran, left, leaves, AtEnd, fromStart, uncut}
 use Rattle.theorems.specs.Promises.{Begins}
-use Rattle.theorems.specs.Cuts.{storedAll, targets, stepTargets, nextTargets, cutAt, CutMended, EveryCut, Cut, cutsAt, EveryCuts}
+use Rattle.theorems.specs.Cuts.{storedAll, stepTargets, nextTargets, cutAt, CutMended, EveryCut, Cut, cutsAt, EveryCuts}
 use Rattle.theorems.proofs.FromRules.{a-then-b, run-makes, exists-is, start-exists, FitReserve, writes-ordered, cuts-mended, cut-fits}
 use Rattle.theorems.proofs.Written.{written, good-read, good-run, Parts}
 use Rattle.theorems.proofs.EveryRun.{Says, says-read, says-sound, request, ran-accepted, accepts}

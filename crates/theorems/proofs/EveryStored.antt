@@ -1,26 +1,29 @@
 -- The writes of a step on bytes: its records, stored in order, are what it changes. Assumes nothing.
-use Prim.Native.Nat.{ℕ}
+use Prim.Native.Nat.{ℕ, _*_}
+use native.Mathlib.Omega.{arith}
 use mathlib.Core.Path.{_≡_, refl, sym, ap, _∙_}
 use mathlib.Core.Bool.{Bool, true, false}
 use mathlib.Core.List.{List, List·Memᴰ}
+use lib.ListN.{take, drop, replicate}
 use Rattle.wire.specs.Numbers.{Bytes}
 use Rattle.tables.specs.Records.{Tables}
+use Rattle.tables.specs.Bytes.{objectSize}
 use Rattle.tables.specs.Positions.{isPosition, isEnd, place}
 use Rattle.tables.specs.declared.Position.{Position}
 use Rattle.rules.specs.declared.Step.{Step}
-use Rattle.rules.specs.declared.Step.the-variants.{Rests as rests, Repairs as repairs, Stops as stops}
+use Rattle.rules.specs.declared.Step.the-variants.{Rests as rests}
 use Rattle.rules.specs.Steps.{stepAt}
 use Rattle.rules.specs.Runs.{run, stepTables}
 use Rattle.rules.specs.Calls.{runOf}
 use Rattle.rules.specs.Settings.{Settings, settingsOf}
-use Rattle.rules.specs.Cuts.{Target, InOrder}
+use Rattle.rules.specs.Cuts.{Target, destroyed-row, targets, InOrder}
 use Rattle.theorems.specs.Calls.{Lent, tablesOf, call, Accepted, leaves}
-use Rattle.theorems.specs.Cuts.{stored, storedAll, targets, stepTargets, Ordered, EveryStored}
+use Rattle.theorems.specs.Cuts.{stored, storedAll, stepTargets, EveryStored}
 use Rattle.theorems.proofs.FromRules.{run-makes, is-end, writes-ordered, writes-change}
 use Rattle.theorems.proofs.Written.{written, Parts}
 use Rattle.theorems.proofs.EveryRun.{Says, sound-says, request, parts, leaves-says, run-one, run-one-end}
-use Rattle.theorems.proofs.CutRows.{Alike, stored-written, stored-stays}
-use Rattle.theorems.proofs.CutWrites.{whole-copied, needed-copied}
+use Rattle.theorems.proofs.CutRows.{Alike, stored-written, stored-stays, destroyed-zero}
+use Rattle.theorems.proofs.CutWrites.{whole-copied, needed-copied, gone-copied}
 
 -- ## One step of the rules' run
 
@@ -38,12 +41,6 @@ module _ (settings : Settings) where
           let s : stepAt settings X p ≡ rests = ap (stepAt settings X) (is-end p e) ∙ end-rests X in
           run-one-end settings X p e ∙ ap (λ (u : Step). stepTables u X) (sym s)
       go false e = run-one settings X p e
-
-list-ordered : (o : ℕ) (u : Step) → InOrder o u → Ordered o u (targets u)
-unfolding InOrder Ordered targets
-list-ordered o rests h = refl
-list-ordered o (repairs k a b c) h = h
-list-ordered o (stops n) h = refl
 
 -- ## A step on bytes
 
@@ -96,9 +93,21 @@ module _ (policy : ℕ) (reserve : List ℕ) (t : Lent) (p : Position) (a : Byte
       ∙ k ∙ before .bytes in
       needed-copied (p .row) (stepAt R T p) T ordered (writes-change R T p (before .good .distinct) exists) x m (stored-stays Y T x alike q)
 
+  zeroed : (k : ℕ) → List·Memᴰ (destroyed-row k) (targets (stepAt R T p)) →
+      take objectSize (drop (objectSize * k) (leaves t (call policy reserve 1 p) .objects)) ≡ replicate objectSize 0
+  unfolding written
+  zeroed k m =
+      let g = gone-copied (p .row) (stepAt R T p) T ordered (writes-change R T p (before .good .distinct) exists) k m in
+      ap (λ (u : Lent). take objectSize (drop (objectSize * k) (u .objects))) leaves-is
+      ∙ destroyed-zero Y (alike .others) k (let z = alike .size in let h = g .0 in omega arith) (g .1)
+
 -- "Give each step as an ordered list of whole-record writes": of every step
 pub every-stored : EveryStored
 unfolding EveryStored stepTargets
 every-stored policy reserve t p a b e h =
-    let o = ordered policy reserve t p a b e h in
-    record { ordered = list-ordered (p .row) (stepAt (settingsOf policy reserve) (tablesOf t) p) o; whole = whole policy reserve t p a b e h; needed = needed policy reserve t p a b e h }
+    record {
+      ordered = ordered policy reserve t p a b e h;
+      whole = whole policy reserve t p a b e h;
+      needed = needed policy reserve t p a b e h;
+      zeroed = zeroed policy reserve t p a b e h;
+    }

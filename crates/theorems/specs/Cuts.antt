@@ -2,19 +2,17 @@
 -- Document 02, 2026-09.
 use Prim.Native.Nat.{ℕ, suc, _*_, _≤_}
 use mathlib.Core.Path.{_≡_}
-use mathlib.Core.List.{List, [], _∷_, _++_, List·Memᴰ}
-use lib.ListN.{take, drop}
+use mathlib.Core.List.{List, [], _∷_, List·Memᴰ}
+use lib.ListN.{take, drop, replicate}
 use lib.Seq.{sets}
 use Rattle.wire.specs.Numbers.{Bytes}
 use Rattle.tables.specs.Bytes.{parentSize, objectSize}
 use Rattle.tables.specs.Check.{Sound}
 use Rattle.tables.specs.Positions.{countSteps}
 use Rattle.tables.specs.declared.Position.{Position}
-use Rattle.rules.specs.declared.Step.{Step}
-use Rattle.rules.specs.declared.Step.the-variants.{Rests as rests, Repairs as repairs, Stops as stops}
 use Rattle.rules.specs.Steps.{stepAt}
 use Rattle.rules.specs.Settings.{settingsOf}
-use Rattle.rules.specs.Cuts.{Target, object-row, destroyed-row, parent-row, target, OrderFor}
+use Rattle.rules.specs.Cuts.{Target, object-row, destroyed-row, parent-row, targets, InOrder}
 use Rattle.theorems.specs.Calls.{Lent, tablesOf, call, Accepted, ran, left, leaves, AtEnd, fromStart, uncut}
 use Rattle.theorems.specs.Promises.{Begins}
 
@@ -35,30 +33,21 @@ unfoldable pub storedAll : Lent → List Target → Lent → Lent
 storedAll u [] t = t
 storedAll u (x ∷ xs) t = storedAll u xs (stored u x t)
 
--- "Give each step as an ordered list of whole-record writes", "unchanged records are left out": one that rests or stops has none
-unfoldable pub targets : Step → List Target
-targets rests = []
-targets (repairs k a b c) = target a ++ target b ++ target c
-targets (stops n) = []
-
--- those of the step at a position
+-- the records that the step at a position writes
 unfoldable pub stepTargets : ℕ → List ℕ → Lent → Position → List Target
 stepTargets policy reserve t p = targets (stepAt (settingsOf policy reserve) (tablesOf t) p)
 
--- "when an orphan takes a place the layout, then the orphan's owner, then the destroyed row; in every other step the object, then the layout":
--- the list l stands so for a step at row o, no record twice and at least one; and it is empty of a step that repairs nothing
-unfoldable pub Ordered : ℕ → Step → List Target → Type 0
-Ordered o rests l = l ≡ []
-Ordered o (repairs k a b c) l = OrderFor o k l
-Ordered o (stops n) l = l ≡ []
-
 -- the step at position p of tables t
 pub record StepStored (policy : ℕ) (reserve : List ℕ) (t : Lent) (p : Position) : Type 0 where
-  pub ordered : Ordered (p .row) (stepAt (settingsOf policy reserve) (tablesOf t) p) (stepTargets policy reserve t p)
+  -- "when an orphan takes a place the layout, then the orphan's owner, then the destroyed row; in every other step the object, then the layout"
+  pub ordered : InOrder (p .row) (stepAt (settingsOf policy reserve) (tablesOf t) p)
   -- its records, stored in order, make the tables that it leaves: no other has changed
   pub whole : storedAll (leaves t (call policy reserve 1 p)) (stepTargets policy reserve t p) t ≡ leaves t (call policy reserve 1 p)
   -- "unchanged records are left out": to store any one of them changes the tables
   pub needed : (x : Target) → List·Memᴰ x (stepTargets policy reserve t p) → stored (leaves t (call policy reserve 1 p)) x t ≡ t → ⊥
+  -- "A destroyed row becomes zero throughout"
+  pub zeroed : (o : ℕ) → List·Memᴰ (destroyed-row o) (stepTargets policy reserve t p) →
+      take objectSize (drop (objectSize * o) (leaves t (call policy reserve 1 p) .objects)) ≡ replicate objectSize 0
 
 -- of each step of a call that isn't refused
 unfoldable pub EveryStored : Type 0

@@ -1,20 +1,21 @@
 use mathlib.Core.Path.{sym, ap, _∙_}
 use denote.Ref.{now}
 use Rattle.rules.specs.declared.Step.{Step}
+use Rattle.rules.specs.Cuts.{targets}
 use Rattle.capi_writes.specs.Writes.{stepNumber, told}
 use borrow.Author.Needs.{needs}
 use Rattle.capi_writes.proofs.tell.Statement.{statement}
 use Rattle.capi_writes.proofs.tell.Tie as tie
 
 returns : tie.Need-returns
-unfolding stepNumber told
+unfolding stepNumber told targets
 returns c =
     let a = c .before .before .before .before .before .before .before .args in
     let e = sym (c .before .before .before .before .enum-told .given .1) in
     (ap stepNumber e, c .before .before .put-none .ensures ∙ ap (λ (d : Step). told d (now (a .out))) e)
 
 returns-2 : tie.Need-returns-2
-unfolding stepNumber told
+unfolding stepNumber told targets
 returns-2 c =
     let a = c .before .before .before .before .before .before .before .before .args in
     let e = sym (c .before .before .before .before .before .d .given .1) in

@@ -3,4 +3,4 @@ pub use Rattle.rules.proofs.Theorem.{At, BLANK, Bool, CLEAN, CLEAN-HEAD
 unfoldable pub use Rattle.rules.proofs.Theorem.{Ended, adopt, adoptBy, adopts, after, applyWrite, applyWrites, changed, claimClass, claimIn, claimedClass, claims, countSteps, creates, destroyAt, destroyNamed, destroyed, freeObject, freeParent, fromObject, grown, halt, hasFid, headerClass, headerQuiet, holesIn, indexWrite, isEnd, isObject, isParent, isPlace, isPosition, isReusable, isUnused, isWay, keeper, keeperClass, longer, made, makeObject, makeParent, mendAt, mendObject, mendWrite, mended, named, namedElse, namesAt, newObject, next, objectAt, objectClass, objectClassOf, objectIn, objectInRow, objectOf, objectRow, objectStep, onStep, ownerOf, ownerWrite, parentRow, partStep, place, putObject, putParent, putSlot, quietAt, quietPart, quietSlot, redirect, redirectBy, redirectTo, repairHeader, repairObject, repairSlot, restriped, reusable, reuse, rowAt, rowWay, run, sameFid, sameOwner, samePlace, scan, selfOf, settled, slotAt, slotClass, slotClassOf, slotFor, slotNames, slotStep, slotWay, slotsOf, start, stepAt, stepsLeft, tailOf, takeable, then, uncut, unnamedClass, usable, way, width, withClaim, withOwner, withSlot, withSlots}
 pub use Rattle.rules.specs.declared.Repair.the-variants.{OfSelf, OfMultiple, OfDangling, OfOrphan}
 pub use Rattle.rules.specs.Cuts.{Reused, Redirects, CutMended, Target, object-row, destroyed-row, parent-row, LayoutFirst, placed-alone, placed-owned, placed-emptied, placed-both, ObjectFirst, object-alone, destroyed-alone, layout-alone, object-layout}
-unfoldable pub use Rattle.rules.specs.Cuts.{Changes, EachChanges, target, OrderFor, InOrder, firstWrites, cutStep, cutTables, CutsMended}
+unfoldable pub use Rattle.rules.specs.Cuts.{Changes, EachChanges, target, targets, OrderFor, InOrder, firstWrites, cutStep, cutTables, CutsMended}
