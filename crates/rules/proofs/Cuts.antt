@@ -1,6 +1,7 @@
 -- The cut between two writes: the theorems that `specs/Cuts.antt` states.
 pub mod Ordered
 unfoldable pub use Ordered.*
+use Rattle.rules.proofs.WriteOrder.{by-found}
 
 -- ## A redirect
 
@@ -50,7 +51,7 @@ pub redirects : (settings : Settings) (T : Tables) (r j : ℕ) (f : OstFid) (n o
 unfolding stepAt place partStep slotStep repairSlot redirectBy reuse slotFor isReusable
 redirects settings T r j f n ost at class create =
     record {
-      reused = λ o x h. rw (at, class, create, found-reused T r j o x h, h .there);
+      reused = λ o x h. rw (at, class, create, found-reused T r j o x h) (by-found settings T r j ost o x (h .there));
       taken = λ none. rw (at, class, create) (go none (reusable T r j) refl);
     }
   where

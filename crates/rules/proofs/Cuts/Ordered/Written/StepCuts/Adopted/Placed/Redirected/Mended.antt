@@ -1,6 +1,7 @@
 -- A keeper's object is mended, cut between the object and the layout: claim and owner are right then, and the slot is WRONG-OST.
 pub mod Standing
 unfoldable pub use Standing.*
+use Rattle.rules.proofs.WriteOrder.{index-to-slot}
 
 -- a slot that isn't MULTIPLE is the keeper
 pub not-second : (T : Tables) (r j : ℕ) (f : OstFid) (n ost : ℕ) → slotAt (T .parents) r j ≡ Names f n ost → (slotClass T r j ≡ MULTIPLE → ⊥) → keeper T f ≡ At r j
@@ -73,19 +74,11 @@ module _ (settings : Settings) (s : Stand) (last : s .position ≡ place 3 0 0) 
       unfolding mendWrite y mended withClaim
       nothing-left = rw (claim-here (Claims (placeOf (rowAt (T .parents) r) j)) (placeOf (rowAt (T .parents) r) j) refl, owner-refl (ownerOf (rowAt (T .parents) r)))
 
-      index-left : indexWrite r j f n ost (y .ost) ≡ PutSlot r j (Names f n (x .ost))
-      unfolding indexWrite y mended withClaim
-      index-left = rw wrong
-
       goes-on : stepAt settings C (place 1 r (suc j)) ≡ repairs OfWrongOst Nothing (PutSlot r j (Names f n (x .ost))) Nothing
-      unfolding stepAt place partStep slotStep repairSlot mendAt mendObject C putObject
-      goes-on = rw (at, class, found-there, here) (ap₂ (λ (a b : Write). repairs OfWrongOst a b Nothing) object index)
-        where
-          object : mendWrite (T .parents) r j o y ≡ Nothing
-          object = nothing-left
-
-          index : indexWrite r j f n ost (y .ost) ≡ PutSlot r j (Names f n (x .ost))
-          index = index-left
+      unfolding stepAt place partStep slotStep repairSlot mendAt C y mended withClaim putObject
+      goes-on =
+          rw (at, class, found-there, here)
+          (index-to-slot (T .parents) OfWrongOst r j f n ost o y wrong ∙ ap (λ (a : Write). repairs OfWrongOst a (PutSlot r j (Names f n (x .ost))) Nothing) nothing-left)
 
       quiet-before : Done settings C (place 1 r (suc j))
       unfolding C quietAt quietPart place putObject
