@@ -1,7 +1,6 @@
 -- The cut between two writes: the theorems that `specs/Cuts.antt` states.
 pub mod Ordered
 unfoldable pub use Ordered.*
-use Rattle.rules.proofs.WriteOrder.{by-found}
 
 -- ## A redirect
 

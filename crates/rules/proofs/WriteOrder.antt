@@ -1,6 +1,6 @@
 -- The writes of each repair, as it builds them: in the request's order. Document 02, 2026-09. Assumes nothing.
 use Prim.Native.Nat.{ℕ}
-use mathlib.Core.Path.{_≡_, refl, sym, subst}
+use mathlib.Core.Path.{_≡_, refl, sym, ap, subst}
 use mathlib.Core.Bool.{Bool, true, false, cond, _&&_}
 use mathlib.Core.List.{List, [], _∷_, _++_}
 use lib.Dec.{eqb}
@@ -23,10 +23,9 @@ use Rattle.rules.specs.declared.Usable.{Usable}
 use Rattle.rules.specs.declared.Usable.the-variants.{Takes, UsedUp}
 use Rattle.rules.specs.declared.Way.the-variants.{Fill, Grow, Take}
 use Rattle.rules.specs.declared.Repair.{Repair}
-use Rattle.rules.specs.declared.Repair.the-variants.{OfMultiple, OfOrphan}
-use Rattle.rules.specs.declared.Write.{Write}
-use Rattle.rules.specs.declared.Write.the-variants.{Nothing, Object as PutObject, Slot as PutSlot, Grow as GrowTo}
-use Rattle.rules.specs.declared.Step.the-variants.{Rests as rests, Repairs as repairs, Stops as stops}
+use Rattle.rules.specs.declared.Repair.the-variants.{OfMultiple}
+use Rattle.rules.specs.declared.Write.the-variants.{Nothing, Object as PutObject, Slot as PutSlot}
+use Rattle.rules.specs.declared.Step.the-variants.{Repairs as repairs}
 
 -- ## A redirect: the object, then the layout
 
@@ -36,7 +35,7 @@ module _ (settings : Settings) (T : Tables) (r j ost : ℕ) where
       redirectBy settings T r j ost (RowIs o)
       ≡ repairs OfMultiple (ownerWrite o x (ownerOf (rowAt (T .parents) r))) (PutSlot r j (Names (x .fid) 0 (x .ost))) Nothing
   unfolding redirectBy reuse slotFor
-  by-found o x e = rw e
+  by-found o x e = ap (λ (w : ObjectRow). reuse (T .parents) r j o w) e
 
   redirect-order : (a : Usable) → InOrder r (redirect T r j ost a)
   unfolding InOrder targets OrderFor target redirect redirectTo
@@ -71,7 +70,7 @@ module _ (rows : List ParentRow) (c : Repair) (r j : ℕ) (f : OstFid) (n ost o 
   pub index-to-slot : eqb (x .ost) ost ≡ false →
       mendObject rows c r j f n ost o (used x) ≡ repairs c (mendWrite rows r j o x) (PutSlot r j (Names f n (x .ost))) Nothing
   unfolding mendObject indexWrite
-  index-to-slot e = rw e
+  index-to-slot e = ap (λ (b : Bool). repairs c (mendWrite rows r j o x) (cond b Nothing (PutSlot r j (Names f n (x .ost)))) Nothing) e
 
   pub mend-none : right ≡ true → eqb (x .ost) ost ≡ true → mendObject rows c r j f n ost o (used x) ≡ repairs c Nothing Nothing Nothing
   unfolding mendObject mendWrite indexWrite

@@ -1,7 +1,6 @@
 -- The writes of a step stand in the order that the request gives them.
 pub mod Written
 unfoldable pub use Written.*
-use Rattle.rules.proofs.WriteOrder.{by-order, mend-none, mend-order, fill-order, grow-order, take-order}
 
 left-out : (T : Tables) → applyWrites Nothing Nothing Nothing T ≡ T
 unfolding applyWrites applyWrite

@@ -1,7 +1,6 @@
 -- A keeper's object is mended, cut between the object and the layout: claim and owner are right then, and the slot is WRONG-OST.
 pub mod Standing
 unfoldable pub use Standing.*
-use Rattle.rules.proofs.WriteOrder.{index-to-slot}
 
 -- a slot that isn't MULTIPLE is the keeper
 pub not-second : (T : Tables) (r j : ℕ) (f : OstFid) (n ost : ℕ) → slotAt (T .parents) r j ≡ Names f n ost → (slotClass T r j ≡ MULTIPLE → ⊥) → keeper T f ≡ At r j
