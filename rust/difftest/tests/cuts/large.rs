@@ -30,24 +30,28 @@ const OTHER_OST: u32 = 5;
 const OWNER: Owner = Owner { uid: 7, gid: 8 };
 const OTHER_OWNER: Owner = Owner { uid: 9, gid: 8 };
 
-/// The objects by their ids.
+/// The objects by their ids. NAMED, DATA, LATER and WAITING claim the same slot: a slot names the
+/// first, the second has data, and the third comes after the last.
 const A: u32 = 1;
 const NAMED: u32 = 2;
-const BLANK: u32 = 3;
-const ELSEWHERE: u32 = 4;
-const OWNED: u32 = 5;
-const FRESH: u32 = 6;
+const DATA: u32 = 3;
+const LATER: u32 = 4;
+const WAITING: u32 = 5;
+const BLANK: u32 = 6;
+const ELSEWHERE: u32 = 7;
+const OWNED: u32 = 8;
+const FRESH: u32 = 9;
+const TAKER: u32 = 10;
+const MAKER: u32 = 11;
+const GROWER: u32 = 12;
+const FILLER: u32 = 13;
+const EMPTY: u32 = 14;
+/// One that is not there.
+const ABSENT: u32 = 15;
 /// The FID of the reserve that nothing uses.
-const NEW: u32 = 7;
+const NEW: u32 = 16;
 
-/// Some rows of objects, counted from the end.
-const WAITING: usize = 2;
-const TAKER: usize = 8;
-const MAKER: usize = 9;
-const GROWER: usize = 10;
-const FILLER: usize = 11;
-const EMPTY: usize = 12;
-/// The first unused row. Another follows it.
+/// The first unused object row, counted from the end. Another follows it.
 const UNUSED: usize = 14;
 
 fn file_fid(row: usize) -> Fid {
@@ -66,19 +70,15 @@ fn stripe(id: u32) -> Option<Stripe> {
     })
 }
 
-/// The objects that the last slots of the last file name, the last first; none of the fifth is
-/// there.
-const NAMES: [u32; 8] = [A, A, A, BLANK, 99, ELSEWHERE, OWNED, FRESH];
+/// The objects that the last slots of the last file name, the last first.
+const NAMES: [u32; 8] = [A, A, A, BLANK, ABSENT, ELSEWHERE, OWNED, FRESH];
 
 /// The slots of the file in a row. In the last one each slot names an object.
 fn slots(row: usize) -> Vec<Option<Stripe>> {
     let id = |slot: usize| (MOST_SLOTS * (row + 1) + slot) as u32;
     let mut slots = vec![None; if row == SHORT { 10 } else { MOST_SLOTS }];
     if row == LAST {
-        slots
-            .iter_mut()
-            .enumerate()
-            .for_each(|(slot, to)| *to = stripe(id(slot)));
+        slots = (0..MOST_SLOTS).map(|slot| stripe(id(slot))).collect();
         let last = slots.iter_mut().rev().zip(NAMES);
         last.for_each(|(slot, id)| *slot = stripe(id));
     } else {
@@ -153,18 +153,18 @@ fn last_rows() -> [Option<Object>; UNUSED] {
         ..data(OWNED, LAST, 1993)
     };
     [
-        Some(fresh(11, LAST, 1997)),
-        Some(elsewhere(fresh(12, LAST, 1997))),
+        Some(fresh(LATER, LAST, 1997)),
+        Some(elsewhere(fresh(WAITING, LAST, 1997))),
         Some(data(A, LAST, 1998)),
         Some(blank),
         Some(elsewhere(data(ELSEWHERE, LAST, 1994))),
         Some(owned),
         Some(fresh(FRESH, LAST, 1992)),
-        Some(elsewhere(data(13, LAST, 1992))),
-        Some(elsewhere(data(14, MOST_PARENTS, 1999))),
-        Some(elsewhere(data(15, SHORT, 1999))),
-        Some(data(16, HOLED, 1000)),
-        Some(fresh(17, HOLED, 1001)),
+        Some(elsewhere(data(TAKER, LAST, 1992))),
+        Some(elsewhere(data(MAKER, MOST_PARENTS, 1999))),
+        Some(elsewhere(data(GROWER, SHORT, 1999))),
+        Some(data(FILLER, HOLED, 1000)),
+        Some(fresh(EMPTY, HOLED, 1001)),
         None,
         None,
     ]
@@ -189,7 +189,7 @@ impl Large {
         }
         let mut rows: Vec<_> = (0..objects).map(|row| Some(spare(row))).collect();
         rows[0] = Some(fresh(NAMED, LAST, 1997));
-        rows[1] = Some(data(18, LAST, 1997));
+        rows[1] = Some(data(DATA, LAST, 1997));
         let last = rows.iter_mut().rev().zip(last_rows());
         for (row, object) in last.filter(|(_, object)| !full || object.is_some()) {
             *row = object;
@@ -211,9 +211,14 @@ impl Large {
         }
     }
 
-    /// The object row that is so many before the end.
-    fn from_end(&self, rows: usize) -> usize {
-        self.site.tables().objects.len() - rows
+    /// The row of an object.
+    fn row_of(&self, id: u32) -> usize {
+        self.site.object_row(object_fid(id)).expect("an object")
+    }
+
+    /// The first unused object row.
+    fn unused(&self) -> usize {
+        self.site.tables().objects.len() - UNUSED
     }
 
     /// Both sides tell these writes of a step, or this stop.
@@ -238,10 +243,10 @@ impl Large {
     /// What a redirect of the last slot, a redirect to the object that waits and an orphan that
     /// takes a place write.
     fn expect_three(&self) {
-        let [unused, waiting, taker] = [UNUSED, WAITING, TAKER].map(|row| self.from_end(row));
-        self.expect(slot(1999), Ok(vec![O(unused), F(LAST)]));
-        self.expect(slot(1997), Ok(vec![O(waiting), F(LAST)]));
-        let wanted = vec![F(LAST), O(taker), O(taker + 1)];
+        self.expect(slot(1999), Ok(vec![O(self.unused()), F(LAST)]));
+        self.expect(slot(1997), Ok(vec![O(self.row_of(WAITING)), F(LAST)]));
+        let [taker, destroyed] = [TAKER, FRESH].map(|id| self.row_of(id));
+        let wanted = vec![F(LAST), O(taker), O(destroyed)];
         self.expect(Position::Object { row: taker }, Ok(wanted));
     }
 }
@@ -277,33 +282,31 @@ fn records(out: &[u64; WRITES + 1]) -> Vec<Record> {
 fn every_kind_of_step_in_large_tables() {
     let started = Instant::now();
     let large = Large::of(20_000, false);
-    let row = |rows| large.from_end(rows);
+    let row = |id| large.row_of(id);
     large.expect_three();
-    let header = Position::Header { row: LAST };
     for (position, wanted) in [
-        (header, vec![F(LAST)]),
+        (Position::Header { row: LAST }, vec![F(LAST)]),
         (Position::Header { row: FREE }, vec![]),
         (slot(1998), vec![]),
-        (slot(1996), vec![O(row(4)), F(LAST)]),
-        (slot(1995), vec![O(row(UNUSED))]),
-        (slot(1994), vec![O(row(5)), F(LAST)]),
-        (slot(1993), vec![O(row(6))]),
+        (slot(1996), vec![O(row(BLANK)), F(LAST)]),
+        (slot(1995), vec![O(large.unused())]),
+        (slot(1994), vec![O(row(ELSEWHERE)), F(LAST)]),
+        (slot(1993), vec![O(row(OWNED))]),
         (slot(1992), vec![]),
     ] {
         large.expect(position, Ok(wanted));
     }
     for (row, wanted) in [
-        (1, vec![]),
-        (2, vec![]),
+        (row(DATA), vec![]),
         (row(MAKER), vec![F(FREE)]),
         (row(GROWER), vec![F(SHORT), O(row(GROWER))]),
         (row(FILLER), vec![F(HOLED)]),
         (row(EMPTY), vec![O(row(EMPTY))]),
-        (row(UNUSED), vec![]),
+        (large.unused(), vec![]),
     ] {
         large.expect(Position::Object { row }, Ok(wanted));
     }
-    println!("18 lists in {:.1} s", started.elapsed().as_secs_f64());
+    println!("large tables in {:.1} s", started.elapsed().as_secs_f64());
 }
 
 #[test]
@@ -311,7 +314,7 @@ fn stops_in_large_tables() {
     let started = Instant::now();
     let mut large = Large::of(20_000, true);
     let maker = Position::Object {
-        row: large.from_end(MAKER),
+        row: large.row_of(MAKER),
     };
     large.expect(slot(1999), Err(22));
     large.expect(slot(1995), Err(22));
@@ -319,14 +322,16 @@ fn stops_in_large_tables() {
     large.reserve = reserve(&[NAMED]);
     large.fids = read_reserve(&large.reserve, &mut Faults::new());
     large.expect(slot(1999), Err(21));
-    let waiting = large.from_end(WAITING);
-    large.expect(slot(1997), Ok(vec![O(waiting), F(LAST)]));
-    println!("5 steps in {:.1} s", started.elapsed().as_secs_f64());
+    large.expect(slot(1997), Ok(vec![O(large.row_of(WAITING)), F(LAST)]));
+    println!("full tables in {:.1} s", started.elapsed().as_secs_f64());
 }
 
 #[test]
 fn writes_in_the_greatest_tables() {
     let started = Instant::now();
     Large::of(MOST_OBJECTS, false).expect_three();
-    println!("3 lists in {:.1} s", started.elapsed().as_secs_f64());
+    println!(
+        "greatest tables in {:.1} s",
+        started.elapsed().as_secs_f64()
+    );
 }
