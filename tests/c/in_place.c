@@ -15,8 +15,7 @@
 
 enum {
     MOST_WRITES = 3, /* of a step */
-    MOST_CUTS = 64,
-    STRIDE = 3 /* every third write of the repair after a kill is killed, too */
+    MOST_CUTS = 64
 };
 
 /* The kinds of steps, and how many writes they have. */
@@ -329,8 +328,9 @@ static void test_second_kills(void)
         int holds;
 
         while (kill_twice(at, second, &holds))
-            second += STRIDE;
-        snprintf(name, sizeof name, "killed at write %lu, and again before write %lu", at, second);
+            second++;
+        snprintf(name, sizeof name, "killed at write %lu, and at each of %lu after it", at,
+                 second - 1);
         check(name, holds);
     }
 }

@@ -19,7 +19,7 @@ use reference::tables::{Claim, Tables};
 use side::{LIBRARY, Lent, REFERENCE, Side, Terms};
 
 /// The lists that are asked for.
-const LISTS: u64 = 300_000;
+const LISTS: u64 = 500_000;
 /// The seconds that all cuts of the library may take.
 const SECONDS: f64 = 60.0;
 
@@ -88,22 +88,30 @@ fn random_case(random: &mut Random) -> (Lent, Terms) {
     (Lent { parents, objects }, terms)
 }
 
-/// Lets some objects claim one slot, fresh or with data, named or not.
+/// Lets a slot name what another names, and some objects claim it, fresh or with data, named or not.
 fn crowd(tables: &mut Tables, random: &mut Random) {
-    let mut places = Vec::new();
-    for parent in tables.parents.iter().flatten() {
-        let slots = 0..parent.layout.slots.len() as u32;
-        places.extend(slots.map(|index| Claim {
-            parent: parent.fid,
-            index,
-        }));
+    let mut named = Vec::new();
+    for (row, parent) in tables.parents.iter().enumerate() {
+        let slots = parent.iter().flat_map(|parent| &parent.layout.slots);
+        let stripes = slots.enumerate();
+        named.extend(stripes.filter_map(|(slot, stripe)| Some((row, slot, (*stripe)?.object))));
     }
-    if places.is_empty() {
+    if named.is_empty() {
         return;
     }
-    let claim = random.pick(&places);
+    let ((row, slot, _), (.., object)) = (random.pick(&named), random.pick(&named));
+    let Some(parent) = &mut tables.parents[row] else {
+        return;
+    };
+    if let Some(stripe) = &mut parent.layout.slots[slot] {
+        stripe.object = object;
+    }
+    let claim = Claim {
+        parent: parent.fid,
+        index: slot as u32,
+    };
     for object in tables.objects.iter_mut().flatten() {
-        if random.one_in(2) {
+        if random.one_in(3) {
             object.claim = Some(claim);
             object.fresh = !random.one_in(3);
         }
