@@ -120,9 +120,9 @@ static int put_file(struct content *to, uint64_t own_id, const uint8_t *named, s
 }
 
 /*
- * Every kind of repair, with and without its second write. Object 0x10 + i is the one of slot i, and
- * 0x20 + i waits for slot i or is an orphan that claims it. The rows that N and 0x14 need are the
- * only unused ones.
+ * Every kind of repair, with and without its second write. Object 0x10 + i is the one of slot i,
+ * and 0x20 + i waits for slot i or is an orphan that claims it. The rows that N and 0x14 need are
+ * the only unused ones.
  */
 static int put_damaged(struct content *to)
 {
