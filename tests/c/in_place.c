@@ -188,8 +188,9 @@ static void put_bytes(const char *name, const void *bytes, size_t count)
     int file;
 
     path_of(path, folder, name);
-    file = open(path, O_WRONLY | O_CREAT | O_TRUNC, 0666);
-    if (file < 0 || write(file, bytes, count) != (ssize_t)count || close(file) != 0)
+    file = open(path, O_WRONLY | O_CREAT, 0666);
+    if (file < 0 || write(file, bytes, count) != (ssize_t)count ||
+        ftruncate(file, (off_t)count) != 0 || close(file) != 0)
         die(path);
 }
 

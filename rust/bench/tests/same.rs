@@ -2,7 +2,7 @@
 
 use bench::input::{Shape as Size, Tables};
 use bench::plain;
-use difftest::tables::{OBJECTS, Shape, damage, random_tables, to_bytes};
+use difftest::tables::{OBJECTS, Shape, TINY, crowd, damage, random_tables, to_bytes};
 use difftest::{Coverage, Random};
 use numbers::call::{self, END, REPORT};
 use numbers::fid::FIRST_SEQUENCE;
@@ -153,8 +153,9 @@ fn the_writes_are_those_of_the_library() {
     let mut random = Random::for_test("plain writes");
     let mut answers = Coverage::of("plain writes", [0, 12, 16, 21, 22, 23]);
     let mut numbers = Coverage::of("plain writes of a step", 0..=call::MOST_WRITES as u64);
-    for _ in 0..3_000 {
-        let tables = random_tables(SHAPE, &mut random);
+    for _ in 0..10_000 {
+        let mut tables = random_tables(TINY, &mut random);
+        crowd(&mut tables, &mut random);
         let (parents, objects) = to_bytes(&tables, &mut random);
         let mut reserve: Vec<u8> = OBJECTS.iter().flat_map(|fid| fid.to_bytes()).collect();
         reserve.truncate(16 * random.below(11));
@@ -175,7 +176,7 @@ fn the_writes_are_those_of_the_library() {
         }
     }
     answers.require(100);
-    numbers.require(100);
+    numbers.require(20);
 }
 
 #[test]

@@ -13,9 +13,8 @@ use std::time::Instant;
 
 use cut::Tried;
 use difftest::Random;
-use difftest::tables::{OBJECTS, Shape, random_tables, to_bytes};
+use difftest::tables::{OBJECTS, Shape, crowd, random_tables, to_bytes};
 use lists::Asked;
-use reference::tables::{Claim, Tables};
 use side::{LIBRARY, Lent, REFERENCE, Side, Terms};
 
 /// The lists that are asked for.
@@ -86,36 +85,6 @@ fn random_case(random: &mut Random) -> (Lent, Terms) {
         reserve: random_reserve(random),
     };
     (Lent { parents, objects }, terms)
-}
-
-/// Lets a slot name what another names, and some objects claim it, fresh or with data, named or not.
-fn crowd(tables: &mut Tables, random: &mut Random) {
-    let mut named = Vec::new();
-    for (row, parent) in tables.parents.iter().enumerate() {
-        let slots = parent.iter().flat_map(|parent| &parent.layout.slots);
-        let stripes = slots.enumerate();
-        named.extend(stripes.filter_map(|(slot, stripe)| Some((row, slot, (*stripe)?.object))));
-    }
-    if named.is_empty() {
-        return;
-    }
-    let ((row, slot, _), (.., object)) = (random.pick(&named), random.pick(&named));
-    let Some(parent) = &mut tables.parents[row] else {
-        return;
-    };
-    if let Some(stripe) = &mut parent.layout.slots[slot] {
-        stripe.object = object;
-    }
-    let claim = Claim {
-        parent: parent.fid,
-        index: slot as u32,
-    };
-    for object in tables.objects.iter_mut().flatten() {
-        if random.one_in(3) {
-            object.claim = Some(claim);
-            object.fresh = !random.one_in(3);
-        }
-    }
 }
 
 /// Few FIDs, with repeats and with those of rows and slots.
