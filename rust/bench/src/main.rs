@@ -295,6 +295,7 @@ fn keepers(
 fn measure_writes(rounds: usize) {
     let shape = Shape {
         objects: WRITTEN,
+        reserve: WRITTEN,
         ..Shape::THOUSAND
     };
     let tables = Tables::damaged(shape);
