@@ -1,314 +1,200 @@
 /*
- * Tables that are kept in files and repaired there, row by row, so that the program may be killed
- * between any two writes.
+ * The program of row_store.h, and tests that kill it.
  *
- *   in_place DIR POLICY [STEPS]  repairs DIR/parents.tbl and DIR/objects.tbl with the FIDs of
- *                                DIR/reserve.tbl; pauses after so many steps
- *   in_place                     tests that: kills it at every write of a damaged case
+ *   in_place DIR POLICY  repairs DIR/parents.tbl and DIR/objects.tbl with the FIDs of
+ *                        DIR/reserve.tbl
+ *   in_place             tests that: kills it at every write of damaged tables, and again in the
+ *                        repair after a kill; and shows what loses
  */
 #define _XOPEN_SOURCE 700
-#include <errno.h>
-#include <fcntl.h>
-#include <signal.h>
-#include <stdlib.h>
-#include <string.h>
-#include <sys/stat.h>
 #include <sys/wait.h>
-#include <unistd.h>
 
-#include "lfsck_layout.h"
+#include "damaged.h"
 #include "report.h"
-
-/* A table in memory and the file that it is kept in. */
-struct table {
-    uint8_t *rows;
-    size_t bytes;
-    int file;
-};
-
-/* What a repair works on. */
-struct site {
-    const char *folder;
-    struct table tables[2]; /* by the number of the table */
-    struct table reserve;
-    uint64_t policy;
-    uint64_t position[LFSCK_POSITION_NUMBERS];
-    unsigned long stored;  /* the rows stored so far */
-    unsigned long kill_at; /* the test: die after so many; 0 is never */
-};
-
-static const size_t row_bytes[2] = {LFSCK_PARENT_BYTES, LFSCK_OBJECT_BYTES};
-static const char position_name[] = "in_place.position";
-
-static void die(const char *what)
-{
-    perror(what);
-    exit(2);
-}
-
-static void path_of(char path[4096], const char *folder, const char *name)
-{
-    if (snprintf(path, 4096, "%s/%s", folder, name) >= 4096) {
-        errno = ENAMETOOLONG;
-        die(folder);
-    }
-}
-
-/* Reads a whole file, which stays open. */
-static struct table open_table(const char *folder, const char *name, int mode)
-{
-    struct table table = {NULL, 0, -1};
-    struct stat stat;
-    char path[4096];
-
-    path_of(path, folder, name);
-    table.file = open(path, mode);
-    if (table.file < 0 || fstat(table.file, &stat) != 0)
-        die(path);
-    table.bytes = (size_t)stat.st_size;
-    table.rows = malloc(table.bytes + 1);
-    if (!table.rows || pread(table.file, table.rows, table.bytes, 0) != (ssize_t)table.bytes)
-        die(path);
-    return table;
-}
-
-/* Stores bytes in a file and waits until they are on the disk. */
-static void store(int file, const void *bytes, size_t count, off_t at)
-{
-    if (pwrite(file, bytes, count, at) != (ssize_t)count || fsync(file) != 0)
-        die("store");
-}
-
-/* Names of files that were made or removed are on the disk after this. */
-static void sync_folder(const char *folder)
-{
-    int file = open(folder, O_RDONLY);
-
-    if (file < 0 || fsync(file) != 0 || close(file) != 0)
-        die(folder);
-}
-
-/*
- * Takes up the position of a pause, and throws it away: it is gone before the first row is stored,
- * so that after a kill there is none, and the repair begins at the start.
- */
-static uint32_t take_position(struct site *site)
-{
-    const struct table *parents = &site->tables[LFSCK_TABLE_PARENTS];
-    const struct table *objects = &site->tables[LFSCK_TABLE_OBJECTS];
-    char path[4096];
-    int file;
-
-    path_of(path, site->folder, position_name);
-    file = open(path, O_RDONLY);
-    if (file < 0)
-        return lfsck_start(parents->rows, parents->bytes, objects->rows, objects->bytes,
-                           site->position, LFSCK_POSITION_NUMBERS);
-    if (read(file, site->position, sizeof site->position) != sizeof site->position ||
-        close(file) != 0 || unlink(path) != 0)
-        die(path);
-    sync_folder(site->folder);
-    return LFSCK_OK;
-}
-
-static void save_position(const struct site *site)
-{
-    char path[4096];
-    int file;
-
-    path_of(path, site->folder, position_name);
-    file = open(path, O_WRONLY | O_CREAT | O_EXCL, 0666);
-    if (file < 0)
-        die(path);
-    store(file, site->position, sizeof site->position, 0);
-    if (close(file) != 0)
-        die(path);
-    sync_folder(site->folder);
-}
-
-/* Stores the rows of a step as the memory now has them, one after the other. */
-static void store_rows(struct site *site, const uint64_t *named)
-{
-    for (uint64_t i = 0; i < named[0]; i++) {
-        const uint64_t *row = named + 1 + LFSCK_ROW_NUMBERS * i;
-        const struct table *table = &site->tables[row[0]];
-        size_t at = row_bytes[row[0]] * (size_t)row[1];
-
-        store(table->file, table->rows + at, row_bytes[row[0]], (off_t)at);
-        if (++site->stored == site->kill_at)
-            raise(SIGKILL);
-    }
-}
-
-/* Asks for the writes of the next step, makes it in memory, and stores the rows. */
-static uint32_t make_step(struct site *site)
-{
-    struct table *parents = &site->tables[LFSCK_TABLE_PARENTS];
-    struct table *objects = &site->tables[LFSCK_TABLE_OBJECTS];
-    uint64_t named[LFSCK_WRITES_NUMBERS];
-    uint64_t report[LFSCK_REPORT_NUMBERS];
-    uint64_t *position = site->position;
-    uint32_t answer;
-
-    answer = lfsck_step_writes(parents->rows, parents->bytes, objects->rows, objects->bytes,
-                               site->reserve.rows, site->reserve.bytes, site->policy,
-                               position[0], position[1], position[2],
-                               named, LFSCK_WRITES_NUMBERS);
-    if (answer != LFSCK_OK)
-        return answer;
-    answer = lfsck_run(parents->rows, parents->bytes, objects->rows, objects->bytes,
-                       site->reserve.rows, site->reserve.bytes, site->policy, 1,
-                       position, LFSCK_POSITION_NUMBERS, report, LFSCK_REPORT_NUMBERS);
-    store_rows(site, named);
-    return answer;
-}
-
-/* Repairs the tables of a folder: to the end, or to a pause after so many steps. */
-static uint32_t repair(struct site *site, uint64_t most)
-{
-    uint32_t answer;
-
-    site->tables[LFSCK_TABLE_PARENTS] = open_table(site->folder, "parents.tbl", O_RDWR);
-    site->tables[LFSCK_TABLE_OBJECTS] = open_table(site->folder, "objects.tbl", O_RDWR);
-    site->reserve = open_table(site->folder, "reserve.tbl", O_RDONLY);
-    answer = take_position(site);
-    while (answer <= LFSCK_STEPS_USED && site->position[0] != LFSCK_STAGE_END && most-- > 0)
-        answer = make_step(site);
-    if (answer <= LFSCK_STEPS_USED && site->position[0] != LFSCK_STAGE_END) {
-        answer = LFSCK_STEPS_USED;
-        save_position(site);
-    }
-    return answer;
-}
-
-static void close_site(struct site *site)
-{
-    struct table *opened[3] = {&site->tables[0], &site->tables[1], &site->reserve};
-
-    for (int i = 0; i < 3; i++) {
-        close(opened[i]->file);
-        free(opened[i]->rows);
-    }
-}
-
-/* The test. */
+#include "row_store.h"
 
 enum {
-    PARENTS = 2,
-    OBJECTS = 12,
-    SLOTS = 8,
-    STEPS = 1 + SLOTS + 1 + OBJECTS,
-    OST = 3,
-    OTHER_OST = 5,
-    OTHER_USER = 9
+    MOST_WRITES = 3, /* of a step */
+    MOST_CUTS = 64,
+    STRIDE = 4 /* every fourth write of the repair after a kill is killed, too */
 };
 
-/* The objects by their ids. */
-enum { A = 0x10, B, D, E, F, G, H, K, T, W, X, N = 0x20, M };
+/* The kinds of steps, and how many writes they have. */
+enum kind {
+    SELF,
+    RESERVE,
+    REUSE,
+    DANGLING,
+    BLANK,
+    UNMATCHED,
+    WRONG_OST,
+    OWNER,
+    EMPTY,
+    MADE,
+    FILLED,
+    GROWN,
+    REPLACED,
+    KINDS
+};
 
-struct content {
-    uint8_t parents[PARENTS * LFSCK_PARENT_BYTES];
-    uint8_t objects[OBJECTS * LFSCK_OBJECT_BYTES];
+static const struct {
+    const char *name;
+    uint64_t least;
+    uint64_t most;
+} kinds[KINDS] = {
+    {"SELF", 1, 1},
+    {"MULTIPLE with a FID of the reserve", 2, 2},
+    {"MULTIPLE with an object that waits", 1, 2},
+    {"DANGLING", 1, 1},
+    {"BLANK", 1, 2},
+    {"UNMATCHED", 1, 2},
+    {"WRONG-OST", 1, 2},
+    {"OWNER", 1, 1},
+    {"EMPTY", 1, 1},
+    {"ORPHAN with a new file", 1, 1},
+    {"ORPHAN in a hole", 1, 2},
+    {"ORPHAN past the count", 1, 2},
+    {"ORPHAN for a fresh object", 2, 3},
+};
+
+/* A write of the repair without a kill: which one of a step of a kind, and of how many. */
+struct cut {
+    enum kind kind;
+    uint64_t write;
+    uint64_t of;
 };
 
 static char folder[] = "/tmp/in_place.XXXXXX";
 static struct content damaged, repaired, found;
-static uint64_t policy;      /* of the repairs */
-static unsigned long writes; /* of the damaged case under it */
+static uint64_t policy;
+static struct cut cuts[MOST_CUTS];
+static unsigned long writes; /* of the repair without a kill */
+static unsigned long kills[KINDS][MOST_WRITES + 1][MOST_WRITES + 1];
+static unsigned long second_kills;
 
-static void put_number(uint8_t *to, uint64_t number, size_t bytes)
+static size_t used_rows(const uint8_t *table, size_t bytes, size_t size)
 {
-    for (size_t i = 0; i < bytes; i++)
-        to[i] = (uint8_t)(number >> (8 * i));
+    size_t used = 0;
+
+    for (size_t at = 0; at < bytes; at += size)
+        used += table[at];
+    return used;
 }
 
-static void put_fid(uint8_t *to, uint64_t sequence, uint64_t id, uint64_t version)
+/* How the number of used rows changes: of files, and of objects. */
+static int more_files(const struct content *before, const struct content *after)
 {
-    put_number(to, sequence, 8);
-    put_number(to + 8, id, 4);
-    put_number(to + 12, version, 4);
+    return (int)used_rows(after->parents, sizeof after->parents, LFSCK_PARENT_BYTES) -
+           (int)used_rows(before->parents, sizeof before->parents, LFSCK_PARENT_BYTES);
 }
 
-/* A used object row that claims a slot of file P or Q, 1 or 2; claims nothing of file 0. */
-static void put_object(size_t row, uint64_t id, uint64_t ost, uint64_t user, uint64_t file,
-                       uint64_t index, uint8_t fresh)
+static int more_objects(const struct content *before, const struct content *after)
 {
-    uint8_t *to = damaged.objects + row * LFSCK_OBJECT_BYTES;
-
-    to[0] = 1;
-    put_fid(to + 1, UINT64_C(0x240000400), id, 0);
-    put_number(to + 17, ost, 4);
-    put_number(to + 21, user, 4);
-    put_number(to + 25, 0, 4);
-    put_fid(to + 29, file ? UINT64_C(0x200000401) : 0, file, file ? index : 0);
-    to[45] = fresh;
+    return (int)used_rows(after->objects, object_bytes(after), LFSCK_OBJECT_BYTES) -
+           (int)used_rows(before->objects, object_bytes(before), LFSCK_OBJECT_BYTES);
 }
 
-/* P, whose own id is another's. Slot 4 is a hole. */
-static int put_parent(void)
+/* The kind of a step that repairs a class. */
+static enum kind kind_of(uint64_t class, const struct content *before, const struct content *after)
 {
-    static const uint64_t named[SLOTS] = {A, A, A, B, 0, F, D, E};
-    static const uint8_t no_pool[1] = {0};
-    const uint64_t fields[LFSCK_WRITE_FIELDS] = {
-        1, LFSCK_PATTERN_HOLES, 7, UINT64_C(0x200000401), 1048576, SLOTS, 65535};
-    uint64_t slots[SLOTS * LFSCK_SLOT_NUMBERS] = {0};
-    uint64_t bytes = 0;
-    uint8_t *to = damaged.parents;
+    switch (class) {
+    case LFSCK_SELF: return SELF;
+    case LFSCK_MULTIPLE: return more_objects(before, after) ? RESERVE : REUSE;
+    case LFSCK_DANGLING: return DANGLING;
+    case LFSCK_BLANK: return BLANK;
+    case LFSCK_UNMATCHED: return UNMATCHED;
+    case LFSCK_WRONG_OST: return WRONG_OST;
+    case LFSCK_OWNER: return OWNER;
+    case LFSCK_EMPTY: return EMPTY;
+    default: break;
+    }
+    if (more_objects(before, after))
+        return REPLACED;
+    if (more_files(before, after))
+        return MADE;
+    return memcmp(before->parents + 25, after->parents + 25, 2) == 0 ? FILLED : GROWN;
+}
+
+static void put_reserve(uint8_t reserve[2 * LFSCK_RESERVE_BYTES])
+{
+    put_object_fid(reserve, N);
+    put_object_fid(reserve + LFSCK_RESERVE_BYTES, M);
+}
+
+static uint32_t run(struct content *tables, uint64_t most, uint64_t *position)
+{
+    uint8_t reserve[2 * LFSCK_RESERVE_BYTES];
+    uint64_t report[LFSCK_REPORT_NUMBERS];
+
+    put_reserve(reserve);
+    return lfsck_run(tables->parents, sizeof tables->parents, tables->objects,
+                     object_bytes(tables), reserve, sizeof reserve, policy, most,
+                     position, LFSCK_POSITION_NUMBERS, report, LFSCK_REPORT_NUMBERS);
+}
+
+static uint64_t class_at(const struct content *tables, const uint64_t *position)
+{
+    uint64_t class[LFSCK_CLASS_NUMBERS] = {LFSCK_UNUSED};
+
+    lfsck_class(tables->parents, sizeof tables->parents, tables->objects, object_bytes(tables),
+                position[0], position[1], position[2], class, LFSCK_CLASS_NUMBERS);
+    return class[0];
+}
+
+/* Makes the next step in memory and notes its writes. */
+static uint32_t foresee_step(struct content *tables, uint64_t *position)
+{
+    static struct content before;
+    uint64_t class = class_at(tables, position);
+    uint64_t named[LFSCK_WRITES_NUMBERS];
+    uint8_t reserve[2 * LFSCK_RESERVE_BYTES];
     uint32_t answer;
 
-    for (size_t i = 0; i < SLOTS; i++) {
-        const uint64_t slot[LFSCK_SLOT_NUMBERS] = {1, UINT64_C(0x240000400), named[i], 4, OST};
-
-        if (named[i])
-            memcpy(slots + LFSCK_SLOT_NUMBERS * i, slot, sizeof slot);
-    }
-    to[0] = 1;
-    put_fid(to + 1, UINT64_C(0x200000401), 1, 0);
-    put_number(to + 17, 0, 8);
-    answer = lfsck_layout_write(fields, LFSCK_WRITE_FIELDS, no_pool, 0, slots,
-                                SLOTS * LFSCK_SLOT_NUMBERS, to + 27, LFSCK_LAYOUT_BYTES,
-                                &bytes, 1);
-    put_number(to + 25, bytes, 2);
-    return answer == LFSCK_OK;
+    put_reserve(reserve);
+    before = *tables;
+    answer = lfsck_step_writes(tables->parents, sizeof tables->parents, tables->objects,
+                               object_bytes(tables), reserve, sizeof reserve, policy,
+                               position[0], position[1], position[2],
+                               named, LFSCK_WRITES_NUMBERS);
+    if (answer != LFSCK_OK)
+        return answer;
+    answer = run(tables, 1, position);
+    for (uint64_t i = 0; i < named[0] && writes < MOST_CUTS; i++)
+        cuts[writes++] = (struct cut){kind_of(class, &before, tables), i + 1, named[0]};
+    return answer;
 }
 
-/*
- * A file with damage of many kinds. Slot 1 is redirected to N, slot 2 to W, which waits for it; B
- * is on another OST and E claims nothing; D is made. H fills a hole, T takes the place of F, G
- * makes the layout grow and K the file Q. X is destroyed. N and D need both unused rows, which are
- * full of other bytes. Without create slots 1, 2 and 6 stay, and W is destroyed.
- */
-static int put_damaged(void)
+/* Begins with these tables: what the repair without a kill writes, and where it ends. */
+static void begin(const char *name, const struct content *tables, uint64_t allowed)
 {
-    memset(&damaged, 0xa5, sizeof damaged);
-    damaged.parents[LFSCK_PARENT_BYTES] = 0;
-    for (size_t row = 0; row < OBJECTS; row++)
-        damaged.objects[row * LFSCK_OBJECT_BYTES] = 0;
-    put_object(0, T, OST, OTHER_USER, 1, 5, 0);
-    put_object(1, A, OST, 0, 1, 0, 0);
-    put_object(3, W, OTHER_OST, OTHER_USER, 1, 2, 1);
-    put_object(4, B, OTHER_OST, OTHER_USER, 1, 3, 0);
-    put_object(5, H, OST, OTHER_USER, 1, 4, 0);
-    put_object(6, F, OST, 0, 1, 5, 1);
-    put_object(7, E, OTHER_OST, 0, 0, 0, 0);
-    put_object(8, G, OST, OTHER_USER, 1, 9, 0);
-    put_object(9, K, OST, OTHER_USER, 2, 1, 0);
-    put_object(10, X, OST, 0, 1, 0, 1);
-    return put_parent();
+    uint64_t position[LFSCK_POSITION_NUMBERS] = {LFSCK_STAGE_PARENTS, 0, 0};
+    uint64_t start[LFSCK_POSITION_NUMBERS] = {LFSCK_STAGE_PARENTS, 0, 0};
+    uint32_t answer = LFSCK_STEPS_USED;
+
+    damaged = *tables;
+    policy = allowed;
+    writes = 0;
+    repaired = damaged;
+    while (answer == LFSCK_STEPS_USED)
+        answer = foresee_step(&repaired, position);
+    found = damaged;
+    check(name, answer == LFSCK_OK && writes > 0 && writes < MOST_CUTS &&
+                    run(&found, UINT64_MAX, start) == LFSCK_OK && is_same(&found, &repaired));
 }
 
-static void put_file(const char *name, const void *bytes, size_t count)
+static void put_bytes(const char *name, const void *bytes, size_t count)
 {
     char path[4096];
     int file;
 
     path_of(path, folder, name);
-    file = open(path, O_WRONLY | O_CREAT | O_TRUNC, 0666);
-    if (file < 0 || write(file, bytes, count) != (ssize_t)count || close(file) != 0)
+    file = open(path, O_WRONLY | O_CREAT, 0666);
+    if (file < 0 || write(file, bytes, count) != (ssize_t)count ||
+        ftruncate(file, (off_t)count) != 0 || close(file) != 0)
         die(path);
 }
 
-static void get_file(const char *name, void *bytes, size_t count)
+static void get_bytes(const char *name, void *bytes, size_t count)
 {
     struct table table = open_table(folder, name, O_RDONLY);
 
@@ -317,32 +203,33 @@ static void get_file(const char *name, void *bytes, size_t count)
         exit(2);
     }
     memcpy(bytes, table.rows, count);
-    close(table.file);
-    free(table.rows);
+    close_table(&table);
 }
 
-/* The folder with the damaged case, and no saved position. */
-static void put_folder(void)
+/* The folder with the files of one state and the objects of another. */
+static void put_folder(const struct content *files, const struct content *objects)
 {
     uint8_t reserve[2 * LFSCK_RESERVE_BYTES];
-    char path[4096];
 
-    put_fid(reserve, UINT64_C(0x240000400), N, 0);
-    put_fid(reserve + LFSCK_RESERVE_BYTES, UINT64_C(0x240000400), M, 0);
-    put_file("parents.tbl", damaged.parents, sizeof damaged.parents);
-    put_file("objects.tbl", damaged.objects, sizeof damaged.objects);
-    put_file("reserve.tbl", reserve, sizeof reserve);
-    path_of(path, folder, position_name);
-    unlink(path);
+    put_reserve(reserve);
+    put_bytes("parents.tbl", files->parents, sizeof files->parents);
+    put_bytes("objects.tbl", objects->objects, object_bytes(objects));
+    put_bytes("reserve.tbl", reserve, sizeof reserve);
+}
+
+static void get_folder(void)
+{
+    found.rows = damaged.rows;
+    get_bytes("parents.tbl", found.parents, sizeof found.parents);
+    get_bytes("objects.tbl", found.objects, object_bytes(&found));
 }
 
 static void remove_folder(void)
 {
-    static const char *const names[] = {"parents.tbl", "objects.tbl", "reserve.tbl",
-                                        "in_place.position"};
+    static const char *const names[] = {"parents.tbl", "objects.tbl", "reserve.tbl"};
     char path[4096];
 
-    for (int i = 0; i < 4; i++) {
+    for (int i = 0; i < 3; i++) {
         path_of(path, folder, names[i]);
         unlink(path);
     }
@@ -350,126 +237,217 @@ static void remove_folder(void)
 }
 
 /* Repairs the folder in a process of its own. Gives what waitpid tells. */
-static int repair_apart(uint64_t most, unsigned long kill_at)
+static int repair_apart(unsigned long kill_at, int last_first)
 {
-    struct site site = {.folder = folder, .policy = policy, .kill_at = kill_at};
+    struct site site = {
+        .folder = folder, .policy = policy, .kill_at = kill_at, .last_first = last_first};
     int status = 0;
     pid_t child;
 
     fflush(stdout);
     child = fork();
     if (child == 0)
-        _exit((int)repair(&site, most));
+        _exit((int)repair(&site));
     if (child < 0 || waitpid(child, &status, 0) != child)
         die("repair");
     return status;
 }
 
-static int ended(int status, uint32_t answer)
-{
-    return WIFEXITED(status) && WEXITSTATUS(status) == (int)answer;
-}
-
-static int killed(int status)
+static int is_killed(int status)
 {
     return WIFSIGNALED(status) && WTERMSIG(status) == SIGKILL;
 }
 
-/* The files are the tables of the repair without a kill. */
+static int answers(int status, uint32_t answer)
+{
+    return WIFEXITED(status) && WEXITSTATUS(status) == (int)answer;
+}
+
+/* Repairs the folder without a kill: to the end. */
+static int ends(void)
+{
+    return answers(repair_apart(0, 0), LFSCK_OK);
+}
+
+/* The folder has the tables of the repair without a kill. */
 static int is_repaired(void)
 {
-    get_file("parents.tbl", found.parents, sizeof found.parents);
-    get_file("objects.tbl", found.objects, sizeof found.objects);
-    return memcmp(&found, &repaired, sizeof found) == 0;
+    get_folder();
+    return is_same(&found, &repaired);
 }
 
-static int has_position(void)
+/* The tables of the folder pass the check. */
+static int is_sound(void)
 {
-    char path[4096];
-
-    path_of(path, folder, position_name);
-    return access(path, F_OK) == 0;
+    get_folder();
+    return lfsck_check(found.parents, sizeof found.parents, found.objects, object_bytes(&found),
+                       found.objects, 0, policy, LFSCK_STAGE_PARENTS, 0, 0) == LFSCK_OK;
 }
 
-/* Without a kill the files end as one run in memory leaves the tables. */
-static void test_uncut(const uint64_t *repairs)
-{
-    struct site site = {.folder = folder, .policy = policy};
-    uint64_t position[LFSCK_POSITION_NUMBERS] = {LFSCK_STAGE_PARENTS, 0, 0};
-    uint64_t report[LFSCK_REPORT_NUMBERS] = {0};
-    uint32_t answer;
-
-    put_folder();
-    check("the damaged case is repaired", repair(&site, UINT64_MAX) == LFSCK_OK);
-    check("in as many writes as it has", site.stored == writes);
-    repaired = damaged;
-    answer = lfsck_run(repaired.parents, sizeof repaired.parents, repaired.objects,
-                       sizeof repaired.objects, site.reserve.rows, site.reserve.bytes,
-                       site.policy, STEPS, position, LFSCK_POSITION_NUMBERS, report,
-                       LFSCK_REPORT_NUMBERS);
-    close_site(&site);
-    check("so it is by a run in memory", answer == LFSCK_OK);
-    check("with the repairs that it needs", memcmp(report, repairs, sizeof report) == 0);
-    check("which leaves the same tables", is_repaired());
-}
-
-/* Killed after each write, and then, begun again, after its first and not again. */
+/* Killed at each write, and begun again. */
 static void test_kills(void)
+{
+    char name[128];
+
+    for (unsigned long at = 1; at <= writes; at++) {
+        const struct cut *cut = &cuts[at - 1];
+        int holds;
+
+        put_folder(&damaged, &damaged);
+        holds = is_killed(repair_apart(at, 0)) && is_sound() && ends() && is_repaired();
+        snprintf(name, sizeof name, "policy %d, killed at write %lu: %s, %d of %d",
+                 (int)policy, at, kinds[cut->kind].name, (int)cut->write, (int)cut->of);
+        check(name, holds);
+        kills[cut->kind][cut->of][cut->write] += holds;
+    }
+    put_folder(&damaged, &damaged);
+    check("there are no more writes", answers(repair_apart(writes + 1, 0), LFSCK_OK));
+}
+
+/* Killed at a write, and at one of the repair after it; whether that one has so many writes. */
+static int kill_twice(unsigned long at, unsigned long second, int *holds)
+{
+    int status;
+
+    put_folder(&damaged, &damaged);
+    *holds = is_killed(repair_apart(at, 0));
+    status = repair_apart(second, 0);
+    if (!is_killed(status)) {
+        *holds = *holds && answers(status, LFSCK_OK) && is_repaired();
+        return 0;
+    }
+    second_kills++;
+    *holds = *holds && is_sound() && ends() && is_repaired();
+    return *holds;
+}
+
+static void test_second_kills(void)
 {
     char name[64];
 
     for (unsigned long at = 1; at <= writes; at++) {
-        put_folder();
-        snprintf(name, sizeof name, "policy %d, killed at write %lu", (int)policy, at);
-        check(name, killed(repair_apart(UINT64_MAX, at)));
-        snprintf(name, sizeof name, "begun again after write %lu", at);
-        check(name, ended(repair_apart(UINT64_MAX, 0), LFSCK_OK) && is_repaired());
+        unsigned long second = 1;
+        int holds;
 
-        put_folder();
-        snprintf(name, sizeof name, "killed twice, at write %lu and at the next", at);
-        check(name, killed(repair_apart(UINT64_MAX, at)) &&
-                        (at == writes || killed(repair_apart(UINT64_MAX, 1))) &&
-                        ended(repair_apart(UINT64_MAX, 0), LFSCK_OK) && is_repaired());
+        while (kill_twice(at, second, &holds))
+            second += STRIDE;
+        snprintf(name, sizeof name, "killed at write %lu, and then at %lu others", at,
+                 second / STRIDE);
+        check(name, holds);
     }
 }
 
-/* A pause keeps its position; a kill after it leaves none. */
-static void test_pauses(void)
+/* How often each write of each kind was the last before a kill. */
+static void test_seen(void)
 {
-    char name[64];
+    char name[128];
 
-    for (uint64_t steps = 0; steps < STEPS; steps++) {
-        put_folder();
-        snprintf(name, sizeof name, "paused after %d steps", (int)steps);
-        check(name, ended(repair_apart(steps, 0), LFSCK_STEPS_USED) && has_position() &&
-                        ended(repair_apart(UINT64_MAX, 0), LFSCK_OK) && !has_position() &&
-                        is_repaired());
-    }
-    put_folder();
-    check("a pause after two steps", ended(repair_apart(2, 0), LFSCK_STEPS_USED));
-    check("then killed at a write", killed(repair_apart(UINT64_MAX, 1)));
-    check("the position is thrown away", !has_position());
-    check("begun at the start", ended(repair_apart(UINT64_MAX, 0), LFSCK_OK) && is_repaired());
+    for (int kind = 0; kind < KINDS; kind++)
+        for (uint64_t of = kinds[kind].least; of <= kinds[kind].most; of++)
+            for (uint64_t at = 1; at <= of; at++) {
+                unsigned long count = kills[kind][of][at];
+
+                snprintf(name, sizeof name, "%s, write %d of %d: %lu kills",
+                         kinds[kind].name, (int)at, (int)of, count);
+                check(name, count > 0);
+            }
+    snprintf(name, sizeof name, "%lu kills after a kill", second_kills);
+    check(name, second_kills > 0);
+}
+
+/* P[F]; F, fresh, and C, with data, claim its slot. */
+static void begin_taken(void)
+{
+    static const uint8_t named[1] = {0x10};
+    struct content tables;
+
+    put_unused(&tables, 2);
+    put_object(&tables, 0, (struct object){0x10, OST, USER, P, 0, 1});
+    put_object(&tables, 1, (struct object){0x20, OST, OTHER_USER, P, 0, 0});
+    check("a place to be taken", put_file(&tables, P, named, 1));
+    begin("C takes it", &tables, LFSCK_ADOPT);
+}
+
+/* With the destroyed row first, C is in CONFLICT after a kill. */
+static void test_destroyed_first(void)
+{
+    static const uint64_t orphan[LFSCK_POSITION_NUMBERS] = {LFSCK_STAGE_OBJECTS, 1, 0};
+
+    begin_taken();
+    test_kills();
+    put_folder(&damaged, &damaged);
+    check("the last row first, killed at write 1", is_killed(repair_apart(1, 1)));
+    check("begun again, it loses", ends() && !is_repaired());
+    check("C is in CONFLICT", class_at(&found, orphan) == LFSCK_CONFLICT);
+}
+
+/* A position of before the kill leaves F, and C with another owner. */
+static void test_saved_position(void)
+{
+    uint64_t position[LFSCK_POSITION_NUMBERS] = {LFSCK_STAGE_OBJECTS, 1, 0};
+
+    begin_taken();
+    put_folder(&damaged, &damaged);
+    check("killed in the step of C", is_killed(repair_apart(1, 0)) && !is_repaired());
+    check("taken up at that step, it loses",
+          run(&found, UINT64_MAX, position) == LFSCK_OK && !is_same(&found, &repaired));
+}
+
+/* P[A,A]; A claims its first slot; there is one unused row. */
+static void test_waiting(void)
+{
+    static const uint8_t named[2] = {0x10, 0x10};
+    struct content tables;
+
+    put_unused(&tables, 2);
+    put_object(&tables, 0, (struct object){0x10, OST, USER, P, 0, 0});
+    check("a slot to be redirected", put_file(&tables, P, named, 2));
+    begin("to N, in the last unused row", &tables, LFSCK_CREATE);
+    test_kills();
+    put_folder(&damaged, &damaged);
+    check("killed after N is made", is_killed(repair_apart(1, 0)) && is_sound());
+    found.objects[LFSCK_OBJECT_BYTES + 45] = 0;
+    put_folder(&found, &found);
+    check("were N not used again, there would be no row",
+          answers(repair_apart(0, 0), LFSCK_NO_OBJECT_ROW));
+}
+
+/* Whole tables, stored one after the other, and killed between the two. */
+static void test_whole_tables(void)
+{
+    static const uint8_t named[1] = {0x10};
+    struct content tables;
+
+    begin_taken();
+    put_folder(&damaged, &repaired);
+    check("whole tables, the objects first, lose", ends() && !is_repaired());
+
+    put_unused(&tables, 2);
+    put_object(&tables, 0, (struct object){0x20, OST, USER, P, 0, 0});
+    check("an absent object and an orphan", put_file(&tables, P, named, 1));
+    begin("a row made and destroyed", &tables, LFSCK_CREATE | LFSCK_ADOPT);
+    test_kills();
+    put_folder(&repaired, &damaged);
+    check("whole tables, the files first, lose", ends() && !is_repaired());
 }
 
 static int test(void)
 {
-    /* The steps; SELF, MULTIPLE, DANGLING, BLANK, UNMATCHED, OWNER, EMPTY, ORPHAN, WRONG-OST. */
-    static const uint64_t adopting[LFSCK_REPORT_NUMBERS] = {STEPS, 1, 0, 0, 1, 0, 0, 2, 4, 1};
-    static const uint64_t both[LFSCK_REPORT_NUMBERS] = {STEPS, 1, 2, 1, 1, 0, 0, 1, 4, 1};
+    struct content tables;
 
     if (!mkdtemp(folder))
         die(folder);
-    check("the damaged case has a layout", put_damaged());
-    policy = LFSCK_ADOPT;
-    writes = 15;
-    test_uncut(adopting);
-    test_kills();
-    policy = LFSCK_CREATE | LFSCK_ADOPT;
-    writes = 19;
-    test_uncut(both);
-    test_kills();
-    test_pauses();
+    check("a case with damage of every kind", put_damaged(&tables));
+    for (uint64_t allowed = 0; allowed <= (LFSCK_CREATE | LFSCK_ADOPT); allowed++) {
+        begin("it is repaired in memory", &tables, allowed);
+        test_kills();
+    }
+    test_second_kills();
+    test_seen();
+    test_destroyed_first();
+    test_saved_position();
+    test_waiting();
+    test_whole_tables();
     remove_folder();
     return report_all();
 }
@@ -481,14 +459,13 @@ int main(int count, char **words)
 
     if (count == 1)
         return test();
-    if (count < 3 || count > 4) {
-        fprintf(stderr, "in_place DIR POLICY [STEPS]\n");
+    if (count != 3) {
+        fprintf(stderr, "in_place DIR POLICY\n");
         return 2;
     }
     site.folder = words[1];
     site.policy = strtoull(words[2], NULL, 10);
-    answer = repair(&site, count == 4 ? strtoull(words[3], NULL, 10) : UINT64_MAX);
+    answer = repair(&site);
     printf("%lu rows stored, answer %lu\n", site.stored, (unsigned long)answer);
-    close_site(&site);
     return answer != LFSCK_OK;
 }

@@ -108,6 +108,8 @@ static void test_kept(void)
     memset(claim, 0, 16);
     EXPECT("BLANK on another OST: the object, the file", &in, 2, O, 1, F, 0);
     in = placed(3, 0);
+    claim[12] = 4;
+    EXPECT("UNMATCHED on the slot's OST: the object", &in, 1, O, 1);
     memset(claim, 0, 16);
     EXPECT("BLANK on the slot's OST: the object", &in, 1, O, 1);
 }

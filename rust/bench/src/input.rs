@@ -20,6 +20,10 @@ const RESERVED: usize = 1_000_000;
 /// The first id of objects that slots name and that are not there.
 const ABSENT: usize = 2_000_000;
 
+/// The ways of damage, and the one that makes an object an orphan.
+const WAYS: usize = 7;
+const ORPHANED: usize = 5;
+
 /// How large tables are.
 #[derive(Clone, Copy, Debug, PartialEq, Eq)]
 pub struct Shape {
@@ -59,6 +63,12 @@ impl Shape {
     /// The slot that names the object of this number, over all files.
     fn slot_of(self, object: usize) -> usize {
         object * self.slots / self.objects
+    }
+
+    /// The numbers of as many objects as one slot in a hundred, evenly spread.
+    fn one_in_hundred(self) -> impl Iterator<Item = usize> {
+        let count = self.slots / 100;
+        (0..count).map(move |at| at * self.objects / count)
     }
 }
 
@@ -102,6 +112,35 @@ impl Tables {
         let mut tables = Tables::clean(shape);
         tables.damage();
         tables
+    }
+
+    /// The same tables, but as many slots as one in a hundred name the object of the next one that
+    /// names any, while their own object, which is fresh, waits for them; every other one of these
+    /// has another owner.
+    pub fn waiting(shape: Shape) -> Tables {
+        let mut tables = Tables::clean(shape);
+        for (fault, number) in shape.one_in_hundred().enumerate() {
+            let next = (number + 1) % shape.objects;
+            let name = fid(OBJECTS, next as u32 + 1, 0);
+            tables.slot_mut(shape.slot_of(number))[..FID].copy_from_slice(&name);
+            let row = OBJECT * number;
+            tables.objects[row + object::FRESH_AT] = 1;
+            tables.objects[row + object::OWNER_AT] ^= (fault % 2) as u8;
+        }
+        tables
+    }
+
+    /// The positions of the steps that repair damage, as it is spread.
+    pub fn repairs(&self) -> impl Iterator<Item = [u64; call::POSITION]> {
+        let numbers = self.shape.one_in_hundred().enumerate();
+        numbers.map(|(fault, number)| {
+            let (row, index) = self.place(self.shape.slot_of(number));
+            if fault % WAYS == ORPHANED {
+                [call::STAGE_OBJECTS, number as u64, 0]
+            } else {
+                [call::STAGE_PARENTS, row as u64, index as u64 + 1]
+            }
+        })
     }
 
     fn add_file(&mut self, row: usize, slots: usize) {
@@ -163,13 +202,11 @@ impl Tables {
     /// Damages as many objects as one slot in a hundred, evenly spread, in seven ways in turn.
     fn damage(&mut self) {
         let objects = self.shape.objects;
-        let count = self.shape.slots / 100;
-        for fault in 0..count {
-            let number = fault * objects / count;
+        for (fault, number) in self.shape.one_in_hundred().enumerate() {
             let slot = self.shape.slot_of(number);
             let other = (number + objects / 2) % objects;
             let row = OBJECT * number;
-            match fault % 7 {
+            match fault % WAYS {
                 // The object is gone.
                 0 => self.objects[row..row + OBJECT].fill(0),
                 // The slot names another file's object, and its own is gone.
@@ -185,7 +222,7 @@ impl Tables {
                 // It has another owner.
                 4 => self.objects[row + object::OWNER_AT] ^= 1,
                 // The slot is a hole, and the object an orphan.
-                5 => self.slot_mut(slot).fill(0),
+                ORPHANED => self.slot_mut(slot).fill(0),
                 // It is on the other OST of two whose indices are exchanged.
                 _ => self.objects[row + object::OST_AT] ^= 1,
             }

@@ -25,6 +25,8 @@ const NEITHER: u64 = 0;
 const MENDED: [usize; 4] = [4, 5, 6, 9];
 /// Those that it raises with both: MULTIPLE, DANGLING and ORPHAN besides.
 const REPAIRED: [usize; 7] = [2, 3, 4, 5, 6, 8, 9];
+/// That of MULTIPLE.
+const REDIRECTED: [usize; 1] = [2];
 /// The sizes between which the growth is measured.
 const SIZES: [usize; 5] = [10_000, 20_000, 40_000, 80_000, 160_000];
 
@@ -32,6 +34,12 @@ const SIZES: [usize; 5] = [10_000, 20_000, 40_000, 80_000, 160_000];
 const KEEPERS: u64 = 1_000;
 /// The objects of their tables: few, so that a FID twice is soon looked for.
 const KEPT: u64 = 100;
+
+/// The calls for the writes of a step in one measurement.
+const LISTS: usize = 1_000;
+/// The objects of their tables: more than there is damage, and few, so that a FID twice is soon
+/// looked for.
+const WRITTEN: usize = 2_000;
 
 /// The records of a linkEA that is written or whose header is read.
 const RECORDS: usize = 1_000_000;
@@ -67,9 +75,11 @@ fn main() {
     measure_check(rounds);
     let classes = measure_growth(rounds);
     measure_run(rounds);
+    measure_reuse(rounds);
     measure_million(rounds);
     measure_listing(rounds);
     measure_keepers(rounds);
+    measure_writes(rounds);
     measure_link(rounds);
     measure_names(rounds);
     for [slots, objects] in DUMPS {
@@ -133,21 +143,37 @@ fn measure_clean(shape: Shape, policy: u64, rounds: usize) -> Times {
     )
 }
 
-/// A whole run on damaged tables, with repairs of these counts.
-fn measure_damaged(shape: Shape, policy: u64, counts: &[usize], rounds: usize) -> Times {
-    let tables = Tables::damaged(shape);
+/// A whole run with repairs of these counts.
+fn measure_repairs(tables: &Tables, policy: u64, counts: &[usize], rounds: usize) -> Times {
     side_by_side(
         rounds,
-        || repaired(run(&tables, policy, lfsck_run), counts),
-        || repaired(run(&tables, policy, plain::run), counts),
+        || repaired(run(tables, policy, lfsck_run), counts),
+        || repaired(run(tables, policy, plain::run), counts),
     )
 }
 
 /// A whole run on damaged tables with create and adopt.
 fn measure_run(rounds: usize) {
     let shape = Shape::THOUSAND;
-    let times = measure_damaged(shape, call::BOTH, &REPAIRED, rounds);
+    let tables = Tables::damaged(shape);
+    let times = measure_repairs(&tables, call::BOTH, &REPAIRED, rounds);
     let what = format!("run, policy {}: {}, {DAMAGED}", call::BOTH, told(shape));
+    print_line(&what, times, "");
+}
+
+/// A whole run without reserve, in which every redirect uses an object that waits for its slot.
+fn measure_reuse(rounds: usize) {
+    let shape = Shape {
+        reserve: 0,
+        ..Shape::THOUSAND
+    };
+    let tables = Tables::waiting(shape);
+    let times = measure_repairs(&tables, call::CREATE, &REDIRECTED, rounds);
+    let what = format!(
+        "run, policy {}: {}, one slot in a hundred redirected to an object that waits",
+        call::CREATE,
+        told(shape)
+    );
     print_line(&what, times, "");
 }
 
@@ -157,7 +183,7 @@ fn measure_million(rounds: usize) {
     let what = format!("run, policy {NEITHER}: {}", told(shape));
     let times = measure_clean(shape, NEITHER, rounds);
     print_line(&format!("{what}, clean"), times, "");
-    let times = measure_damaged(shape, NEITHER, &MENDED, rounds);
+    let times = measure_repairs(&Tables::damaged(shape), NEITHER, &MENDED, rounds);
     print_line(&format!("{what}, {DAMAGED}"), times, "");
 }
 
@@ -262,6 +288,61 @@ fn keepers(
     });
     let is_so = |keeper: &[u64; call::KEEPER]| [keeper[0], keeper[3]] == [found, compared];
     assert!(told.result.iter().all(is_so));
+    told
+}
+
+/// The writes of the steps that repair damage, asked for one after the other.
+fn measure_writes(rounds: usize) {
+    let shape = Shape {
+        objects: WRITTEN,
+        reserve: WRITTEN,
+        ..Shape::THOUSAND
+    };
+    let tables = Tables::damaged(shape);
+    let times = side_by_side(
+        rounds,
+        || writes(&tables, lfsck_step_writes),
+        || writes(&tables, plain::step_writes),
+    );
+    let calls = grouped(LISTS);
+    let what = format!(
+        "writes of a step, {calls} calls: {}, {DAMAGED}",
+        told(shape)
+    );
+    print_line(&what, times, "");
+}
+
+/// The writes of a step by either side.
+type WritesCall =
+    fn(&[u8], &[u8], &[u8], u64, [u64; call::POSITION], &mut [u64; call::WRITES]) -> u32;
+
+/// The library's writes of a step.
+fn lfsck_step_writes(
+    parents: &[u8],
+    objects: &[u8],
+    reserve: &[u8],
+    policy: u64,
+    position: [u64; call::POSITION],
+    out: &mut [u64; call::WRITES],
+) -> u32 {
+    lfsck_sys::step_writes(parents, objects, reserve, policy, position, out)
+}
+
+/// Times the calls for steps that repair damage, each of which must have a write.
+fn writes(tables: &Tables, call: WritesCall) -> Timed<Vec<[u64; call::WRITES]>> {
+    let positions: Vec<_> = tables.repairs().take(LISTS).collect();
+    assert_eq!(positions.len(), LISTS);
+    let (parents, objects, reserve) = (&tables.parents, &tables.objects, &tables.reserve);
+    let told = timed(|| {
+        let list = |&position| {
+            let mut out = [0; call::WRITES];
+            let answer = call(parents, objects, reserve, call::BOTH, position, &mut out);
+            assert_eq!(answer, 0);
+            out
+        };
+        positions.iter().map(list).collect::<Vec<_>>()
+    });
+    assert!(told.result.iter().all(|list| list[0] > 0));
     told
 }
 

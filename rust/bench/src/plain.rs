@@ -9,6 +9,7 @@
 mod bytes;
 mod check;
 mod class;
+mod decide;
 mod intake;
 mod keeper;
 mod layout;
@@ -19,6 +20,7 @@ mod position;
 mod repair;
 mod run;
 mod search;
+mod writes;
 
 pub use check::check;
 pub use intake::{State as IntakeState, intake_end, intake_feed};
@@ -27,3 +29,4 @@ pub use link::{link_read, link_record, link_write};
 pub use listing::classes;
 pub use names::{names_find, names_judge, names_mend, names_pass};
 pub use run::run;
+pub use writes::step_writes;

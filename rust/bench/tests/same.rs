@@ -2,7 +2,7 @@
 
 use bench::input::{Shape as Size, Tables};
 use bench::plain;
-use difftest::tables::{OBJECTS, Shape, damage, random_tables, to_bytes};
+use difftest::tables::{OBJECTS, Shape, TINY, crowd, damage, random_tables, to_bytes};
 use difftest::{Coverage, Random};
 use numbers::call::{self, END, REPORT};
 use numbers::fid::FIRST_SEQUENCE;
@@ -11,6 +11,7 @@ use numbers::layout::{
 };
 use numbers::{object, parent, reserve};
 use reference::fid::Fid;
+use reference::position::Position;
 
 const SHAPE: Shape = Shape {
     parents: 5,
@@ -106,6 +107,31 @@ fn small_tables_of_the_benchmarks_are_repaired_alike() {
     }
 }
 
+/// Every redirect uses an object that waits, and nothing else is repaired.
+#[test]
+fn redirects_of_the_benchmarks_use_objects_that_wait() {
+    let small = Size {
+        file_slots: 160,
+        slots: 4_000,
+        objects: 1_000,
+        reserve: 0,
+    };
+    let thousand = Size {
+        reserve: 0,
+        ..Size::THOUSAND
+    };
+    for (size, policy) in [
+        (small, call::CREATE),
+        (small, call::BOTH),
+        (thousand, call::CREATE),
+    ] {
+        let counts = compare_whole(Tables::waiting(size), policy);
+        let mut expected = [0; call::COUNTED];
+        expected[1] = size.slots as u64 / 100;
+        assert_eq!(counts, expected, "{size:?}, policy {policy}");
+    }
+}
+
 #[test]
 fn a_million_clean_slots_need_nothing() {
     let counts = compare_whole(Tables::clean(Size::MILLION), 0);
@@ -119,6 +145,38 @@ fn a_million_damaged_slots_are_repaired_alike() {
     let counts = compare_whole(Tables::damaged(Size::MILLION), 0);
     let [blank, unmatched, owner, wrong_ost] = [1429, 1429, 1428, 1428];
     assert_eq!(counts, [0, 0, 0, blank, unmatched, owner, 0, 0, wrong_ost]);
+}
+
+/// At every position of random tables, the end too, and at one that there is not.
+#[test]
+fn the_writes_are_those_of_the_library() {
+    let mut random = Random::for_test("plain writes");
+    let mut answers = Coverage::of("plain writes", [0, 12, 16, 21, 22, 23]);
+    let mut numbers = Coverage::of("plain writes of a step", 0..=call::MOST_WRITES as u64);
+    for _ in 0..10_000 {
+        let mut tables = random_tables(TINY, &mut random);
+        crowd(&mut tables, &mut random);
+        let (parents, objects) = to_bytes(&tables, &mut random);
+        let mut reserve: Vec<u8> = OBJECTS.iter().flat_map(|fid| fid.to_bytes()).collect();
+        reserve.truncate(16 * random.below(11));
+        let policy = random.below(5) as u64;
+        let positions = Position::all(&tables).map(Position::to_numbers);
+        for position in positions.chain([[1, 99, 0]]) {
+            let (mut out, mut plain_out) = ([99; call::WRITES], [99; call::WRITES]);
+            let (parents, objects, reserve) = (&parents, &objects, &reserve);
+            let answer =
+                lfsck_sys::step_writes(parents, objects, reserve, policy, position, &mut out);
+            let to = &mut plain_out;
+            let plain_answer = plain::step_writes(parents, objects, reserve, policy, position, to);
+            assert_eq!((plain_answer, plain_out), (answer, out));
+            answers.met(answer);
+            if answer == 0 {
+                numbers.met(out[0]);
+            }
+        }
+    }
+    answers.require(100);
+    numbers.require(20);
 }
 
 #[test]

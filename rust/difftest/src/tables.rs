@@ -242,6 +242,36 @@ fn random_ost(random: &mut Random) -> u32 {
     random.pick(&[0, 1, 2, LAST_OST])
 }
 
+/// Lets a slot name what another names, and some objects claim it, fresh or with data, named or not.
+pub fn crowd(tables: &mut Tables, random: &mut Random) {
+    let mut named = Vec::new();
+    for (row, parent) in tables.parents.iter().enumerate() {
+        let slots = parent.iter().flat_map(|parent| &parent.layout.slots);
+        let stripes = slots.enumerate();
+        named.extend(stripes.filter_map(|(slot, stripe)| Some((row, slot, (*stripe)?.object))));
+    }
+    if named.is_empty() {
+        return;
+    }
+    let ((row, slot, _), (.., object)) = (random.pick(&named), random.pick(&named));
+    let Some(parent) = &mut tables.parents[row] else {
+        return;
+    };
+    if let Some(stripe) = &mut parent.layout.slots[slot] {
+        stripe.object = object;
+    }
+    let claim = Claim {
+        parent: parent.fid,
+        index: slot as u32,
+    };
+    for object in tables.objects.iter_mut().flatten() {
+        if random.one_in(3) {
+            object.claim = Some(claim);
+            object.fresh = !random.one_in(3);
+        }
+    }
+}
+
 /// Both tables as bytes. What no rule speaks of, unused rows and the room past a layout, is
 /// filled with anything.
 pub fn to_bytes(tables: &Tables, random: &mut Random) -> (Vec<u8>, Vec<u8>) {

@@ -128,7 +128,7 @@ fn redirect(site: &mut Site, place: Place, stripe: Stripe, reserve: &[Fid]) -> R
 }
 
 /// The first row with a fresh object that claims this very slot and that no slot names.
-pub(crate) fn waiting_row(site: &Site, place: Place) -> Option<usize> {
+fn waiting_row(site: &Site, place: Place) -> Option<usize> {
     let waits = |object: &Object| {
         object.fresh
             && object.claim == site.claim_on(place)
@@ -138,19 +138,13 @@ pub(crate) fn waiting_row(site: &Site, place: Place) -> Option<usize> {
     rows.iter().position(|row| row.as_ref().is_some_and(waits))
 }
 
-/// The first unused object row.
-pub(crate) fn unused_object_row(site: &Site) -> Option<usize> {
-    site.tables().objects.iter().position(Option::is_none)
-}
-
-/// The first unused parent row.
-pub(crate) fn unused_parent_row(site: &Site) -> Option<usize> {
-    site.tables().parents.iter().position(Option::is_none)
-}
-
 /// A fresh object for a slot that names, or is to name, it.
 fn make_object(site: &mut Site, place: Place, stripe: Stripe) -> Result<(), Stop> {
-    let row = unused_object_row(site).ok_or(NO_OBJECT_ROW)?;
+    let objects = &site.tables().objects;
+    let row = objects
+        .iter()
+        .position(Option::is_none)
+        .ok_or(NO_OBJECT_ROW)?;
     let object = site.parent(place.row).map(|parent| Object {
         fid: stripe.object,
         ost: stripe.ost,
@@ -219,7 +213,11 @@ fn adopt(site: &mut Site, orphan: usize) -> Result<(), Stop> {
 
 /// A file that has nothing but the orphan, in its last slot.
 fn make_parent(site: &mut Site, orphan: Object, fid: Fid, slot: usize) -> Result<(), Stop> {
-    let row = unused_parent_row(site).ok_or(NO_PARENT_ROW)?;
+    let parents = &site.tables().parents;
+    let row = parents
+        .iter()
+        .position(Option::is_none)
+        .ok_or(NO_PARENT_ROW)?;
     let mut slots = vec![None; slot];
     slots.push(Some(stripe_of(orphan)));
     let layout = Layout {

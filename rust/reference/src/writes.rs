@@ -1,13 +1,13 @@
 //! The writes of a step: whole records, in an order in which they can be stored one by one.
 
-use crate::class::{Class, Way, way_to};
+use crate::class::Class;
 use crate::fid::Fid;
 use crate::position::Position;
-use crate::site::{Place, Site};
-use crate::step::{Policy, Stop, step, unused_object_row, unused_parent_row, waiting_row};
+use crate::site::Site;
+use crate::step::{Policy, Stop, step};
 
 /// A record that is written whole.
-#[derive(Clone, Copy, Debug, PartialEq, Eq, PartialOrd, Ord)]
+#[derive(Clone, Copy, Debug, PartialEq, Eq)]
 pub enum Record {
     /// A parent row with its layout.
     Parent(usize),
@@ -15,7 +15,7 @@ pub enum Record {
     Object(usize),
 }
 
-/// The records that the step at a position writes, in their order; none where it repairs nothing.
+/// The records that the step at a position writes, in their order: those that it changes.
 pub fn writes(
     site: &Site,
     position: Position,
@@ -23,60 +23,43 @@ pub fn writes(
     reserve: &[Fid],
 ) -> Result<Vec<Record>, Stop> {
     let mut after = site.clone();
-    let Some(class) = step(&mut after, position, policy, reserve)? else {
-        return Ok(Vec::new());
-    };
-    let mut records = touched(site, position, class);
-    records.retain(|&record| differs(record, site, &after));
+    let repaired = step(&mut after, position, policy, reserve)?;
+    let mut records = changed(site, &after);
+    match (repaired, position) {
+        (Some(Class::Orphan), Position::Object { row }) => {
+            records.sort_by_key(|&record| turn_in_adoption(record, row));
+        }
+        _ => records.sort_by_key(|&record| turn_else(record)),
+    }
     Ok(records)
 }
 
-/// The records that the repair of a class may write, in their order: where an orphan takes a place
-/// the layout, the orphan and the destroyed row, and else the object and the layout.
-fn touched(site: &Site, position: Position, class: Class) -> Vec<Record> {
-    match position {
-        Position::Header { row } => vec![Record::Parent(row)],
-        Position::Slot { row, slot } => {
-            let object = object_of(site, Place { row, slot }, class);
-            let object = object.map(Record::Object);
-            object.into_iter().chain([Record::Parent(row)]).collect()
-        }
-        Position::Object { row } if class == Class::Orphan => touched_by_adoption(site, row),
-        Position::Object { row } => vec![Record::Object(row)],
-        Position::End => Vec::new(),
-    }
-}
-
-/// The row of the object that a slot has, or gets.
-fn object_of(site: &Site, place: Place, class: Class) -> Option<usize> {
-    match class {
-        Class::Multiple => waiting_row(site, place).or_else(|| unused_object_row(site)),
-        Class::Dangling => unused_object_row(site),
-        _ => site.object_row(site.stripe(place)?.object),
-    }
-}
-
-fn touched_by_adoption(site: &Site, orphan: usize) -> Vec<Record> {
-    let Some(claim) = site.object(orphan).and_then(|object| object.claim) else {
-        return Vec::new();
-    };
-    let claimed = site.parent_row(claim.parent);
-    let destroyed = match way_to(site, claim) {
-        Ok(Way::ReplaceFresh) => claimed.and_then(|row| {
-            let slot = claim.index as usize;
-            site.object_row(site.stripe(Place { row, slot })?.object)
-        }),
-        _ => None,
-    };
-    let layout = claimed.or_else(|| unused_parent_row(site));
-    let layout = layout.map(Record::Parent);
-    let rows = [Some(orphan), destroyed].into_iter().flatten();
-    layout.into_iter().chain(rows.map(Record::Object)).collect()
-}
-
-fn differs(record: Record, before: &Site, after: &Site) -> bool {
+/// When an orphan takes a place: the layout, then the orphan's owner, then the destroyed row.
+fn turn_in_adoption(record: Record, orphan: usize) -> usize {
     match record {
-        Record::Parent(row) => before.parent(row) != after.parent(row),
-        Record::Object(row) => before.object(row) != after.object(row),
+        Record::Parent(_) => 0,
+        Record::Object(row) if row == orphan => 1,
+        Record::Object(_) => 2,
     }
+}
+
+/// In every other step: the object, then the layout.
+fn turn_else(record: Record) -> usize {
+    match record {
+        Record::Object(_) => 0,
+        Record::Parent(_) => 1,
+    }
+}
+
+fn changed(before: &Site, after: &Site) -> Vec<Record> {
+    let (before, after) = (before.tables(), after.tables());
+    let parents = differing(&before.parents, &after.parents).map(Record::Parent);
+    let objects = differing(&before.objects, &after.objects).map(Record::Object);
+    parents.chain(objects).collect()
+}
+
+/// The rows that differ.
+fn differing<Row: PartialEq>(before: &[Row], after: &[Row]) -> impl Iterator<Item = usize> {
+    let rows = before.iter().zip(after).enumerate();
+    rows.filter_map(|(row, (before, after))| (before != after).then_some(row))
 }

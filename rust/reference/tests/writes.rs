@@ -2,6 +2,7 @@
 //! fresh object that waits for a slot.
 
 use reference::answer::{DONE, NO_OBJECT_ROW, NO_POSITION, NO_RESERVE, NO_ROOM};
+use reference::class::Class;
 use reference::fid::Fid;
 use reference::interface;
 use reference::layout::{Layout, Stripe, Version};
@@ -24,6 +25,10 @@ const M: Fid = Fid::new(0x2_4000_0400, 0x21);
 const OWNER: Owner = Owner { uid: 500, gid: 600 };
 const ROOT: Owner = Owner { uid: 0, gid: 0 };
 
+const ADOPT: Policy = Policy {
+    create: false,
+    adopt: true,
+};
 const BOTH: Policy = Policy {
     create: true,
     adopt: true,
@@ -111,10 +116,11 @@ fn stepped(site: &Site, position: Position) -> Tables {
     after.tables().clone()
 }
 
-fn ran(tables: Tables, reserve: &[Fid]) -> (Outcome, Tables) {
-    let mut site = Site::new(tables);
+/// A run from the start to the end, or to a stop.
+fn ran(tables: &Tables, policy: Policy, reserve: &[Fid]) -> (Outcome, Tables) {
+    let mut site = Site::new(tables.clone());
     let start = Position::start(site.tables());
-    let outcome = run::run(&mut site, BOTH, reserve, start, u64::MAX);
+    let outcome = run::run(&mut site, policy, reserve, start, u64::MAX);
     (outcome, site.tables().clone())
 }
 
@@ -184,43 +190,62 @@ fn an_orphan_s_layout_comes_first() {
 }
 
 /// P[A,A], A claims (P,0), one unused row, reserve [N,M]: cut after N is made, the run from the
-/// start finds N waiting, and neither takes M nor misses a row.
+/// start finds N waiting, and neither takes M nor misses a row, as it would if N were not used.
 #[test]
 fn a_cut_after_the_new_object() {
     let start = site(
         &[file(P, &[naming(A), naming(A)])],
         &[Some(data(A, P, 0)), None],
     );
-    let (uncut, end) = ran(start.tables().clone(), &[N, M]);
+    let (uncut, end) = ran(start.tables(), BOTH, &[N, M]);
     assert_eq!(uncut.answer, DONE);
     expect(&start, slot(0, 1), &[O(1), F(0)]);
     let mut cut = start.tables().clone();
     cut.objects[1] = stepped(&start, slot(0, 1)).objects[1];
-    assert_eq!(cut.objects[1].map(|object| object.fid), Some(N));
+    assert_eq!(cut.objects[1], Some(fresh(N, P, 1)));
     expect(&Site::new(cut.clone()), slot(0, 1), &[F(0)]);
-    let (again, tables) = ran(cut, &[N, M]);
+    let (again, tables) = ran(&cut, BOTH, &[N, M]);
     assert_eq!((again.answer, tables), (DONE, end));
+    cut.objects[1] = Some(data(N, P, 1));
+    assert_eq!(ran(&cut, BOTH, &[N, M]).0.answer, NO_OBJECT_ROW);
 }
 
-/// P[F], F fresh and C with data both claim (P,0): after each write the run from the start gives
-/// the slot to C.
-#[test]
-fn a_cut_in_a_place_that_is_taken() {
-    let start = site(
+/// P[B], B fresh and C with data both claim (P,0).
+fn both_claim() -> Site {
+    site(
         &[file(P, &[naming(B)])],
         &[Some(fresh(B, P, 0)), Some(of_root(data(C, P, 0)))],
-    );
-    let (uncut, end) = ran(start.tables().clone(), &[]);
-    assert_eq!(uncut.answer, DONE);
+    )
+}
+
+/// After each write the run from the start gives the slot to C.
+#[test]
+fn a_cut_in_a_place_that_is_taken() {
+    let start = both_claim();
     let at = Position::Object { row: 1 };
     expect(&start, at, &[F(0), O(1), O(0)]);
     let after = stepped(&start, at);
-    assert_eq!(after, end);
-    let mut cut = start.tables().clone();
-    cut.parents[0].clone_from(&after.parents[0]);
-    assert_eq!(ran(cut.clone(), &[]).1, end);
-    cut.objects[1] = after.objects[1];
-    assert_eq!(ran(cut.clone(), &[]).1, end);
+    let mut placed = start.tables().clone();
+    placed.parents[0].clone_from(&after.parents[0]);
+    let mut owned = placed.clone();
+    owned.objects[1] = after.objects[1];
+    for tables in [start.tables(), &placed, &owned] {
+        for policy in [ADOPT, BOTH] {
+            let (outcome, end) = ran(tables, policy, &[]);
+            assert_eq!((outcome.answer, &end), (DONE, &after));
+        }
+    }
+}
+
+/// Were the row destroyed first, a cut after it would leave C in CONFLICT for ever.
+#[test]
+fn a_cut_after_a_row_that_is_destroyed_first() {
+    let mut cut = both_claim().tables().clone();
+    cut.objects[0] = None;
+    let (outcome, end) = ran(&cut, ADOPT, &[]);
+    assert_eq!((outcome.answer, &end), (DONE, &cut));
+    let class = Class::at(&Site::new(end), Position::Object { row: 1 });
+    assert_eq!(class, Some(Class::Conflict));
 }
 
 /// P[A,A] with A in slot 0, and the object that slot 1 then names after its step.
@@ -282,7 +307,7 @@ fn no_other_object_is_used_again() {
 fn a_waiting_object_comes_before_21_and_22() {
     let files = [file(P, &[naming(A), naming(A)])];
     let objects = [Some(data(A, P, 0)), Some(fresh(C, P, 1))];
-    let (outcome, _) = ran(site(&files, &objects).tables().clone(), &[]);
+    let (outcome, _) = ran(site(&files, &objects).tables(), BOTH, &[]);
     assert_eq!(outcome.answer, DONE);
     assert_eq!(outcome.repairs, [0, 1, 0, 0, 0, 0, 0, 0, 0]);
     let none = site(&files, &objects[..1]);

@@ -4,8 +4,9 @@ use numbers::answer::{OK, STEPS_USED};
 use numbers::call::{END, POSITION, REPORT};
 
 use super::check::check;
+use super::decide::{Lent, decide};
 use super::position::next;
-use super::repair::{Lent, step};
+use super::repair::put;
 
 /// Checks the input, then makes at most `most` steps.
 pub fn run(
@@ -21,23 +22,27 @@ pub fn run(
     if refusal != OK {
         return refusal;
     }
-    let mut lent = Lent {
-        parents,
-        objects,
-        reserve,
-    };
     report.fill(0);
     while *position != END {
         if report[0] == most {
             return STEPS_USED;
         }
-        match step(&mut lent, policy, *position) {
+        let lent = Lent {
+            parents,
+            objects,
+            reserve,
+        };
+        match decide(lent, policy, *position) {
             Ok(None) => (),
-            Ok(Some(count)) => report[1 + count] += 1,
+            Ok(Some((count, writes))) => {
+                let writes = writes.into_iter().flatten();
+                writes.for_each(|write| put(parents, objects, write));
+                report[1 + count] += 1;
+            }
             Err(stop) => return stop,
         }
         report[0] += 1;
-        *position = next(lent.parents, lent.objects, *position);
+        *position = next(parents, objects, *position);
     }
     OK
 }

@@ -13,7 +13,7 @@ use reference::fid::Fid;
 use reference::layout::Version;
 use reference::position::Position;
 use reference::site::Site;
-use reference::tables::Claim;
+use reference::tables::{Claim, OBJECT_BYTES};
 
 /// Counts of what was met.
 pub struct Seen {
@@ -70,7 +70,8 @@ const STOPS: [&str; 6] = [
     "1 before a stop",
 ];
 
-const REDIRECTS: [&str; 4] = [
+const REDIRECTS: [&str; 5] = [
+    "to an object that waits",
     "first of the reserve",
     "past an object's FID",
     "past a named FID",
@@ -159,6 +160,9 @@ impl Seen {
         if let Some(class) = repaired(outcome) {
             self.repairs.met(class);
             match class {
+                "MULTIPLE" if makes_none(site, outcome) => {
+                    self.reserve.met("to an object that waits");
+                }
                 "MULTIPLE" => self.note_redirect(scenario, site),
                 "ORPHAN" => self.note_length(site, at),
                 _ => (),
@@ -185,7 +189,7 @@ impl Seen {
         self.lengths.met((claim.index + 1, how));
     }
 
-    /// Which FIDs a redirect passed over.
+    /// Which FIDs of the reserve a redirect passed over.
     fn note_redirect(&mut self, scenario: &Scenario, site: &Site) {
         let reserve = read_reserve(&scenario.reserve, &mut Faults::new());
         let is_object = |fid: Fid| site.object_row(fid).is_some();
@@ -223,6 +227,13 @@ impl Seen {
             self.stops.met("22 of a redirect");
         }
     }
+}
+
+/// Whether a step leaves as many objects as there were.
+fn makes_none(site: &Site, outcome: &Outcome) -> bool {
+    let rows = outcome.state.objects.chunks(OBJECT_BYTES);
+    let after = rows.filter(|row| row[0] == 1).count();
+    site.tables().objects.iter().flatten().count() == after
 }
 
 /// What adoption leads to at each far index.

@@ -46,12 +46,12 @@ pub fn step_writes(
 fn numbers_of(records: &[Record]) -> [u64; WRITES_NUMBERS] {
     let mut numbers = [0; WRITES_NUMBERS];
     numbers[0] = records.len() as u64;
-    for (place, record) in numbers[1..].chunks_exact_mut(2).zip(records) {
-        let (table, row) = match *record {
+    for (write, &record) in records.iter().enumerate() {
+        let (table, row) = match record {
             Record::Parent(row) => (0, row),
             Record::Object(row) => (1, row),
         };
-        place.copy_from_slice(&[table, row as u64]);
+        numbers[1 + 2 * write..][..2].copy_from_slice(&[table, row as u64]);
     }
     numbers
 }

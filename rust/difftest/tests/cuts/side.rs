@@ -1,7 +1,10 @@
-//! Both tables as bytes, and the library's calls with them.
+//! Both tables as bytes, and the calls of either side with them.
 
 use difftest::tables::describe;
 use numbers::call::{END, MOST_WRITES, POSITION, REPORT, ROW, TABLE_PARENTS, WRITES};
+use reference::check::{Faults, read_reserve};
+use reference::fid::Fid;
+use reference::interface;
 use reference::tables::{OBJECT_BYTES, PARENT_BYTES};
 
 /// Both tables.
@@ -28,45 +31,78 @@ pub struct Ended {
     pub report: [u64; REPORT],
 }
 
-impl Ended {
-    pub fn is_at_end(&self) -> bool {
-        self.answer == 0 && self.position == END
-    }
+type Check = fn(&[u8], &[u8], &[u8], u64, [u64; POSITION]) -> u32;
+type Tell = fn(&[u8], &[u8], &mut [u64]) -> u32;
+type Run = fn(&mut [u8], &mut [u8], &[u8], u64, u64, &mut [u64], &mut [u64]) -> u32;
+type Writes = fn(&[u8], &[u8], &[u8], u64, [u64; POSITION], &mut [u64]) -> u32;
+
+/// The calls that a program needs which stores its tables row by row.
+#[derive(Clone, Copy)]
+pub struct Side {
+    check: Check,
+    start: Tell,
+    steps: Tell,
+    run: Run,
+    writes: Writes,
 }
 
-impl Lent {
+/// The library, through C.
+pub const LIBRARY: Side = Side {
+    check: lfsck_sys::check,
+    start: lfsck_sys::start,
+    steps: lfsck_sys::steps,
+    run: lfsck_sys::run,
+    writes: lfsck_sys::step_writes,
+};
+
+/// The reference.
+pub const REFERENCE: Side = Side {
+    check: interface::check,
+    start: interface::start,
+    steps: interface::steps,
+    run: interface::run,
+    writes: interface::step_writes,
+};
+
+impl Side {
     /// Where a run begins. The tables pass the check.
-    pub fn start(&self) -> [u64; POSITION] {
+    pub fn start(&self, tables: &Lent) -> [u64; POSITION] {
         let mut position = [0; POSITION];
-        let answer = lfsck_sys::start(&self.parents, &self.objects, &mut position);
-        assert_eq!(answer, 0, "{}", self.describe());
+        let answer = (self.start)(&tables.parents, &tables.objects, &mut position);
+        assert_eq!(answer, 0, "{}", tables.describe());
         position
     }
 
     /// The steps that the tables count.
-    pub fn steps(&self) -> u64 {
+    pub fn steps(&self, tables: &Lent) -> u64 {
         let mut steps = [0];
-        let answer = lfsck_sys::steps(&self.parents, &self.objects, &mut steps);
-        assert_eq!(answer, 0, "{}", self.describe());
+        let answer = (self.steps)(&tables.parents, &tables.objects, &mut steps);
+        assert_eq!(answer, 0, "{}", tables.describe());
         steps[0]
     }
 
     /// Whether a run from a position may be made.
-    pub fn check(&self, terms: &Terms, position: [u64; POSITION]) -> u32 {
-        let Terms { policy, reserve } = terms;
-        lfsck_sys::check(&self.parents, &self.objects, reserve, *policy, position)
+    pub fn check(&self, tables: &Lent, terms: &Terms, position: [u64; POSITION]) -> u32 {
+        let Lent { parents, objects } = tables;
+        (self.check)(parents, objects, &terms.reserve, terms.policy, position)
     }
 
     /// A run in place.
-    pub fn run(&mut self, terms: &Terms, position: [u64; POSITION], most: u64) -> Ended {
+    pub fn run(
+        &self,
+        tables: &mut Lent,
+        terms: &Terms,
+        position: [u64; POSITION],
+        most: u64,
+    ) -> Ended {
         let mut ended = Ended {
             answer: 0,
             position,
             report: [0; REPORT],
         };
-        ended.answer = lfsck_sys::run(
-            &mut self.parents,
-            &mut self.objects,
+        ended.answer = (self.run)(
+            &mut tables.parents,
+            &mut tables.objects,
             &terms.reserve,
             terms.policy,
             most,
@@ -77,16 +113,36 @@ impl Lent {
     }
 
     /// The writes of the step at a position, or the answer where it can't be made.
-    pub fn writes(&self, terms: &Terms, position: [u64; POSITION]) -> Result<Vec<Row>, u32> {
+    pub fn writes(
+        &self,
+        tables: &Lent,
+        terms: &Terms,
+        position: [u64; POSITION],
+    ) -> Result<Vec<Row>, u32> {
         let mut out = [u64::MAX; WRITES];
         let Terms { policy, reserve } = terms;
-        let (parents, objects) = (&self.parents, &self.objects);
-        match lfsck_sys::step_writes(parents, objects, reserve, *policy, position, &mut out) {
+        let Lent { parents, objects } = tables;
+        match (self.writes)(parents, objects, reserve, *policy, position, &mut out) {
             0 => Ok(rows(&out)),
             answer => Err(answer),
         }
     }
+}
 
+impl Ended {
+    pub fn is_at_end(&self) -> bool {
+        self.answer == 0 && self.position == END
+    }
+}
+
+impl Terms {
+    /// The FIDs of the reserve.
+    pub fn fids(&self) -> Vec<Fid> {
+        read_reserve(&self.reserve, &mut Faults::new())
+    }
+}
+
+impl Lent {
     /// A row's bytes.
     fn row(&self, [table, row]: Row) -> &[u8] {
         if table == TABLE_PARENTS {
