@@ -90,6 +90,12 @@ fn full_tables_are_checked_classed_and_repaired() {
     assert_eq!(summary.number("UNUSED"), (OBJECTS - NAMED * SLOTS) as u64);
     expect_compared(&case, classes.get("compared"));
     time("classes and show");
+    // The slot whose object is absent: a row behind all objects.
+    let shown = case.json(&["show", "0x200000401:4", "--writes"], 0);
+    let writes = shown.get("file").list("positions")[6].list("writes");
+    assert_eq!(writes.len(), 1);
+    assert_eq!(writes[0].number("row"), (NAMED * SLOTS) as u64);
+    time("writes");
 
     // The faults are in the first eight files.
     let steps = (8 * (1 + SLOTS)).to_string();
