@@ -489,8 +489,8 @@ fn counts_of(repairs: &Value, version: &str) -> Option<[u64; COUNTED.len()]> {
     counts?.try_into().ok()
 }
 
-/// The objects that a run's redirects used. Versions before 0.9.0 used none, and their entries don't
-/// tell any.
+/// The objects that a run's redirects used. Versions before 0.9.0 used none, and their entries
+/// don't tell any.
 fn reused_of(value: &Value) -> Option<Vec<OstFid>> {
     let fid = |value: &Value| match value {
         Value::Text(text) => Fid::parse(text).map(OstFid),

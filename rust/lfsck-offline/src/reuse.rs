@@ -1,9 +1,9 @@
-//! Which object a redirect uses in place of a new one: the first that is fresh, claims the very slot
-//! and is named by no slot. A redirect that was cut off after it had made the object leaves such a
-//! one.
+//! Which object a redirect uses in place of a new one: the first that is fresh, claims the very
+//! slot and is named by no slot. A redirect that was cut off after it had made the object leaves
+//! such a one.
 //!
-//! No step before the redirect changes which object that is: a run lets slots name fresh objects that
-//! it makes or uses, and no others, and it writes the claims of objects that slots name.
+//! No step before the redirect changes which object that is: of fresh objects a run lets slots name
+//! those that it makes or uses, and it writes the claims of objects that slots name.
 
 use crate::fid::OstFid;
 use crate::rows::Object;
@@ -162,8 +162,8 @@ mod tests {
         met.require(50);
     }
 
-    /// Runs a step at a time, and tells which objects redirects used, in the order of their rows, and
-    /// in which stage the run stands.
+    /// Runs a step at a time, and tells which objects redirects used, in the order of their rows,
+    /// and in which stage the run stands.
     fn used_by_steps(tables: &mut Tables, policy: u64, most: u64) -> (Vec<OstFid>, u64) {
         let first = Site::new(tables);
         let mut position = Position::start(&first).to_numbers();

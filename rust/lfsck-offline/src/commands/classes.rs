@@ -241,8 +241,8 @@ fn keeper_members(finding: &Finding) -> Members {
     ]
 }
 
-/// The repair, under which policy it is made, and what it writes: where a run would stop in front of
-/// it, the number.
+/// The repair, under which policy it is made, and what it writes; where a run would stop in front
+/// of it, the number.
 fn repair_members(finding: &Finding) -> Members {
     let repair = finding.repair.as_ref();
     let policy = repair.map(|repair| repair.needs.name());

@@ -154,8 +154,8 @@ fn claimants(site: &Site, fid: MdtFid) -> Vec<(usize, &Object)> {
 }
 
 impl<'case> View<'case> {
-    /// The library's answers are asked for here; its number where it refuses the tables. To machines
-    /// all is told of the slots that name the object too.
+    /// The library's answers are asked for here; its number where it refuses the tables. Machines
+    /// are told what the repairs of the slots that name the object write, too.
     fn new(
         tables: &Tables,
         site: &'case Site,

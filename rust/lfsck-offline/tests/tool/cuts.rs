@@ -68,12 +68,12 @@ fn the_sample_has_a_redirect_that_was_cut_off() {
     let case = Case::sample("cut-sample");
     let told = case.run(&["show", &file(13)]).expect(0).out;
     let lines = "  slot 0: MULTIPLE, names [0x240000400:0x10:0x0] on OST 0, generation 0\n";
-    let repair = "      repair, with --create: use [0x240000400:0x2b:0x0], empty, which claims this \
-                  slot: name it here, on OST 0\n      the layout's generation goes from 0 to 1 with \
-                  it\n";
+    let repair = "      repair, with --create: use [0x240000400:0x2b:0x0], empty, which claims \
+                  this slot: name it here, on OST 0\n      the layout's generation goes from 0 to 1 \
+                  with it\n";
     let empty = "  object [0x240000400:0x2b:0x0] claims slot 0, and no slot names it: EMPTY\n      \
-                 repair, with --adopt: destroy the object\n      but a run with --create first lets \
-                 slot 0 of [0x200000401:0xd:0x0] name it\n";
+                 repair, with --adopt: destroy the object\n      but a run with --create first \
+                 lets slot 0 of [0x200000401:0xd:0x0] name it\n";
     expect_lines(&told, &[lines, repair, empty]);
     let told = case.run(&["classes"]).expect(0).out;
     let words = "with --adopt: destroy the object; but a run with --create first lets slot 0 of";
@@ -129,55 +129,50 @@ fn a_redirect_uses_what_claims_the_slot() {
     }
 }
 
-/// An object that may hold data claims the place too: where it stands first, the one that was used
-/// has given way before the run comes to it.
+/// The classes and kinds of the changes in the story of a file or object.
+fn story(case: &Case, fid: &str) -> Vec<String> {
+    let told = case.json(&["log", fid], 0);
+    let words = |it: &Value| {
+        let class = match it.get("class") {
+            Value::Text(class) => class,
+            _ => "-",
+        };
+        format!("{class} {}", it.get("change").text("kind"))
+    };
+    told.list("story").iter().map(words).collect()
+}
+
+/// An object that may hold data claims the place too. A run uses the empty one, which then gives
+/// way; the class that it has when the run comes to it is told, and why.
+fn expect_given_way(case: &Case, class: &str, words: &str) {
+    let told = case.run(&["show", &file(2)]).expect(0).out;
+    let taker = "but a run with --create --adopt first lets that slot name \
+                 [0x240000400:0x20:0x0], empty, and then puts this object there\n";
+    expect_lines(&told, &[words, taker]);
+    let shown = case.json(&["show", "0x240000400:0x20"], 0);
+    let turn = shown.get("object").get("position").get("turn");
+    assert_eq!(turn.text("class"), class);
+    let start = case.files();
+    let told = case.run(&RUN).expect(0).out;
+    assert!(told.contains("Repairs: MULTIPLE 1, ORPHAN 1.\n"), "{told}");
+    oracle::run(&start, 3, u64::MAX).expect_in(case);
+    assert_eq!(story(case, "0x240000400:0x20"), ["ORPHAN object_destroyed"]);
+    // The generation was raised by both classes.
+    let expected = ["- generation", "ORPHAN slot", "ORPHAN object_destroyed"];
+    assert_eq!(story(case, &file(2)), expected);
+}
+
+/// Where the object with data stands first, the empty one is gone before the run comes to it.
 #[test]
 fn what_is_used_may_give_way() {
     let (fresh, data) = (fresh_row(0x20, (2, 0)), object_row(0x30, (2, 0)));
-    for (name, waiting, class, words) in [
-        (
-            "cut-then-taken",
-            [fresh.clone(), data.clone()],
-            "KEPT",
-            "but a run with --create first lets slot 0 of [0x200000401:0x2:0x0] name it\n",
-        ),
-        (
-            "cut-taken-before",
-            [data, fresh],
-            "UNUSED",
-            "but a run with --create --adopt first lets slot 0 of [0x200000401:0x2:0x0] name it, \
-             then puts [0x240000400:0x30:0x0] there and destroys this object\n",
-        ),
-    ] {
-        let case = redirected(name, &waiting);
-        let told = case.run(&["show", &file(2)]).expect(0).out;
-        let taker = "but a run with --create --adopt first lets that slot name \
-                     [0x240000400:0x20:0x0], empty, and then puts this object there\n";
-        expect_lines(&told, &[words, taker]);
-        let shown = case.json(&["show", "0x240000400:0x20"], 0);
-        let turn = shown.get("object").get("position").get("turn");
-        assert_eq!(turn.text("class"), class);
-        let start = case.files();
-        let told = case.run(&RUN).expect(0).out;
-        assert!(told.contains("Repairs: MULTIPLE 1, ORPHAN 1.\n"), "{told}");
-        oracle::run(&start, 3, u64::MAX).expect_in(&case);
-        let story = |fid: &str| {
-            let told = case.json(&["log", fid], 0);
-            let list = told.list("story").to_vec();
-            let class = |it: &Value| match it.get("class") {
-                Value::Text(class) => class.clone(),
-                _ => "-".to_string(),
-            };
-            let kind = |it: &Value| it.get("change").text("kind").to_string();
-            list.iter()
-                .map(|it| format!("{} {}", class(it), kind(it)))
-                .collect::<Vec<String>>()
-        };
-        assert_eq!(story("0x240000400:0x20"), ["ORPHAN object_destroyed"]);
-        // The generation was raised by both classes.
-        let expected = ["- generation", "ORPHAN slot", "ORPHAN object_destroyed"];
-        assert_eq!(story(&file(2)), expected);
-    }
+    let case = redirected("cut-then-taken", &[fresh.clone(), data.clone()]);
+    let words = "but a run with --create first lets slot 0 of [0x200000401:0x2:0x0] name it\n";
+    expect_given_way(&case, "KEPT", words);
+    let case = redirected("cut-taken-before", &[data, fresh]);
+    let words = "but a run with --create --adopt first lets slot 0 of [0x200000401:0x2:0x0] name \
+                 it, then puts [0x240000400:0x30:0x0] there and destroys this object\n";
+    expect_given_way(&case, "UNUSED", words);
 }
 
 /// The objects of which it is said are named after a run with create, and the others are EMPTY.
@@ -419,57 +414,48 @@ fn a_saved_position_does_not_count_after_a_cut() {
     uncut.expect_in(&case);
 }
 
-/// What is shown of a FID with the writes: the lines about them.
+/// What is shown of a FID with the writes: the rows, repair by repair.
 fn writes_lines(case: &Case, fid: &str) -> Vec<String> {
     let told = case.run(&["show", fid, "--writes"]).expect(0).out;
-    let lines = told.lines().filter(|line| line.contains("writes "));
-    lines.map(|line| line.trim_start().to_string()).collect()
+    let lines = told
+        .lines()
+        .filter_map(|it| it.strip_prefix("      writes "));
+    lines.map(str::to_string).collect()
 }
+
+/// The writes of the repairs that are shown with each file of the sample.
+const WRITES: [(u32, &[&str]); 13] = [
+    (1, &["object row 17"]),
+    (2, &["parent row 1"]),
+    (3, &["object row 22, then parent row 2"]),
+    (4, &["object row 22"]),
+    (5, &["object row 4", "object row 5", "object row 6"]),
+    (6, &["parent row 5", "parent row 5, then object row 11"]),
+    (7, &["parent row 6, then object row 9"]),
+    (8, &["object row 22"]),
+    (9, &["parent row 11"]),
+    (10, &["parent row 8"]),
+    (11, &["object row 19, then parent row 9"]),
+    (12, &[]),
+    (13, &["parent row 10", "object row 21"]),
+];
 
 /// Every class, and every way to a place.
 #[test]
 fn show_tells_the_writes_in_their_order() {
     let case = Case::sample("writes-sample");
-    for (id, lines) in [
-        (1, &["writes object row 17"][..]),
-        (2, &["writes parent row 1"]),
-        (3, &["writes object row 22, then parent row 2"]),
-        (4, &["writes object row 22"]),
-        (
-            5,
-            &[
-                "writes object row 4",
-                "writes object row 5",
-                "writes object row 6",
-            ],
-        ),
-        (
-            6,
-            &[
-                "writes parent row 5",
-                "writes parent row 5, then object row 11",
-            ],
-        ),
-        (7, &["writes parent row 6, then object row 9"]),
-        (8, &["writes object row 22"]),
-        (9, &["writes parent row 11"]),
-        (10, &["writes parent row 8"]),
-        (11, &["writes object row 19, then parent row 9"]),
-        (12, &[]),
-        (13, &["writes parent row 10", "writes object row 21"]),
-    ] {
+    for (id, lines) in WRITES {
         assert_eq!(writes_lines(&case, &file(id)), lines, "file {id}");
     }
-    let object = "0x240000400:0x21";
-    let line = "writes parent row 5, then object row 11";
-    assert_eq!(writes_lines(&case, object), [line]);
+    let orphan = writes_lines(&case, "0x240000400:0x21");
+    assert_eq!(orphan, ["parent row 5, then object row 11"]);
     // An orphan of another owner takes a place.
     case.edit("objects.tbl", |bytes| bytes[13 * 46 + UID] ^= 1);
-    let line = "writes parent row 6, then object row 13, then object row 9";
+    let line = "parent row 6, then object row 13, then object row 9";
     assert_eq!(writes_lines(&case, &file(7)), [line]);
     // A new object stands in the first unused row.
     case.edit("objects.tbl", |bytes| bytes[16 * 46] = 0);
-    let line = "writes object row 16, then parent row 2";
+    let line = "object row 16, then parent row 2";
     assert_eq!(writes_lines(&case, &file(3)), [line]);
 }
 
@@ -515,54 +501,41 @@ fn has_writes(finding: &Value) -> bool {
     *finding.get("writes") != Value::Null
 }
 
-/// Where the step could not be made the number is told in the place of the records.
+/// The first repair of a file, whose step could not be made: the number is told in the place of the
+/// records.
+fn expect_stop(case: &Case, fid: &str, number: u64, meaning: &str) {
+    let told = case.run(&["show", fid, "--writes"]).expect(0).out;
+    let line = format!("      the step would stop with {number}: {meaning}\n");
+    assert!(told.contains(&line), "{told}");
+    assert!(!told.contains("      writes "), "{told}");
+    let told = case.json(&["show", fid, "--writes"], 0);
+    let finding = match told.get("file") {
+        Value::Null => &told.list("claimed_by")[0],
+        file => &file.list("positions")[1],
+    };
+    assert_eq!(finding.number("stops"), number);
+    assert_eq!(finding.get("writes"), &Value::Null);
+}
+
 #[test]
 fn a_step_that_cannot_be_made_is_told() {
     let parents = [parent_row(1, &[0x10, 0x11]), parent_row(2, &[0x10])].concat();
     let objects = [object_row(0x10, (2, 0)), object_row(0x11, (1, 1))].concat();
-    let absent = object_row(0x30, (9, 2));
+    let case = Case::with("stops-21", &parents, &objects, &[]);
+    let meaning = "a slot is to be redirected, and no FID of the reserve can be used";
+    expect_stop(&case, &file(1), 21, meaning);
+    let case = Case::with("stops-22", &parents, &objects, &reserve(&[0x20]));
+    let meaning = "an object is to be made, and no object row is unused";
+    expect_stop(&case, &file(1), 22, meaning);
     let one = parent_row(1, &[]);
-    for (name, tables, fid, number, line) in [
-        (
-            "stops-21",
-            [&parents, &objects, &vec![]],
-            file(1),
-            21,
-            "the step would stop with 21: a slot is to be redirected, and no FID of the reserve can \
-             be used",
-        ),
-        (
-            "stops-22",
-            [&parents, &objects, &reserve(&[0x20])],
-            file(1),
-            22,
-            "the step would stop with 22: an object is to be made, and no object row is unused",
-        ),
-        (
-            "stops-23",
-            [&one, &absent, &vec![]],
-            file(9),
-            23,
-            "the step would stop with 23: a file is to be made, and no parent row is unused",
-        ),
-    ] {
-        let [parents, objects, reserve] = tables;
-        let case = Case::with(name, parents, objects, reserve);
-        let told = case.run(&["show", &fid, "--writes"]).expect(0).out;
-        assert!(told.contains(&format!("      {line}\n")), "{told}");
-        assert!(!told.contains("      writes "), "{told}");
-        let told = case.json(&["show", &fid, "--writes"], 0);
-        let finding = match told.get("file") {
-            Value::Null => &told.list("claimed_by")[0],
-            file => &file.list("positions")[1],
-        };
-        assert_eq!(finding.number("stops"), number);
-        assert_eq!(finding.get("writes"), &Value::Null);
-    }
+    let case = Case::with("stops-23", &one, &object_row(0x30, (9, 2)), &[]);
+    let meaning = "a file is to be made, and no parent row is unused";
+    expect_stop(&case, &file(9), 23, meaning);
     // An object that claims the slot needs neither.
     let waiting = [objects, fresh_row(0x20, (1, 0))].concat();
     let case = Case::with("stops-not", &parents, &waiting, &[]);
-    assert_eq!(writes_lines(&case, &file(1))[0], "writes parent row 0");
+    let lines = writes_lines(&case, &file(1));
+    assert_eq!(lines, ["parent row 0", "object row 2"]);
 }
 
 #[test]
