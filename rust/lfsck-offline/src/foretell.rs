@@ -169,7 +169,7 @@ mod tests {
     use crate::slices;
     use crate::tables::Tables;
     use crate::verdict::Verdicts;
-    use difftest::tables::{OBJECTS, Shape, random_tables, to_bytes};
+    use difftest::tables::{OBJECTS, Shape};
     use difftest::{Coverage, Random};
     use numbers::call::{ADOPT, BOTH, CREATE};
 
@@ -302,13 +302,14 @@ mod tests {
 
     /// Random tables with room for repairs.
     fn random_case(random: &mut Random) -> Tables {
-        let (parents, objects) = to_bytes(&random_tables(SHAPE, random), random);
-        let reserve = OBJECTS.iter().flat_map(|fid| fid.to_bytes()).collect();
-        Tables {
-            parents: [parents, vec![0; numbers::parent::BYTES]].concat(),
-            objects: [objects, vec![0; 46 * 3]].concat(),
-            reserve,
-        }
+        let mut tables = match random.one_in(2) {
+            true => Tables::random(SHAPE, random),
+            false => Tables::random_cut(SHAPE, random),
+        };
+        tables.parents.extend([0; numbers::parent::BYTES]);
+        tables.objects.extend([0; 3 * numbers::object::BYTES]);
+        tables.reserve = OBJECTS.iter().flat_map(|fid| fid.to_bytes()).collect();
+        tables
     }
 
     #[test]

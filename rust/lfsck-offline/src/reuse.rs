@@ -51,7 +51,7 @@ mod tests {
     use difftest::tables::{OBJECTS, Shape};
     use difftest::{Coverage, Random};
     use numbers::answer::{NO_OBJECT_ROW, NO_RESERVE, STEPS_USED};
-    use numbers::call::{CREATE, STAGE_PARENTS};
+    use numbers::call::{ADOPT, BOTH, CREATE, STAGE_PARENTS};
     use numbers::object;
 
     const SHAPE: Shape = Shape {
@@ -67,7 +67,7 @@ mod tests {
 
     /// Random tables with FIDs and rows for new objects, or without.
     fn random_case(random: &mut Random) -> Tables {
-        let mut tables = Tables::random(SHAPE, random);
+        let mut tables = Tables::random_cut(SHAPE, random);
         if random.one_in(2) {
             tables.reserve = OBJECTS.iter().flat_map(|fid| fid.to_bytes()).collect();
         }
@@ -196,7 +196,7 @@ mod tests {
         for _ in 0..10_000 {
             let mut tables = random_case(&mut random);
             let before = Site::new(&tables);
-            let policy = random.below(4) as u64;
+            let policy = random.pick(&[0, CREATE, ADOPT, BOTH, BOTH, BOTH]);
             let most = random.pick(&[5, 60]);
             let (steps, stage) = used_by_steps(&mut tables, policy, most);
             let after = Site::new(&tables);

@@ -156,7 +156,10 @@ mod tests {
     };
 
     fn random_case(random: &mut Random) -> Tables {
-        let mut tables = Tables::random(SHAPE, random);
+        let mut tables = match random.one_in(2) {
+            true => Tables::random(SHAPE, random),
+            false => Tables::random_cut(SHAPE, random),
+        };
         tables.objects.extend([0; 3 * object::BYTES]);
         tables.reserve = OBJECTS.iter().flat_map(|fid| fid.to_bytes()).collect();
         tables
@@ -202,7 +205,7 @@ mod tests {
             let mut tables = random_case(&mut random);
             let before = Site::new(&tables);
             let start = Position::all(&before).next().unwrap_or(Position::End);
-            let policy = random.below(4) as u64;
+            let policy = random.pick(&[0, 1, 2, 3, 3, 3]);
             let run = slices::run(&mut tables, policy, u64::MAX, start.to_numbers());
             let after = Site::new(&tables);
             let (list, reused) = (changes(&before, &after), reuse::used(&before, &after));
