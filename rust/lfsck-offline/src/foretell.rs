@@ -302,10 +302,7 @@ mod tests {
 
     /// Random tables with room for repairs.
     fn random_case(random: &mut Random) -> Tables {
-        let mut tables = match random.one_in(2) {
-            true => Tables::random(SHAPE, random),
-            false => Tables::random_cut(SHAPE, random),
-        };
+        let mut tables = Tables::random_or_cut(SHAPE, random);
         tables.parents.extend([0; numbers::parent::BYTES]);
         tables.objects.extend([0; 3 * numbers::object::BYTES]);
         tables.reserve = OBJECTS.iter().flat_map(|fid| fid.to_bytes()).collect();

@@ -160,7 +160,7 @@ mod tests {
         let mut random = Random::for_test("estimates");
         let mut met = Coverage::of("redirects", ["none", "some", "some of them use an object"]);
         for _ in 0..2_000 {
-            let tables = Tables::random_cut(SHAPE, &mut random);
+            let tables = Tables::random_or_cut(SHAPE, &mut random);
             let site = Site::new(&tables);
             let [more, work] = [CREATE, 0].map(|policy| Estimate::of(&site, &tables, policy).work);
             let objects = site.objects.iter().flatten().count() as f64;

@@ -147,27 +147,24 @@ impl Tables {
     /// Random tables that pass the check, with no reserve.
     pub fn random(shape: difftest::tables::Shape, random: &mut difftest::Random) -> Tables {
         let tables = difftest::tables::random_tables(shape, random);
-        Tables::of_reference(&tables, random)
+        Tables::of_rows(&tables, random)
     }
 
-    /// The same as redirects may leave them that were cut off: of the objects that no slot names
-    /// many claim a slot whose object another names too, and most of these are fresh.
+    /// The same, as redirects may leave them that were cut off.
     pub fn random_cut(shape: difftest::tables::Shape, random: &mut difftest::Random) -> Tables {
-        let mut tables = difftest::tables::random_tables(shape, random);
-        let named = named_slots(&tables);
-        let count = |fid| named.iter().filter(|(named, _)| *named == fid).count();
-        let shared = named.iter().filter(|(fid, _)| count(*fid) > 1);
-        let shared: Vec<reference::tables::Claim> = shared.map(|(_, claim)| *claim).collect();
-        for object in tables.objects.iter_mut().flatten() {
-            if count(object.fid) == 0 && !shared.is_empty() && !random.one_in(3) {
-                object.claim = Some(random.pick(&shared));
-                object.fresh = !random.one_in(3);
-            }
-        }
-        Tables::of_reference(&tables, random)
+        let tables = difftest::tables::random_cut_tables(shape, random);
+        Tables::of_rows(&tables, random)
     }
 
-    fn of_reference(tables: &reference::tables::Tables, random: &mut difftest::Random) -> Tables {
+    /// Either of the two.
+    pub fn random_or_cut(shape: difftest::tables::Shape, random: &mut difftest::Random) -> Tables {
+        match random.one_in(2) {
+            true => Tables::random(shape, random),
+            false => Tables::random_cut(shape, random),
+        }
+    }
+
+    fn of_rows(tables: &reference::tables::Tables, random: &mut difftest::Random) -> Tables {
         let (parents, objects) = difftest::tables::to_bytes(tables, random);
         Tables {
             parents,
@@ -175,22 +172,4 @@ impl Tables {
             reserve: Vec::new(),
         }
     }
-}
-
-/// The objects that slots name, each with the claim on its slot.
-#[cfg(test)]
-fn named_slots(
-    tables: &reference::tables::Tables,
-) -> Vec<(reference::fid::Fid, reference::tables::Claim)> {
-    let mut named = Vec::new();
-    for parent in tables.parents.iter().flatten() {
-        for (index, stripe) in parent.layout.slots.iter().enumerate() {
-            let claim = reference::tables::Claim {
-                parent: parent.fid,
-                index: index as u32,
-            };
-            named.extend(stripe.map(|stripe| (stripe.object, claim)));
-        }
-    }
-    named
 }

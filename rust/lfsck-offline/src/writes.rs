@@ -158,10 +158,7 @@ mod tests {
 
     /// Random tables, with room and FIDs for repairs or without.
     fn random_case(random: &mut Random) -> Tables {
-        let mut tables = match random.one_in(2) {
-            true => Tables::random(SHAPE, random),
-            false => Tables::random_cut(SHAPE, random),
-        };
+        let mut tables = Tables::random_or_cut(SHAPE, random);
         if random.one_in(2) {
             tables.reserve = OBJECTS.iter().flat_map(|fid| fid.to_bytes()).collect();
         }

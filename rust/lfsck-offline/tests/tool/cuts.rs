@@ -1,7 +1,7 @@
 //! Tables as a cut between two writes leaves them: which records a step writes and in which order,
 //! which object a redirect uses, and that a run from the start comes to the end of the uncut one.
 
-use difftest::tables::{OBJECTS, Shape, random_tables, to_bytes};
+use difftest::tables::{OBJECTS, Shape, random_cut_tables, to_bytes};
 use difftest::{Coverage, Random};
 use reference::class::Class;
 use reference::position::Position;
@@ -45,9 +45,9 @@ fn reserve(ids: &[u32]) -> Vec<u8> {
     ids.iter().flat_map(|id| object(*id).to_bytes()).collect()
 }
 
-/// Random tables with room and FIDs for repairs.
+/// Random tables with room and FIDs for repairs, as redirects may leave them that were cut off.
 fn random_case(name: &str, random: &mut Random) -> Case {
-    let (parents, objects) = to_bytes(&random_tables(SHAPE, random), random);
+    let (parents, objects) = to_bytes(&random_cut_tables(SHAPE, random), random);
     let parents = [parents, vec![0; 2 * PARENT]].concat();
     let objects = [objects, vec![0; 4 * 46]].concat();
     let reserve: Vec<u8> = OBJECTS.iter().flat_map(|fid| fid.to_bytes()).collect();
@@ -96,7 +96,7 @@ fn the_sample_has_a_redirect_that_was_cut_off() {
 fn a_redirect_uses_what_claims_the_slot() {
     let mut other = fresh_row(0x20, (2, 0));
     other[OST] = 5;
-    other[UID] = 7;
+    other[UID..UID + 4].copy_from_slice(&7_u32.to_le_bytes());
     let waiting = [other, fresh_row(0x21, (2, 0))];
     let case = redirected("cut-reuse", &waiting);
     let told = case.run(&["show", &file(2)]).expect(0).out;
@@ -180,7 +180,7 @@ fn what_is_used_may_give_way() {
 fn an_empty_object_that_a_run_uses_is_marked() {
     let mut random = Random::for_test("empty objects");
     let mut met = Coverage::of("empty objects", ["KEPT", "UNUSED", "stays"]);
-    for round in 0..200 {
+    for round in 0..500 {
         let case = random_case(&format!("empty-{round}"), &mut random);
         let empty = case.json(&["classes", "--only", "EMPTY"], 0);
         if case.run(&["run", "--create"]).status != Some(0) {
@@ -370,7 +370,7 @@ fn cut_everywhere(case: &Case, policy: u64, words: &[&str], met: &mut Coverage<S
 fn a_cut_after_any_write_comes_to_the_same_end() {
     let mut random = Random::for_test("cuts of the tool");
     let mut met = Coverage::of("cuts", CUTS.map(str::to_string));
-    for round in 0..70 {
+    for round in 0..120 {
         let case = random_case(&format!("cut-{round}"), &mut random);
         let policies: [(u64, &[&str]); 3] = [
             (3, &RUN),
