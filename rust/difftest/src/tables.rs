@@ -82,8 +82,8 @@ pub fn random_tables(shape: Shape, random: &mut Random) -> Tables {
     Tables { parents, objects }
 }
 
-/// Tables as redirects may leave them that were cut off: of the objects that no slot names many claim
-/// a slot whose object another names too, and most of these are fresh.
+/// Tables as redirects may leave them that were cut off: of the objects that no slot names many
+/// claim a slot whose object another names too, and most of these are fresh.
 pub fn random_cut_tables(shape: Shape, random: &mut Random) -> Tables {
     let mut tables = random_tables(shape, random);
     let named = named_slots(&tables);

@@ -69,8 +69,8 @@ fn the_sample_has_a_redirect_that_was_cut_off() {
     let told = case.run(&["show", &file(13)]).expect(0).out;
     let lines = "  slot 0: MULTIPLE, names [0x240000400:0x10:0x0] on OST 0, generation 0\n";
     let repair = "      repair, with --create: use [0x240000400:0x2b:0x0], empty, which claims \
-                  this slot: name it here, on OST 0\n      the layout's generation goes from 0 to 1 \
-                  with it\n";
+                  this slot: name it here, on OST 0\n      the layout's generation goes from 0 to \
+                  1 with it\n";
     let empty = "  object [0x240000400:0x2b:0x0] claims slot 0, and no slot names it: EMPTY\n      \
                  repair, with --adopt: destroy the object\n      but a run with --create first \
                  lets slot 0 of [0x200000401:0xd:0x0] name it\n";

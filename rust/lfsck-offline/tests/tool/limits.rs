@@ -77,7 +77,6 @@ fn full_tables_are_checked_classed_and_repaired() {
     assert_eq!(sound.number("object_rows"), 65_536);
     assert_eq!(sound.number("reserve_fids"), 65_536);
     time("check");
-
     let classes = case.json(&["classes"], 0);
     let summary = classes.get("summary");
     let faults = ["SELF", "MULTIPLE", "DANGLING", "UNMATCHED", "OWNER"];
