@@ -82,6 +82,38 @@ pub fn random_tables(shape: Shape, random: &mut Random) -> Tables {
     Tables { parents, objects }
 }
 
+/// Tables as redirects may leave them that were cut off: of the objects that no slot names many
+/// claim a slot whose object another names too, and most of these are fresh.
+pub fn random_cut_tables(shape: Shape, random: &mut Random) -> Tables {
+    let mut tables = random_tables(shape, random);
+    let named = named_slots(&tables);
+    let count = |fid| named.iter().filter(|(named, _)| *named == fid).count();
+    let shared = named.iter().filter(|(fid, _)| count(*fid) > 1);
+    let shared: Vec<Claim> = shared.map(|(_, claim)| *claim).collect();
+    for object in tables.objects.iter_mut().flatten() {
+        if count(object.fid) == 0 && !shared.is_empty() && !random.one_in(3) {
+            object.claim = Some(random.pick(&shared));
+            object.fresh = !random.one_in(3);
+        }
+    }
+    tables
+}
+
+/// The objects that slots name, each with the claim on its slot.
+fn named_slots(tables: &Tables) -> Vec<(Fid, Claim)> {
+    let mut named = Vec::new();
+    for parent in tables.parents.iter().flatten() {
+        for (index, stripe) in parent.layout.slots.iter().enumerate() {
+            let claim = Claim {
+                parent: parent.fid,
+                index: index as u32,
+            };
+            named.extend(stripe.map(|stripe| (stripe.object, claim)));
+        }
+    }
+    named
+}
+
 /// Rather many than few.
 fn row_count(most: usize, random: &mut Random) -> usize {
     random.below(most + 1).max(random.below(most + 1))

@@ -30,7 +30,7 @@ pub enum Command {
     /// Repair.
     Run(RunOptions),
     /// Show a file or an object.
-    Show(Fid),
+    Show(ShowOptions),
     /// Tell what was done, to one file or object or to all.
     Log(Option<Fid>),
     /// Take the last run or mending back.
@@ -54,6 +54,15 @@ pub struct ClassesOptions {
     pub summary: bool,
     /// Let the exit status tell whether there is something to mend.
     pub exit_code: bool,
+}
+
+/// What to show, and how.
+#[derive(Clone, Copy, Debug, PartialEq, Eq)]
+pub struct ShowOptions {
+    /// The file or object.
+    pub fid: Fid,
+    /// Tell which records each repair writes.
+    pub writes: bool,
 }
 
 /// How to repair.
@@ -140,6 +149,7 @@ struct Words {
     summary: bool,
     exit_code: bool,
     mend: bool,
+    writes: bool,
     steps: Option<String>,
     filter: Filter,
     owners: Option<Source>,
@@ -238,6 +248,7 @@ impl Words {
             (Topic::Classes | Topic::Run | Topic::Names, "--summary") => self.summary = true,
             (Topic::Names, "--mend") => self.mend = true,
             (Topic::Classes, "--exit-code") => self.exit_code = true,
+            (Topic::Show, "--writes") => self.writes = true,
             _ => return Err(unknown(option)),
         }
         Ok(())
@@ -314,7 +325,10 @@ impl Words {
                 exit_code: self.exit_code,
             }),
             Topic::Run => Command::Run(self.run_options()?),
-            Topic::Show => Command::Show(self.shown()?),
+            Topic::Show => Command::Show(ShowOptions {
+                fid: self.shown()?,
+                writes: self.writes,
+            }),
             Topic::Log if self.places.is_empty() => Command::Log(None),
             Topic::Log => Command::Log(Some(self.shown()?)),
             Topic::Undo => Command::Undo,
@@ -493,10 +507,38 @@ mod tests {
             assert!(call.json);
         }
         assert_eq!(call("check -- -d").directory, PathBuf::from("-d"));
-        assert_eq!(
-            call("show d [0x200000401:1:0]").command,
-            Command::Show(Fid::new(0x2_0000_0401, 1))
-        );
+    }
+
+    #[test]
+    fn writes_are_an_option_of_show() {
+        let fid = Fid::new(0x2_0000_0401, 1);
+        for (line, writes) in [
+            ("show d [0x200000401:1:0]", false),
+            ("show d [0x200000401:1:0] --writes", true),
+            ("show --writes d 0x200000401:1 --json", true),
+        ] {
+            let options = ShowOptions { fid, writes };
+            assert_eq!(call(line).command, Command::Show(options), "{line}");
+        }
+        expect_refused(&["show d 1:1 --writes=1", "show d --writes", "show --writes"]);
+        for other in [
+            "sample d",
+            "check d",
+            "classes d",
+            "run d",
+            "log d",
+            "log d 1:1",
+            "undo d",
+            "convert d",
+            "names d",
+            "names d --mend",
+            "link f",
+            "intake d --owners o",
+            "help show",
+            "--version",
+        ] {
+            expect_refused(&[&format!("{other} --writes")]);
+        }
     }
 
     #[test]

@@ -8,6 +8,7 @@ use std::path::Path;
 use crate::answers::require_wide;
 use crate::digest::Digest;
 use crate::disk::{Disk, trouble};
+use crate::fid::OstFid;
 use crate::history::{Conversion, Deed, Entry, Group, LOG};
 use crate::journal::{Change, Edit};
 use crate::lock::{Share, lock};
@@ -262,6 +263,7 @@ impl Case {
         saved: &Saved,
         from: [u64; 3],
         run: Run,
+        reused: Vec<OstFid>,
     ) -> Result<(), Failure> {
         let deed = Deed::Run {
             policy: saved.policy,
@@ -271,6 +273,7 @@ impl Case {
                 .find(POSITION, saved::MOST_BYTES)?
                 .and_then(|bytes| Saved::parse(&bytes))
                 .map(Box::new),
+            reused,
         };
         let line = (old != new).then(|| Entry::new(deed, old, new).line());
         self.require_log_room(line.as_ref().map_or(0, String::len))?;
@@ -483,7 +486,7 @@ mod tests {
             let path = directory.join(table.file());
             fs::write(&path, b"other").expect("the file");
             let failure = case
-                .save_run(&old, &new, &saved, [1, 0, 0], RUN)
+                .save_run(&old, &new, &saved, [1, 0, 0], RUN, Vec::new())
                 .expect_err("a refusal");
             assert!(failure.message.contains(table.file()), "{failure:?}");
             assert!(failure.message.contains("nothing is saved"), "{failure:?}");
@@ -491,7 +494,7 @@ mod tests {
             assert!(!case.disk.has(POSITION) && !case.disk.has(JOURNAL) && !case.disk.has(LOG));
             fs::write(&path, old.of(table)).expect("the file");
         }
-        case.save_run(&old, &new, &saved, [1, 0, 0], RUN)
+        case.save_run(&old, &new, &saved, [1, 0, 0], RUN, Vec::new())
             .expect("a save");
         assert_eq!(case.tables().expect("the tables"), new);
         assert_eq!(case.position().expect("the position"), Some(saved));
@@ -560,7 +563,7 @@ mod tests {
         let log = fs::File::create(directory.join(LOG)).expect("the file");
         log.set_len(MOST_LOG as u64 - 100).expect("the length");
         let saved = Saved::new([3, 0, 0], 0, &new);
-        let run = case.save_run(&old, &new, &saved, [1, 0, 0], RUN);
+        let run = case.save_run(&old, &new, &saved, [1, 0, 0], RUN, Vec::new());
         let conversion = Conversion::of_rows(1);
         let conversion = case.save_conversion(&old, &new, Some(conversion));
         for refused in [run, conversion, case.prepare(&old)] {
@@ -577,11 +580,11 @@ mod tests {
     fn what_has_not_changed_is_not_written() {
         let (case, old, directory) = case("unchanged");
         let saved = Saved::new([3, 0, 0], 0, &old);
-        case.save_run(&old, &old, &saved, [1, 0, 0], RUN)
+        case.save_run(&old, &old, &saved, [1, 0, 0], RUN, Vec::new())
             .expect("a save");
         let time = |name| fs::metadata(case.disk.path(name)).and_then(|it| it.modified());
         let before = time(POSITION).expect("the position");
-        case.save_run(&old, &old, &saved, [1, 0, 0], RUN)
+        case.save_run(&old, &old, &saved, [1, 0, 0], RUN, Vec::new())
             .expect("nothing to save");
         assert_eq!(time(POSITION).expect("the position"), before);
         fs::remove_dir_all(&directory).expect("the directory");

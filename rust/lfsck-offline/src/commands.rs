@@ -37,7 +37,7 @@ pub fn execute(call: &Call) -> Result<Outcome, Failure> {
         Command::Check => check::check(directory, json, &bar),
         Command::Classes(options) => classes::classes(directory, options, json, &bar),
         Command::Run(options) => run::run(directory, *options, json, &bar),
-        Command::Show(fid) => show::show(directory, *fid, json, &bar),
+        Command::Show(options) => show::show(directory, *options, json, &bar),
         Command::Log(None) => log::log(directory, json),
         Command::Log(Some(fid)) => log::story(directory, *fid, json),
         Command::Undo => undo::undo(directory, json),

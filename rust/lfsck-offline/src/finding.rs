@@ -1,13 +1,17 @@
 //! What is found at a position, and what its repair would do.
 
+use numbers::call::{ADOPT, BOTH, CREATE};
+
 use crate::change::Values;
 use crate::class::Class;
 use crate::fid::{MdtFid, OstFid};
 use crate::foretell::{self, Turn};
 use crate::position::Position;
+use crate::reuse;
 use crate::rows::{Object, Owner, Stripe, raised};
 use crate::site::{Named, Place, Site};
 use crate::why::{self, Rule};
+use crate::writes::Writes;
 
 /// A position with its class.
 pub struct Finding {
@@ -30,6 +34,8 @@ pub struct Finding {
     /// The generation of the layout of the file before and after the repair by itself; none where
     /// the repair leaves it or makes the file.
     pub generation: Option<Values<u64>>,
+    /// The records that the repair by itself writes; none where they are not asked for.
+    pub writes: Option<Writes>,
     /// The keeper of the object and the rule that makes it so.
     pub keeper: Option<(Named, Rule)>,
     /// How many slots are compared to find the keeper, or to find that there is none.
@@ -62,6 +68,16 @@ pub enum Needs {
 }
 
 impl Needs {
+    /// The least policy under which it is made.
+    pub fn policy(self) -> u64 {
+        match self {
+            Needs::Nothing => 0,
+            Needs::Create => CREATE,
+            Needs::Adopt => ADOPT,
+            Needs::CreateAndAdopt => BOTH,
+        }
+    }
+
     /// For machines.
     pub fn name(self) -> &'static str {
         match self {
@@ -96,6 +112,7 @@ impl Finding {
             object_ost: None,
             repair: None,
             generation: None,
+            writes: None,
             keeper: None,
             compared: None,
             denial: None,
@@ -149,7 +166,10 @@ impl Finding {
         self.slot = object.claim.map(|claim| claim.index);
         self.add_keeper(site, object.fid);
         match self.class {
-            Class::Empty => self.repair = repair(Needs::Adopt, "destroy the object"),
+            Class::Empty => {
+                self.repair = repair(Needs::Adopt, "destroy the object");
+                self.turn = foretell::turn_of_empty(site, &object);
+            }
             Class::Orphan | Class::Conflict => self.add_place(site, object),
             _ => (),
         }
@@ -218,13 +238,7 @@ fn slot_repair(site: &Site, place: Place, stripe: Stripe, class: Class) -> Optio
     let file = site.file(place.row)?;
     let owner = file.owner;
     match class {
-        Class::Multiple => repair(
-            Needs::Create,
-            format!(
-                "make an empty object on OST {} under a FID of the reserve, and name it here",
-                stripe.ost
-            ),
-        ),
+        Class::Multiple => repair(Needs::Create, redirect_words(site, place, stripe, owner)),
         Class::Dangling => repair(
             Needs::Create,
             format!("make the object, empty, on OST {}", stripe.ost),
@@ -241,6 +255,26 @@ fn slot_repair(site: &Site, place: Place, stripe: Stripe, class: Class) -> Optio
         Class::Owner => repair(Needs::Nothing, format!("write the owner {owner}")),
         _ => None,
     }
+}
+
+/// An empty object that claims the slot is used, its owner written where it differs; else one is
+/// made.
+fn redirect_words(site: &Site, place: Place, stripe: Stripe, owner: Owner) -> String {
+    let used = reuse::object_for(site, place).and_then(|object| site.object_of(object));
+    let Some(object) = used else {
+        return format!(
+            "make an empty object on OST {} under a FID of the reserve, and name it here",
+            stripe.ost
+        );
+    };
+    let writes = match object.owner == owner {
+        true => String::new(),
+        false => format!("write the owner {owner}, "),
+    };
+    format!(
+        "use {}, empty, which claims this slot: {writes}name it here, on OST {}",
+        object.fid, object.ost
+    )
 }
 
 /// The index is written into the slot, and the owner too where it differs.
@@ -277,7 +311,7 @@ mod tests {
     use difftest::tables::{OBJECTS, Shape};
     use difftest::{Coverage, Random};
     use numbers::answer::STEPS_USED;
-    use numbers::{call, object, parent};
+    use numbers::{object, parent};
 
     const SHAPE: Shape = Shape {
         parents: 4,
@@ -288,9 +322,10 @@ mod tests {
     };
 
     /// Every class with a repair, and what its repair does to the generation.
-    const MET: [&str; 13] = [
+    const MET: [&str; 14] = [
         "SELF leaves it",
         "MULTIPLE raises it",
+        "MULTIPLE that uses an object raises it",
         "DANGLING leaves it",
         "BLANK leaves it",
         "BLANK raises it",
@@ -304,15 +339,6 @@ mod tests {
         "the last goes to 0",
     ];
 
-    fn policy(needs: Needs) -> u64 {
-        match needs {
-            Needs::Nothing => 0,
-            Needs::Create => call::CREATE,
-            Needs::Adopt => call::ADOPT,
-            Needs::CreateAndAdopt => call::BOTH,
-        }
-    }
-
     /// The generation of each file, row by row.
     fn generations(site: &Site) -> Vec<Option<u64>> {
         let rows = 0..site.files.len();
@@ -324,7 +350,7 @@ mod tests {
     fn mended(tables: &Tables, finding: &Finding, needs: Needs) -> Option<Vec<Option<u64>>> {
         let mut tables = tables.clone();
         let position = finding.position.to_numbers();
-        let run = slices::run(&mut tables, policy(needs), 1, position);
+        let run = slices::run(&mut tables, needs.policy(), 1, position);
         let is_made = run.answer <= STEPS_USED;
         assert_eq!(run.repairs.iter().sum::<u64>(), is_made.into(), "{run:?}");
         is_made.then(|| generations(&Site::new(&tables)))
@@ -349,10 +375,17 @@ mod tests {
         list
     }
 
+    /// Whether the repair uses an object that is there.
+    fn uses_object(finding: &Finding) -> bool {
+        let repair = finding.repair.as_ref();
+        repair.is_some_and(|repair| repair.does.starts_with("use "))
+    }
+
     fn way_met(site: &Site, finding: &Finding) -> String {
         let row = finding.file.and_then(|file| site.file_row(file));
         let does = match (finding.generation, row) {
             (Some(Values { new: 0, .. }), _) => return "the last goes to 0".to_string(),
+            (Some(_), _) if uses_object(finding) => "that uses an object raises it",
             (Some(_), _) => "raises it",
             (None, None) if finding.class == Class::Orphan => "makes the file",
             (None, _) => "leaves it",
@@ -362,7 +395,7 @@ mod tests {
 
     /// Random tables with room for repairs.
     fn random_case(random: &mut Random) -> Tables {
-        let mut tables = Tables::random(SHAPE, random);
+        let mut tables = Tables::random_or_cut(SHAPE, random);
         tables.parents.extend([0; parent::BYTES]);
         tables.objects.extend([0; object::BYTES]);
         tables.reserve = OBJECTS.iter().flat_map(|fid| fid.to_bytes()).collect();

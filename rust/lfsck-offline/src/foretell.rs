@@ -2,17 +2,20 @@
 //!
 //! Classes are told of the tables as they stand. A run mends every slot before it looks at the
 //! first object, and takes the objects in their order. No header and no slot has another class
-//! by then, and of the objects that no slot names two kinds have:
+//! by then, and of the objects that no slot names three kinds have:
 //!
 //! - One in CONFLICT, whose claimed slot gets, or becomes the only one to name, an empty object
 //!   that claims it: that object can give way. It does not where the slot keeps an object that
 //!   may hold data, where the layout has no such slot, or where an earlier object with the same
 //!   claim is put there.
 //! - An ORPHAN, where an earlier object with the same claim is put there.
+//! - One that is EMPTY, which its claimed slot is redirected to: that slot names it then, or, where
+//!   an earlier object with the same claim is put there, it has given way.
 
 use crate::class::Class;
 use crate::fid::OstFid;
 use crate::finding::Needs;
+use crate::reuse;
 use crate::rows::{Claim, Object};
 use crate::site::{Place, Site};
 use crate::why::{self, Denial};
@@ -46,11 +49,13 @@ pub enum Cure {
     Made(OstFid),
     /// MULTIPLE: the slot gets a new object, empty.
     Redirected,
+    /// MULTIPLE: the slot gets the empty object that claims it.
+    Reused(OstFid),
     /// UNMATCHED: the empty object's claim is written.
     Claimed(OstFid),
-    /// UNMATCHED, and the other slots that name the object get new ones.
+    /// UNMATCHED, and the other slots that name the object get others.
     ClaimedAlone(OstFid),
-    /// MULTIPLE: the other slots that name the object get new ones.
+    /// MULTIPLE: the other slots that name the object get others.
     Alone(OstFid),
 }
 
@@ -68,13 +73,14 @@ impl Cure {
         match self {
             Cure::Made(object) => format!("makes {object}, empty"),
             Cure::Redirected => "lets that slot name a new empty object".to_string(),
+            Cure::Reused(object) => format!("lets that slot name {object}, empty"),
             Cure::Claimed(object) => format!("writes that slot as the claim of {object}, empty"),
             Cure::ClaimedAlone(object) => format!(
                 "writes that slot as the claim of {object}, empty, and lets the other slots that \
-                 name it name new ones"
+                 name it name other objects"
             ),
             Cure::Alone(object) => {
-                format!("lets the other slots that name {object}, empty, name new ones")
+                format!("lets the other slots that name {object}, empty, name other objects")
             }
         }
     }
@@ -105,6 +111,28 @@ pub fn turn(site: &Site, object: &Object) -> Option<Turn> {
     }
 }
 
+/// What becomes of the class of an object that no slot names and that is fresh; none where it
+/// stays.
+pub fn turn_of_empty(site: &Site, object: &Object) -> Option<Turn> {
+    let slot = site.name(reuse::slot_for(site, object)?)?;
+    let row = |fid| site.object_row(fid);
+    let taker = object.claim.and_then(|claim| site.first_claimant(claim));
+    let earlier = taker.filter(|taker| row(*taker) < row(object.fid));
+    let lets = format!("lets {slot} name it");
+    Some(match earlier {
+        None => Turn {
+            class: Class::Kept,
+            needs: Needs::Create,
+            why: lets,
+        },
+        Some(taker) => Turn {
+            class: Class::Unused,
+            needs: Needs::CreateAndAdopt,
+            why: format!("{lets}, then puts {taker} there and destroys this object"),
+        },
+    })
+}
+
 /// What a run does to a claimed slot, so that a place that is denied now can be had then.
 fn cure(site: &Site, claim: Claim, denial: Denial) -> Option<Cure> {
     let place = site.claimed_place(claim)?;
@@ -118,8 +146,15 @@ fn cure(site: &Site, claim: Claim, denial: Denial) -> Option<Cure> {
         }
         Denial::OtherClaim(object) if keeps(object) => Some(Cure::ClaimedAlone(object)),
         Denial::OtherSlot(object) => Some(Cure::Alone(object)),
-        Denial::Data(_) | Denial::Absent(_) | Denial::OtherClaim(_) => Some(Cure::Redirected),
+        Denial::Data(_) | Denial::Absent(_) | Denial::OtherClaim(_) => {
+            Some(redirected(site, place))
+        }
     }
+}
+
+/// The slot gets an empty object of its own.
+fn redirected(site: &Site, place: Place) -> Cure {
+    reuse::object_for(site, place).map_or(Cure::Redirected, Cure::Reused)
 }
 
 /// No other slot names the object.
@@ -134,8 +169,9 @@ mod tests {
     use crate::slices;
     use crate::tables::Tables;
     use crate::verdict::Verdicts;
-    use difftest::tables::{OBJECTS, Shape, random_tables, to_bytes};
+    use difftest::tables::{OBJECTS, Shape};
     use difftest::{Coverage, Random};
+    use numbers::call::{ADOPT, BOTH, CREATE};
 
     const SHAPE: Shape = Shape {
         parents: 4,
@@ -146,54 +182,98 @@ mod tests {
     };
 
     /// Every way in which a class turns or stays, by its name.
-    const MET: [&str; 11] = [
+    const MET: [&str; 18] = [
         "made",
         "redirected from an absent object",
         "redirected from data",
         "redirected from another's claim",
+        "redirected to one that claims the slot",
         "claimed",
         "claimed alone",
         "alone",
         "an earlier claimant of a place that can be had",
         "an earlier claimant of a place that cannot be had",
         "denied for good",
+        "no turn of an orphan",
+        "used",
+        "used before a claimant",
+        "used, and taken by an earlier claimant",
+        "empty behind another",
+        "empty for no slot",
         "no turn",
     ];
 
-    fn way_met(site: &Site, object: &Object) -> &'static str {
-        let Some(claim) = object.claim else {
-            return MET[10];
-        };
+    fn way_met(site: &Site, class: Class, object: &Object) -> &'static str {
+        match (class, object.claim) {
+            (Class::Orphan | Class::Conflict, Some(claim)) => claimant_met(site, claim, object),
+            (Class::Empty, Some(claim)) => empty_met(site, claim, object),
+            _ => "no turn",
+        }
+    }
+
+    fn claimant_met(site: &Site, claim: Claim, object: &Object) -> &'static str {
         let first = site.first_claimant(claim) == Some(object.fid);
         match why::way_to(site, claim) {
-            Ok(_) if first => MET[10],
-            Ok(_) => MET[7],
-            Err(_) if !first => MET[8],
+            Ok(_) if first => "no turn of an orphan",
+            Ok(_) => "an earlier claimant of a place that can be had",
+            Err(_) if !first => "an earlier claimant of a place that cannot be had",
             Err(denial) => match (cure(site, claim, denial), denial) {
-                (None, _) => MET[9],
-                (Some(Cure::Made(_)), _) => MET[0],
-                (Some(Cure::Redirected), Denial::Absent(_)) => MET[1],
-                (Some(Cure::Redirected), Denial::Data(_)) => MET[2],
-                (Some(Cure::Redirected), _) => MET[3],
-                (Some(Cure::Claimed(_)), _) => MET[4],
-                (Some(Cure::ClaimedAlone(_)), _) => MET[5],
-                (Some(Cure::Alone(_)), _) => MET[6],
+                (None, _) => "denied for good",
+                (Some(Cure::Made(_)), _) => "made",
+                (Some(Cure::Reused(_)), _) => "redirected to one that claims the slot",
+                (Some(Cure::Redirected), Denial::Absent(_)) => "redirected from an absent object",
+                (Some(Cure::Redirected), Denial::Data(_)) => "redirected from data",
+                (Some(Cure::Redirected), _) => "redirected from another's claim",
+                (Some(Cure::Claimed(_)), _) => "claimed",
+                (Some(Cure::ClaimedAlone(_)), _) => "claimed alone",
+                (Some(Cure::Alone(_)), _) => "alone",
             },
         }
     }
 
-    /// The class that is foretold for a position under a policy with adopt.
-    fn foretold(site: &Site, position: Position, class: Class, policy: u64) -> Class {
+    fn empty_met(site: &Site, claim: Claim, object: &Object) -> &'static str {
+        let place = site.claimed_place(claim);
+        let surplus = place.is_some_and(|place| why::is_surplus(site, place));
+        let first = site.first_fresh(claim) == Some(object.fid);
+        let taker = site.first_claimant(claim);
+        match turn_of_empty(site, object).map(|turn| turn.class) {
+            Some(Class::Kept) if taker.is_some() => "used before a claimant",
+            Some(Class::Kept) => "used",
+            Some(_) => "used, and taken by an earlier claimant",
+            None if surplus && !first => "empty behind another",
+            None => "empty for no slot",
+        }
+    }
+
+    /// What is foretold holds under a policy.
+    fn holds(turn: &Turn, policy: u64) -> bool {
+        match turn.needs {
+            Needs::Create => policy & CREATE != 0,
+            Needs::Adopt => policy & ADOPT != 0,
+            Needs::CreateAndAdopt => policy == BOTH,
+            Needs::Nothing => true,
+        }
+    }
+
+    /// The class that is foretold for a position under a policy; none where nothing is said of that
+    /// policy. With create alone an object that is used is named, and nobody takes its place.
+    fn foretold(site: &Site, position: Position, class: Class, policy: u64) -> Option<Class> {
         let object = match position {
             Position::Object(row) => site.objects[row],
             _ => None,
         };
-        let turn = match class {
-            Class::Orphan | Class::Conflict => turn(site, &object.expect("an object")),
+        let turn = match (class, policy) {
+            (Class::Orphan | Class::Conflict, CREATE) => return None,
+            (Class::Orphan | Class::Conflict, _) => turn(site, &object?),
+            (Class::Empty, CREATE) => {
+                let used = reuse::slot_for(site, &object?);
+                return Some(used.map_or(class, |_| Class::Kept));
+            }
+            (Class::Empty, _) => turn_of_empty(site, &object?),
             _ => None,
         };
-        let holds = |turn: &Turn| policy == 3 || turn.needs == Needs::Adopt;
-        turn.filter(holds).map_or(class, |turn| turn.class)
+        let turn = turn.filter(|turn| holds(turn, policy));
+        Some(turn.map_or(class, |turn| turn.class))
     }
 
     /// The class at a position when a run from the start has come to it; none where it stops
@@ -220,34 +300,35 @@ mod tests {
         !matches!(class, Class::Kept | Class::Unused)
     }
 
+    /// Random tables with room for repairs.
+    fn random_case(random: &mut Random) -> Tables {
+        let mut tables = Tables::random_or_cut(SHAPE, random);
+        tables.parents.extend([0; numbers::parent::BYTES]);
+        tables.objects.extend([0; 3 * numbers::object::BYTES]);
+        tables.reserve = OBJECTS.iter().flat_map(|fid| fid.to_bytes()).collect();
+        tables
+    }
+
     #[test]
     fn the_class_at_its_step_is_the_one_foretold() {
         let mut random = Random::for_test("foretelling");
         let mut met = Coverage::of("turns", MET);
         for _ in 0..30_000 {
-            let (parents, objects) = to_bytes(&random_tables(SHAPE, &mut random), &mut random);
-            let reserve = OBJECTS.iter().flat_map(|fid| fid.to_bytes()).collect();
-            let tables = Tables {
-                parents: [parents, vec![0; numbers::parent::BYTES]].concat(),
-                objects: [objects, vec![0; 46 * 3]].concat(),
-                reserve,
-            };
+            let tables = random_case(&mut random);
             let site = Site::new(&tables);
             let verdicts = Verdicts::new(&tables, &site);
-            let policy = random.pick(&[2, 3]);
+            let policy = random.pick(&[CREATE, ADOPT, BOTH]);
             for position in Position::all(&site) {
                 let class = verdicts.at(position).expect("a class");
+                let told = foretold(&site, position, class, policy);
                 let then = class_at_its_step(&tables, position, policy);
-                let Some(then) = then.filter(|_| is_foretold(class)) else {
+                let Some((told, then)) = told.zip(then).filter(|_| is_foretold(class)) else {
                     continue;
                 };
-                assert_eq!(
-                    then,
-                    foretold(&site, position, class, policy),
-                    "{position:?}"
-                );
+                assert_eq!(then, told, "{position:?}");
                 if let Position::Object(row) = position {
-                    met.met(way_met(&site, &site.objects[row].expect("an object")));
+                    let object = site.objects[row].expect("an object");
+                    met.met(way_met(&site, class, &object));
                 }
             }
         }

@@ -186,13 +186,14 @@ Usage: lfsck-offline run DIR [--create] [--adopt] [--steps N] [--from-start]
 Repairs step by step and saves tables and position together. Goes on from the
 saved position if policy, reserve and tables are those that it was saved with,
 else begins at the start and says why. A position that another edition saved is
-refused: no run is taken up across editions, and this is edition 2026-08. SELF,
+refused: no run is taken up across editions, and this is edition 2026-09. SELF,
 BLANK, UNMATCHED, WRONG-OST and OWNER are repaired under every policy. A step
 that changes a slot of a file that was there, or the number of its slots, raises
 the generation of its layout by one.
 
-  --create       make objects for slots that have none of their own
-                 (MULTIPLE, DANGLING)
+  --create       give slots that have no object of their own one: an empty
+                 object that claims the slot and that no slot names, or else a
+                 new one (MULTIPLE); the missing object (DANGLING)
   --adopt        put objects that no slot names in the places they claim, and
                  destroy empty ones (ORPHAN, EMPTY)
   --steps N      make at most N steps
@@ -204,17 +205,24 @@ What it changes stands in the log (see log), and undo takes it back. SIGINT or
 SIGTERM ends it after the slice that it is in, and saves; a second one at once.
 
 Exit status: 0 the end is reached, 1 steps are left, 2 input refused, 3 the
-reserve or the unused rows of a table ran out.
+reserve or the unused rows of a table ran out. A slot for which there is an
+empty object that claims it needs neither.
 ";
 
 const SHOW: &str = "\
-Usage: lfsck-offline show DIR FID [--json]
+Usage: lfsck-offline show DIR FID [--writes] [--json]
 
 Tells everything about one file or object: layout, slots, claims, class, and why
 (which rule makes a slot the keeper); and how many slots were compared to find
 the keeper. Where a repair raises the generation of the layout, it says from
 what to what. FID is written [0x200000401:0x1:0x0], with or without brackets, in
 hexadecimal or decimal numbers.
+
+  --writes       tell of each repair which rows its step writes, in the order
+                 in which they are to be stored, as if it were made alone; or
+                 with which number a run would stop in front of it. Each repair
+                 takes a call of the library, which checks all tables: with
+                 many repairs in large tables that takes long
 
 Exit status: 2 where nothing in the case has the FID.
 ";
@@ -284,17 +292,17 @@ since.
 const CONVERT: &str = "\
 Usage: lfsck-offline convert DIR [--json]
 
-Makes a case of an earlier edition one of this edition, 2026-08. In editions
+Makes a case of an earlier edition one of this edition, 2026-09. In editions
 before 2026-07 the rows of parents.tbl had 3,915 bytes, for at most 160 slots;
 each is widened to 48,075 bytes, for at most 2,000 slots, by zeros at its end.
 What stands in the rows is not judged and stays, and so do the other tables. The
 saved position is thrown away: no run is taken up across editions. All is saved
 at once, with an entry in the log, and is not taken back by undo.
 
-Where the rows are as wide already, as those of edition 2026-07, or there are
-none, a saved position of another edition, or one that cannot be read, is thrown
-away; else there is nothing to convert, and nothing is written. No stripe size
-is changed: check tells the layouts that this edition refuses.
+Where the rows are as wide already, as those of editions 2026-07 and 2026-08, or
+there are none, a saved position of another edition, or one that cannot be read,
+is thrown away; else there is nothing to convert, and nothing is written. No
+stripe size is changed: check tells the layouts that this edition refuses.
 
 Exit status: 2 where the rows of parents.tbl are neither as wide as here nor as
 wide as there.

@@ -4,6 +4,7 @@ use crate::change::{Change, Values};
 use crate::changes::changes;
 use crate::clock;
 use crate::digest::Digest;
+use crate::fid::{Fid, OstFid};
 use crate::hex;
 use crate::json::Json;
 use crate::mended::Mended;
@@ -54,6 +55,8 @@ pub enum Deed {
         run: Run,
         /// The position that was saved before.
         saved: Option<Box<Saved>>,
+        /// The objects that its redirects used.
+        reused: Vec<OstFid>,
     },
     /// A mending of names.
     Mending(Mended),
@@ -383,6 +386,7 @@ impl Deed {
                 from,
                 run,
                 saved,
+                reused,
             } => vec![
                 ("policy", Json::Number(*policy)),
                 ("from", numbers_json(from)),
@@ -393,6 +397,10 @@ impl Deed {
                 (
                     "saved",
                     Json::maybe(saved.as_ref().map(|saved| saved.to_text())),
+                ),
+                (
+                    "reused",
+                    Json::List(reused.iter().map(Json::text).collect()),
                 ),
             ],
         }
@@ -426,6 +434,7 @@ impl Deed {
                 Value::Null => None,
                 _ => Some(Box::new(Saved::parse(value.text("saved")?.as_bytes())?)),
             },
+            reused: reused_of(value)?,
         })
     }
 }
@@ -478,6 +487,19 @@ fn counts_of(repairs: &Value, version: &str) -> Option<[u64; COUNTED.len()]> {
     };
     let counts: Option<Vec<u64>> = COUNTED.iter().map(count).collect();
     counts?.try_into().ok()
+}
+
+/// The objects that a run's redirects used. Versions before 0.9.0 used none, and their entries
+/// don't tell any.
+fn reused_of(value: &Value) -> Option<Vec<OstFid>> {
+    let fid = |value: &Value| match value {
+        Value::Text(text) => Fid::parse(text).map(OstFid),
+        _ => None,
+    };
+    match value.get("reused") {
+        None => Some(Vec::new()),
+        Some(_) => value.list("reused")?.iter().map(fid).collect(),
+    }
 }
 
 fn numbers_json(numbers: &[u64; 3]) -> Json {

@@ -53,6 +53,7 @@ mod position;
 mod quoted;
 mod reader;
 mod reserve;
+mod reuse;
 mod rows;
 mod save;
 mod saved;
@@ -65,6 +66,7 @@ mod values;
 mod verdict;
 mod whence;
 mod why;
+mod writes;
 
 use std::ffi::OsString;
 use std::io::{self, Write};

@@ -9,6 +9,7 @@ use std::time::Duration;
 
 use numbers::call::CREATE;
 
+use crate::reuse;
 use crate::site::Site;
 use crate::tables::{Table, Tables, Together};
 
@@ -58,12 +59,22 @@ impl Estimate {
         let claims = (count(named.slots) + objects) * files / 2.0;
         // An object that no slot names is looked for in all of them.
         let unnamed = (objects - (count(named.objects) - absent)) * slots;
-        // Each new FID is looked for after those that were taken before it.
-        let taken = surplus * surplus / 2.0 * objects / 4.0 + surplus * (objects + slots);
-        let redirects = if policy & CREATE != 0 { taken } else { 0.0 };
+        let redirects = match policy & CREATE {
+            0 => 0.0,
+            _ => redirects(surplus, count(reuse::count(site)), objects, slots),
+        };
         let work = found + lost + claims + unnamed + redirects + slots + objects;
         Estimate { check, work }
     }
+}
+
+/// Rows that redirects look at, of which some use an object that is there.
+fn redirects(all: f64, used: f64, objects: f64, slots: f64) -> f64 {
+    // Each looks for an object that claims its slot; one that does is looked for in all slots.
+    let looks = all * objects + used * slots;
+    // Each new FID is looked for after those that were taken before it.
+    let new = all - used;
+    looks + new * new / 2.0 * objects / 4.0 + new * (objects + slots)
 }
 
 /// How to make a run of so many steps.
@@ -116,6 +127,8 @@ impl Pace {
 #[cfg(test)]
 mod tests {
     use super::*;
+    use difftest::tables::Shape;
+    use difftest::{Coverage, Random};
 
     #[test]
     fn a_slice_is_a_second_or_twenty_checks() {
@@ -130,6 +143,41 @@ mod tests {
         assert_eq!(next(second, 1000, 11 * second), 2000);
         assert_eq!(next(second, 1000, 201 * second), 250);
         assert_eq!(next(Duration::ZERO, 1, 50 * second), 1);
+    }
+
+    const SHAPE: Shape = Shape {
+        parents: 4,
+        objects: 8,
+        slots: 3,
+        files: 3,
+        fids: 8,
+    };
+
+    /// With create each slot whose object another keeps looks at all objects. One that finds an
+    /// object to use takes no FID.
+    #[test]
+    fn redirects_are_estimated_where_there_are_some() {
+        let mut random = Random::for_test("estimates");
+        let mut met = Coverage::of("redirects", ["none", "some", "some of them use an object"]);
+        for _ in 0..2_000 {
+            let tables = Tables::random_or_cut(SHAPE, &mut random);
+            let site = Site::new(&tables);
+            let [more, work] = [CREATE, 0].map(|policy| Estimate::of(&site, &tables, policy).work);
+            let objects = site.objects.iter().flatten().count() as f64;
+            let surplus = site.named().surplus as f64;
+            let used = reuse::count(&site) as f64;
+            assert!(more - work >= surplus * objects);
+            assert_eq!(more > work, surplus > 0.0);
+            assert!(surplus >= used);
+            met.met(match (surplus > 0.0, used > 0.0) {
+                (false, _) => "none",
+                (true, false) => "some",
+                (true, true) => "some of them use an object",
+            });
+        }
+        met.require(50);
+        assert!(redirects(9.0, 5.0, 100.0, 50.0) < redirects(9.0, 4.0, 100.0, 50.0));
+        assert_eq!(redirects(9.0, 9.0, 100.0, 50.0), 9.0 * (100.0 + 50.0));
     }
 
     #[test]

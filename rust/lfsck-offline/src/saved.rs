@@ -18,7 +18,7 @@ const TITLE: &str = "lfsck-offline position, format ";
 
 /// The edition of the rules that this version keeps to. Which tables are accepted and what a run
 /// does to them may differ from edition to edition, so none is taken up in another.
-pub const EDITION: &str = "2026-08";
+pub const EDITION: &str = "2026-09";
 
 /// The forms of the file, which are alike but for the title and the edition.
 #[derive(Clone, Debug, PartialEq, Eq)]
@@ -236,6 +236,7 @@ mod tests {
             (Format::Three, "3\n", before),
             (four("2026-06"), "4\nedition 2026-06\n", "edition 2026-06"),
             (four("2026-07"), "4\nedition 2026-07\n", "edition 2026-07"),
+            (four("2026-08"), "4\nedition 2026-08\n", "edition 2026-08"),
             (four("~ a b !"), "4\nedition ~ a b !\n", "edition ~ a b !"),
         ] {
             let saved = Saved {
@@ -251,7 +252,7 @@ mod tests {
         let own = Saved::new([3, 0, 0], 3, &tables());
         assert!(
             own.to_text()
-                .contains("format 4\nedition 2026-08\nposition ")
+                .contains("format 4\nedition 2026-09\nposition ")
         );
         assert_eq!(own.other_edition(), None);
     }
@@ -260,12 +261,12 @@ mod tests {
     #[test]
     fn a_title_alone_makes_no_position() {
         let text = Saved::new([3, 0, 0], 3, &tables()).to_text();
-        let first = text.replace("format 4\nedition 2026-08\n", "format 1\n");
+        let first = text.replace("format 4\nedition 2026-09\n", "format 1\n");
         for other in [
             first.replace("format 1", "format 3"),
             text.replace("format 4", "format 3"),
             text.replace("format 4", "format 5"),
-            text.replace("edition 2026-08", "edition 2026-07"),
+            text.replace("edition 2026-09", "edition 2026-08"),
         ] {
             assert_eq!(Saved::parse(other.as_bytes()), None, "{other}");
         }

@@ -48,6 +48,7 @@ pub struct Site {
     object_rows: HashMap<OstFid, usize>,
     named_by: HashMap<OstFid, Vec<Place>>,
     first_claimants: HashMap<Claim, OstFid>,
+    first_fresh: HashMap<Claim, OstFid>,
     /// How many slots come before each parent row in scan order, and how many there are.
     slots_before: Vec<usize>,
 }
@@ -62,6 +63,7 @@ impl Site {
             object_rows: HashMap::new(),
             named_by: HashMap::new(),
             first_claimants: HashMap::new(),
+            first_fresh: HashMap::new(),
             slots_before: vec![0],
         };
         site.count_slots();
@@ -83,8 +85,12 @@ impl Site {
             let Some(object) = object else { continue };
             self.object_rows.insert(object.fid, row);
             let unnamed = !self.named_by.contains_key(&object.fid);
-            if let Some(claim) = object.claim.filter(|_| unnamed && !object.fresh) {
-                self.first_claimants.entry(claim).or_insert(object.fid);
+            let first = match object.fresh {
+                true => &mut self.first_fresh,
+                false => &mut self.first_claimants,
+            };
+            if let Some(claim) = object.claim.filter(|_| unnamed) {
+                first.entry(claim).or_insert(object.fid);
             }
         }
     }
@@ -160,6 +166,19 @@ impl Site {
     /// Of the objects with a claim that no slot names and that may hold data, the first.
     pub fn first_claimant(&self, claim: Claim) -> Option<OstFid> {
         self.first_claimants.get(&claim).copied()
+    }
+
+    /// Of the objects with a claim that no slot names and that are fresh, the first.
+    pub fn first_fresh(&self, claim: Claim) -> Option<OstFid> {
+        self.first_fresh.get(&claim).copied()
+    }
+
+    /// What an object claims that belongs in a slot.
+    pub fn claim_on(&self, place: Place) -> Option<Claim> {
+        Some(Claim {
+            file: self.file(place.row)?.fid,
+            index: place.slot as u32,
+        })
     }
 
     /// The place of a claim whose file is there, whether or not it has the slot.

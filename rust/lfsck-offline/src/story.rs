@@ -2,30 +2,35 @@
 //!
 //! A run reports how many repairs it made of each class and not where. Each repair leaves its
 //! own kind of change, so the class can be told; one that a later repair of the same run took
-//! back leaves no change but the generation that it raised.
+//! back leaves no change but the generation that it raised. A redirect to an object that was there
+//! looks like an orphan that takes its place, so which objects redirects used is known beside that.
 
 use crate::change::{Change, Values, What};
 use crate::class::Class;
 use crate::fid::{Fid, MdtFid, OstFid};
 use crate::rows::{Claim, Stripe, raises};
 
-/// The class that was mended where a run changed something, told from all that it changed; none
-/// where repairs of several classes raised a generation.
-pub fn mended(change: &Change, all: &[Change]) -> Option<Class> {
+/// The class that was mended where a run changed something, told from all that it changed and from
+/// the objects that its redirects used; none where repairs of several classes raised a generation.
+pub fn mended(change: &Change, all: &[Change], reused: &[OstFid]) -> Option<Class> {
+    let is_reused = |object: OstFid| reused.contains(&object);
     Some(match &change.what {
         What::Own(_) => Class::SelfId,
-        What::Generation(generation) => return raised_by(change.file, *generation, all),
+        What::Generation(generation) => return raised_by(change.file, *generation, all, reused),
         What::ObjectMade(object) if newly_named(object.fid, all) => Class::Multiple,
         What::ObjectMade(_) => Class::Dangling,
         What::ObjectDestroyed(object) if formerly_named(object.fid, all) => Class::Orphan,
+        // A slot came to name it before it gave way.
+        What::ObjectDestroyed(object) if is_reused(object.fid) => Class::Orphan,
         What::ObjectDestroyed(_) => Class::Empty,
         What::Slot(slot) => match (slot.old, slot.new) {
             (Some(old), Some(new)) if old.object == new.object => index_mended(old.object, all),
             (_, Some(stripe)) if made(stripe.object, all) => Class::Multiple,
+            (_, Some(stripe)) if is_reused(stripe.object) => Class::Multiple,
             _ => Class::Orphan,
         },
         What::Claim(claim) => claim_mended(*claim),
-        What::Owner(_) => owner_mended(change, all),
+        What::Owner(_) => owner_mended(change, all, reused),
         What::FileMade(_) | What::FileRemoved(_) | What::SlotCount(_) => Class::Orphan,
     })
 }
@@ -33,10 +38,15 @@ pub fn mended(change: &Change, all: &[Change]) -> Option<Class> {
 /// The class whose repairs alone raised the generation of a file. Each change of a slot raised it
 /// once; where an orphan took a slot that was mended in the same run it was raised twice, by two
 /// classes, and one change is left.
-fn raised_by(file: Option<MdtFid>, generation: Values<u64>, all: &[Change]) -> Option<Class> {
+fn raised_by(
+    file: Option<MdtFid>,
+    generation: Values<u64>,
+    all: &[Change],
+    reused: &[OstFid],
+) -> Option<Class> {
     let is_slot = |change: &&Change| change.file == file && matches!(change.what, What::Slot(_));
     let slots = all.iter().filter(is_slot);
-    let classes: Vec<Class> = slots.filter_map(|slot| mended(slot, all)).collect();
+    let classes: Vec<Class> = slots.filter_map(|slot| mended(slot, all, reused)).collect();
     let first = *classes.first()?;
     let alone = classes.iter().all(|class| class.name() == first.name());
     let once = classes.len() as u64 == raises(generation.old, generation.new);
@@ -48,14 +58,15 @@ fn claim_mended(claim: Values<Option<Claim>>) -> Class {
     claim.old.map_or(Class::Blank, Class::Unmatched)
 }
 
-/// An owner is written with a claim, or when an object is put in its place, or with the OST
-/// index of its slot, or by itself.
-fn owner_mended(change: &Change, all: &[Change]) -> Class {
+/// An owner is written with a claim, or when an object is used for a slot or put in its place, or
+/// with the OST index of its slot, or by itself.
+fn owner_mended(change: &Change, all: &[Change], reused: &[OstFid]) -> Class {
     let Some(object) = change.object else {
         return Class::Owner;
     };
     match claim_written(object, all) {
         Some(claim) => claim_mended(claim),
+        None if reused.contains(&object) => Class::Multiple,
         None if newly_named(object, all) => Class::Orphan,
         None if index_written(object, all) => Class::WrongOst,
         None => Class::Owner,
@@ -126,6 +137,7 @@ mod tests {
     use super::*;
     use crate::changes::changes;
     use crate::position::Position;
+    use crate::reuse;
     use crate::site::Site;
     use crate::slices::{self, COUNTED, Run};
     use crate::tables::Tables;
@@ -144,7 +156,7 @@ mod tests {
     };
 
     fn random_case(random: &mut Random) -> Tables {
-        let mut tables = Tables::random(SHAPE, random);
+        let mut tables = Tables::random_or_cut(SHAPE, random);
         tables.objects.extend([0; 3 * object::BYTES]);
         tables.reserve = OBJECTS.iter().flat_map(|fid| fid.to_bytes()).collect();
         tables
@@ -154,7 +166,7 @@ mod tests {
     #[test]
     fn a_step_mended_the_class_that_it_counted() {
         let mut random = Random::for_test("story");
-        let mut met = BTreeMap::new();
+        let (mut met, mut used) = (BTreeMap::new(), 0);
         for _ in 0..2_000 {
             let mut tables = random_case(&mut random);
             let start = Position::all(&Site::new(&tables)).next();
@@ -162,40 +174,52 @@ mod tests {
             for _ in 0..60 {
                 let before = Site::new(&tables);
                 let run = slices::run(&mut tables, 3, 1, position);
-                let list = changes(&before, &Site::new(&tables));
+                let after = Site::new(&tables);
+                let (list, reused) = (changes(&before, &after), reuse::used(&before, &after));
                 for change in &list {
-                    let class = mended(change, &list).expect("one class").name();
+                    let class = mended(change, &list, &reused).expect("one class").name();
                     let at = COUNTED.iter().position(|name| *name == class);
                     assert_eq!(run.repairs[at.expect(class)], 1, "{change:?} of {list:?}");
                     *met.entry(class).or_insert(0) += 1;
                 }
+                used += reused.len();
                 position = run.position;
                 if run.answer != 1 {
                     break;
                 }
             }
         }
-        println!("classes mended: {met:?}");
-        assert!(COUNTED.iter().all(|class| met.get(class) > Some(&20)));
+        println!("classes mended: {met:?}; objects used: {used}");
+        assert!(COUNTED.iter().all(|class| met.get(class) > Some(&20)) && used > 20);
     }
 
     /// Of a whole run, no class is told that was not mended.
     #[test]
     fn a_run_mended_the_classes_that_it_counted() {
         let mut random = Random::for_test("stories");
+        let mut met = Coverage::of("objects used", ["named", "destroyed"]);
         for _ in 0..4_000 {
             let mut tables = random_case(&mut random);
             let before = Site::new(&tables);
             let start = Position::all(&before).next().unwrap_or(Position::End);
-            let policy = random.below(4) as u64;
+            let policy = random.pick(&[0, 1, 2, 3, 3, 3]);
             let run = slices::run(&mut tables, policy, u64::MAX, start.to_numbers());
-            let list = changes(&before, &Site::new(&tables));
-            for class in list.iter().filter_map(|change| mended(change, &list)) {
+            let after = Site::new(&tables);
+            let (list, reused) = (changes(&before, &after), reuse::used(&before, &after));
+            for fid in &reused {
+                let there = after.object_row(*fid).is_some();
+                met.met(if there { "named" } else { "destroyed" });
+            }
+            let classes = list
+                .iter()
+                .filter_map(|change| mended(change, &list, &reused));
+            for class in classes {
                 let class = class.name();
                 let at = COUNTED.iter().position(|name| *name == class);
                 assert!(run.repairs[at.expect(class)] > 0, "{class} of {list:?}");
             }
         }
+        met.require(20);
     }
 
     /// The changes of generations in a list, each with its file.
@@ -244,11 +268,12 @@ mod tests {
         (change, file, generation): (&Change, MdtFid, Values<u64>),
         classes: &BTreeSet<&str>,
         list: &[Change],
+        reused: &[OstFid],
     ) -> &'static str {
         let is_slot = |it: &&Change| it.file == Some(file) && matches!(it.what, What::Slot(_));
         let slots = list.iter().filter(is_slot).count() as u64;
         let twice = raises(generation.old, generation.new) > slots;
-        let told = mended(change, list).map(Class::name);
+        let told = mended(change, list, reused).map(Class::name);
         let alone = classes.first().copied().filter(|_| classes.len() == 1);
         assert_eq!(told, alone, "{classes:?} of {list:?}");
         match (told, twice) {
@@ -267,9 +292,10 @@ mod tests {
             let mut tables = random_case(&mut random);
             let before = Site::new(&tables);
             let raisers = raisers(&mut tables, random.below(4) as u64);
-            let list = changes(&before, &Site::new(&tables));
+            let after = Site::new(&tables);
+            let (list, reused) = (changes(&before, &after), reuse::used(&before, &after));
             generations(&list).into_iter().for_each(|raised| {
-                met.met(expect_raiser(raised, &raisers[&raised.1], &list));
+                met.met(expect_raiser(raised, &raisers[&raised.1], &list, &reused));
             });
         }
         met.require(20);

@@ -147,7 +147,25 @@ impl Tables {
     /// Random tables that pass the check, with no reserve.
     pub fn random(shape: difftest::tables::Shape, random: &mut difftest::Random) -> Tables {
         let tables = difftest::tables::random_tables(shape, random);
-        let (parents, objects) = difftest::tables::to_bytes(&tables, random);
+        Tables::of_rows(&tables, random)
+    }
+
+    /// The same, as redirects may leave them that were cut off.
+    pub fn random_cut(shape: difftest::tables::Shape, random: &mut difftest::Random) -> Tables {
+        let tables = difftest::tables::random_cut_tables(shape, random);
+        Tables::of_rows(&tables, random)
+    }
+
+    /// Either of the two.
+    pub fn random_or_cut(shape: difftest::tables::Shape, random: &mut difftest::Random) -> Tables {
+        match random.one_in(2) {
+            true => Tables::random(shape, random),
+            false => Tables::random_cut(shape, random),
+        }
+    }
+
+    fn of_rows(tables: &reference::tables::Tables, random: &mut difftest::Random) -> Tables {
+        let (parents, objects) = difftest::tables::to_bytes(tables, random);
         Tables {
             parents,
             objects,

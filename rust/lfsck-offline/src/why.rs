@@ -125,6 +125,14 @@ pub fn keeper(site: &Site, object: OstFid) -> Option<(Place, Rule)> {
     search(site, object).keeper
 }
 
+/// Whether another slot keeps the object that a slot names.
+pub fn is_surplus(site: &Site, place: Place) -> bool {
+    let keeper = site
+        .stripe(place)
+        .and_then(|stripe| keeper(site, stripe.object));
+    keeper.is_some_and(|(keeper, _)| keeper != place)
+}
+
 /// How many slots are compared to find the keeper of an object.
 pub fn compared(site: &Site, object: OstFid) -> usize {
     search(site, object).compared

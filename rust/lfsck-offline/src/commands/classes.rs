@@ -19,6 +19,7 @@ use crate::rows::slots_words;
 use crate::site::Site;
 use crate::values::{self, Members};
 use crate::why;
+use crate::writes::Writes;
 
 /// The number of positions of each class.
 type Counts = [u64; NAMES.len()];
@@ -195,7 +196,6 @@ fn machine(findings: Option<&Vec<Finding>>, summary: &Summary) -> String {
 /// A finding for machines.
 pub fn finding_json(finding: &Finding) -> Json {
     let [stage, row, part] = finding.position.to_numbers();
-    let repair = finding.repair.as_ref();
     let mut members = vec![
         ("stage", Json::Number(stage)),
         ("row", Json::Number(row)),
@@ -212,16 +212,8 @@ pub fn finding_json(finding: &Finding) -> Json {
         _ => None,
     }));
     members.extend(keeper_members(finding));
+    members.extend(repair_members(finding));
     members.extend([
-        (
-            "policy",
-            Json::maybe(repair.map(|repair| repair.needs.name())),
-        ),
-        ("repair", Json::maybe(repair.map(|repair| &repair.does))),
-        (
-            "generation",
-            finding.generation.map_or(Json::Null, generation_json),
-        ),
         ("denial", Json::maybe(finding.denial.as_ref())),
         ("turn", finding.turn.as_ref().map_or(Json::Null, turn_json)),
     ]);
@@ -246,6 +238,24 @@ fn keeper_members(finding: &Finding) -> Members {
             "compared",
             Json::maybe_number(finding.compared.map(|compared| compared as u64)),
         ),
+    ]
+}
+
+/// The repair, under which policy it is made, and what it writes; where a run would stop in front
+/// of it, the number.
+fn repair_members(finding: &Finding) -> Members {
+    let repair = finding.repair.as_ref();
+    let policy = repair.map(|repair| repair.needs.name());
+    let writes = finding.writes.as_ref();
+    vec![
+        ("policy", Json::maybe(policy)),
+        ("repair", Json::maybe(repair.map(|repair| &repair.does))),
+        (
+            "generation",
+            finding.generation.map_or(Json::Null, generation_json),
+        ),
+        ("writes", writes.map_or(Json::Null, Writes::json)),
+        ("stops", Json::maybe_number(writes.and_then(Writes::stop))),
     ]
 }
 

@@ -76,12 +76,12 @@ impl Entry {
                 return Concerning::Names(all);
             }
         };
-        let is_run = matches!(self.deed, Deed::Run { .. });
+        let class = |change: &Change| match &self.deed {
+            Deed::Run { reused, .. } => mended(change, &all, reused),
+            _ => None,
+        };
         let concerned = all.iter().filter(|change| concerns(change, fid));
-        let with_class = concerned.map(|change| {
-            let class = is_run.then(|| mended(change, &all)).flatten();
-            (change.clone(), class)
-        });
+        let with_class = concerned.map(|change| (change.clone(), class(change)));
         Concerning::Files(with_class.collect())
     }
 

@@ -17,6 +17,7 @@ use crate::json::Json;
 use crate::outcome::{Failure, Outcome, Status};
 use crate::pace::{self, Plan};
 use crate::position::Position;
+use crate::reuse;
 use crate::saved::{Saved, policy_words};
 use crate::site::Site;
 use crate::slices::{self, Run};
@@ -72,12 +73,14 @@ pub fn run(
     let run = run_from(&mut tables, &before, beginning.position, options, bar);
     bar.turn_to(Work::Unmeasured("saving"));
     require_accepted(run, beginning.position, &old)?;
+    let after = Site::new(&tables);
     let saves = run.steps > 0 && !options.dry_run;
     if saves {
         let saved = Saved::new(run.position, options.policy, &tables);
-        case.save_run(&old, &tables, &saved, beginning.position, run)?;
+        let reused = reuse::used(&before, &after);
+        case.save_run(&old, &tables, &saved, beginning.position, run, reused)?;
     }
-    let report = Report::new(options, beginning, run, &before, &Site::new(&tables));
+    let report = Report::new(options, beginning, run, &before, &after);
     let text = match json {
         true => report.machine(),
         false => report.people(),

@@ -146,6 +146,8 @@ fn add_files(parents: &mut Vec<u8>) {
         },
     );
     add_file(parents, plain(file(11), &[Some((object(0x29), 2))]));
+    // A redirect of this slot was cut off after it had made 0x2b.
+    add_file(parents, plain(file(13), &[Some((object(0x10), 0))]));
     parents.resize(parents.len() + 2 * parent::BYTES, 0);
 }
 
@@ -177,6 +179,7 @@ fn add_objects(objects: &mut Vec<u8>) {
     add(0x29, 1, ROOT, Some((11, 0)), false);
     // No file can be made that has this slot.
     add(0x2a, 3, ALICE, Some((12, layout::MOST_SLOTS as u32)), false);
+    add(0x2b, 0, ALICE, Some((13, 0)), true);
     objects.resize(objects.len() + 3 * object::BYTES, 0);
 }
 

@@ -4,6 +4,7 @@ use std::collections::HashMap;
 use std::path::Path;
 
 use crate::answers::refusal;
+use crate::args::ShowOptions;
 use crate::bar::{Bar, Work};
 use crate::case::Case;
 use crate::change::Values;
@@ -11,26 +12,39 @@ use crate::class::Class;
 use crate::classing::classes_at;
 use crate::commands::classes::finding_json;
 use crate::fid::{Fid, MdtFid, OstFid};
-use crate::finding::Finding;
+use crate::finding::{Finding, Needs};
 use crate::json::Json;
 use crate::looks::{Look, looks};
 use crate::outcome::{Failure, Outcome};
 use crate::position::Position;
 use crate::rows::{File, Object, slots_words};
 use crate::site::{Named, Place, Site};
+use crate::tables::Tables;
 use crate::values;
 use crate::why::{self, Rule};
+use crate::writes::{Writes, writes};
+
+/// The classes of positions.
+type Classes = HashMap<Position, Class>;
 
 /// What there is to say of a FID.
 struct View<'case> {
     site: &'case Site,
-    classes: HashMap<Position, Class>,
+    classes: Classes,
     /// What the library answers for the objects of the file's slots, and for the object.
     looks: HashMap<OstFid, Look>,
+    /// What the repairs write; of no position where that is not asked for.
+    writes: HashMap<Position, Writes>,
 }
 
 /// Shows a file, an object, or both where both have the FID.
-pub fn show(directory: &Path, fid: Fid, json: bool, bar: &Bar) -> Result<Outcome, Failure> {
+pub fn show(
+    directory: &Path,
+    options: ShowOptions,
+    json: bool,
+    bar: &Bar,
+) -> Result<Outcome, Failure> {
+    let fid = options.fid;
     let tables = Case::open(directory)?.wide_tables()?;
     let site = Site::new(&tables);
     let positions = positions(&site, fid);
@@ -41,13 +55,9 @@ pub fn show(directory: &Path, fid: Fid, json: bool, bar: &Bar) -> Result<Outcome
         let message = format!("nothing in {} has the FID {fid}", directory.display());
         return Err(Failure::refused(message));
     }
-    bar.turn_to(Work::Unmeasured("looking for keepers"));
-    let looks = looks(&tables, &site, objects(&site, fid));
-    let view = View {
-        site: &site,
-        classes: positions.into_iter().zip(classes).collect(),
-        looks: looks.map_err(|number| refusal(number, &tables))?,
-    };
+    let classes = positions.into_iter().zip(classes).collect();
+    let view = View::new(&tables, &site, options, classes, json, bar);
+    let view = view.map_err(|number| refusal(number, &tables))?;
     let text = if json {
         view.machine(fid)
     } else {
@@ -58,18 +68,52 @@ pub fn show(directory: &Path, fid: Fid, json: bool, bar: &Bar) -> Result<Outcome
     Ok(Outcome::done(text))
 }
 
-/// Every position that is spoken of: those of the file, those of the objects that claim it, those
-/// of the object and of the slots that name it.
+/// Every position that is spoken of: those that are told, and those of the slots that name the
+/// object.
 fn positions(site: &Site, fid: Fid) -> Vec<Position> {
-    let (file, object) = (MdtFid(fid), OstFid(fid));
+    let mut positions = told(site, fid);
+    let named_by = site.named_by(OstFid(fid)).iter().copied();
+    positions.extend(named_by.map(Position::Slot));
+    positions
+}
+
+/// The positions of which all is told: those of the file, those of the objects that claim it, and
+/// that of the object.
+fn told(site: &Site, fid: Fid) -> Vec<Position> {
+    let file = MdtFid(fid);
     let own = site.file_row(file).map(|row| file_positions(site, row));
     let claimants = claimants(site, file)
         .into_iter()
         .map(|(row, _)| Position::Object(row));
-    let row = site.object_row(object).map(Position::Object);
-    let named_by = site.named_by(object).iter().copied().map(Position::Slot);
-    let own = own.into_iter().flatten();
-    own.chain(claimants).chain(row).chain(named_by).collect()
+    let row = site.object_row(OstFid(fid)).map(Position::Object);
+    own.into_iter()
+        .flatten()
+        .chain(claimants)
+        .chain(row)
+        .collect()
+}
+
+/// What the repairs at some positions write, each by itself; the library's number where it refuses
+/// the tables.
+fn writes_at(
+    tables: &Tables,
+    site: &Site,
+    classes: &Classes,
+    positions: Vec<Position>,
+    bar: &Bar,
+) -> Result<HashMap<Position, Writes>, u32> {
+    let needs = |position: Position| {
+        let finding = Finding::new(site, position, classes[&position]);
+        finding.repair.map(|repair| (position, repair.needs))
+    };
+    let repairs: HashMap<Position, Needs> = positions.into_iter().filter_map(needs).collect();
+    bar.turn_to(Work::Counted("steps", repairs.len() as u64));
+    let mut list = HashMap::new();
+    for (position, needs) in repairs {
+        list.insert(position, writes(tables, position, needs.policy())?);
+        bar.show(list.len() as u64);
+    }
+    Ok(list)
 }
 
 /// The objects whose keepers are told: those that the slots of the file name, and the object.
@@ -109,7 +153,36 @@ fn claimants(site: &Site, fid: MdtFid) -> Vec<(usize, &Object)> {
         .collect()
 }
 
-impl View<'_> {
+impl<'case> View<'case> {
+    /// The library's answers are asked for here; its number where it refuses the tables. Machines
+    /// are told what the repairs of the slots that name the object write, too.
+    fn new(
+        tables: &Tables,
+        site: &'case Site,
+        options: ShowOptions,
+        classes: Classes,
+        json: bool,
+        bar: &Bar,
+    ) -> Result<View<'case>, u32> {
+        let fid = options.fid;
+        bar.turn_to(Work::Unmeasured("looking for keepers"));
+        let looks = looks(tables, site, objects(site, fid))?;
+        let asked = match json {
+            true => positions(site, fid),
+            false => told(site, fid),
+        };
+        let writes = match options.writes {
+            true => writes_at(tables, site, &classes, asked, bar)?,
+            false => HashMap::new(),
+        };
+        Ok(View {
+            writes,
+            site,
+            classes,
+            looks,
+        })
+    }
+
     /// The objects that claim a slot of the file, with their rows.
     fn claimants(&self, fid: MdtFid) -> Vec<(usize, &Object)> {
         claimants(self.site, fid)
@@ -118,7 +191,7 @@ impl View<'_> {
     /// What is found at a position of the file, of the object, or of a slot that names it. Keeper
     /// and slots compared are the library's answer.
     fn finding(&self, position: Position) -> Finding {
-        let mut finding = Finding::new(self.site, position, self.classes[&position]);
+        let mut finding = self.found(position);
         if let Some(object) = finding.object {
             let look = &self.looks[&object];
             finding.keeper = self.keeper(look, finding.keeper.map(|(_, rule)| rule));
@@ -130,8 +203,14 @@ impl View<'_> {
     /// What is found at the row of an object that claims the file. There may be very many of them,
     /// so the library is not asked for their keepers.
     fn claimant(&self, row: usize) -> Finding {
-        let position = Position::Object(row);
-        Finding::new(self.site, position, self.classes[&position])
+        self.found(Position::Object(row))
+    }
+
+    fn found(&self, position: Position) -> Finding {
+        Finding {
+            writes: self.writes.get(&position).cloned(),
+            ..Finding::new(self.site, position, self.classes[&position])
+        }
     }
 
     /// The keeper that the library answered, with the rule that makes it so.
@@ -377,6 +456,9 @@ fn more(finding: &Finding) -> String {
         add(format!(
             "the layout's generation goes from {old} to {new} with it"
         ));
+    }
+    if let Some(writes) = &finding.writes {
+        add(writes.words());
     }
     if let Some(turn) = &finding.turn {
         add(turn.words());

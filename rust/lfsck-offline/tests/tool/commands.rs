@@ -97,7 +97,7 @@ fn a_sample_makes_its_directory() {
         .unwrap()
         .into();
     let json = crate::json::parse(&told.expect(0).out);
-    assert_eq!(json.number("parent_rows"), 12);
+    assert_eq!(json.number("parent_rows"), 13);
     assert!(inner.join("parents.tbl").is_file());
 }
 
@@ -324,11 +324,11 @@ fn steps_left_are_counted() {
     let words = ["run", "--create", "--adopt", "--steps"];
     let run = |steps| [&words[..], &[steps]].concat();
     let told = case.run(&run("20")).expect(1);
-    let lines = "Steps: 20 done, 32 left.\nAnswer 1: the steps are used up; the next step is at ";
+    let lines = "Steps: 20 done, 35 left.\nAnswer 1: the steps are used up; the next step is at ";
     assert!(told.out.contains(lines), "{told:?}");
     let told = case.run(&run("0")).expect(1);
-    assert!(told.out.contains("Steps: 0 done, 32 left."), "{told:?}");
-    case.run(&run("32")).expect(0);
+    assert!(told.out.contains("Steps: 0 done, 35 left."), "{told:?}");
+    case.run(&run("35")).expect(0);
 }
 
 /// E4 to E6, and a file to be made where no parent row is unused.

@@ -36,7 +36,7 @@ fn line(case: &Case, words: &[&str]) -> String {
     text.lines().last().expect("a line").to_string()
 }
 
-/// The sample has 16 slots: 2 of file 1, 1 of file 2, 2 of file 3, 1 of file 4, 3 of file 5, and 7
+/// The sample has 17 slots: 2 of file 1, 1 of file 2, 2 of file 3, 1 of file 4, 3 of file 5, and 8
 /// after these. So 6 come before those of file 5.
 ///
 /// - Slot 0 of file 5: the object claims nothing, and in scan order the 7th slot names it.
@@ -88,7 +88,7 @@ fn multiple_slots_and_holes() {
     assert_eq!(positions[2].get("compared"), &Value::Null);
 }
 
-/// Of an object that no slot names, all 16 slots in scan order come last. Before them:
+/// Of an object that no slot names, all 17 slots in scan order come last. Before them:
 ///
 /// - 0x20 claims slot 1 of file 6, a hole: 1, and the 2 slots of file 6.
 /// - 0x21 claims slot 3 of file 6, which has 2: those 2.
@@ -98,11 +98,11 @@ fn multiple_slots_and_holes() {
 fn an_object_is_shown_with_the_slots_compared() {
     let case = Case::sample("compared-object");
     for (id, compared) in [
-        (0x20, 1 + 2 + 16),
-        (0x21, 2 + 16),
-        (0x22, 16),
-        (0x26, 16),
-        (0x24, 1 + 1 + 16),
+        (0x20, 1 + 2 + 17),
+        (0x21, 2 + 17),
+        (0x22, 17),
+        (0x26, 17),
+        (0x24, 1 + 1 + 17),
     ] {
         let fid = format!("0x240000400:{id:#x}");
         let lines =
@@ -141,13 +141,13 @@ fn the_claimed_file_is_searched_after_the_claimed_slot() {
     assert_eq!(sums(&case, &[]), [3, 3 + 3 + 1, 3]);
 }
 
-/// The sample has 15 slots with an object. 11 cost 1; those of file 5 cost 7 and 3, the absent
+/// The sample has 16 slots with an object. 12 cost 1; those of file 5 cost 7 and 3, the absent
 /// objects of files 4 and 8 cost 6 and, in the 14th slot, 14.
 #[test]
 fn a_summary_has_the_sum_and_the_greatest() {
     let case = Case::sample("compared-summary");
-    assert_eq!(sums(&case, &[]), [15, 11 + 7 + 3 + 6 + 14, 14]);
-    let words = "Slots compared to find the keepers: 41 in all for 15 slots naming an object, \
+    assert_eq!(sums(&case, &[]), [16, 12 + 7 + 3 + 6 + 14, 14]);
+    let words = "Slots compared to find the keepers: 42 in all for 16 slots naming an object, \
                  at most 14 for one.";
     assert_eq!(line(&case, &[]), words);
     assert!(
@@ -157,7 +157,7 @@ fn a_summary_has_the_sum_and_the_greatest() {
             .ends_with(&format!("{words}\n"))
     );
     let whole = case.json(&["classes"], 0);
-    assert_eq!(whole.get("compared").number("sum"), 41);
+    assert_eq!(whole.get("compared").number("sum"), 42);
 }
 
 /// Only what is asked for is counted, whichever class is listed.
@@ -165,7 +165,7 @@ fn a_summary_has_the_sum_and_the_greatest() {
 fn a_summary_counts_the_slots_that_are_asked_for() {
     let case = Case::sample("compared-narrowed");
     assert_eq!(sums(&case, &["--file", "0x200000401:5"]), [3, 7 + 3 + 1, 7]);
-    assert_eq!(sums(&case, &["--only", "SELF"]), [15, 41, 14]);
+    assert_eq!(sums(&case, &["--only", "SELF"]), [16, 42, 14]);
     // Two slots name it, and the object that they name is one row.
     assert_eq!(sums(&case, &["--object", "0x240000400:0x11"]), [2, 2, 1]);
     let words = "Slots compared to find the keepers: 6 in all for 1 slot naming an object, \
@@ -182,7 +182,7 @@ fn a_summary_counts_the_slots_that_are_asked_for() {
 fn a_clean_slot_costs_one() {
     let case = Case::sample("compared-clean");
     case.run(&["run", "--create", "--adopt"]).expect(0);
-    assert_eq!(sums(&case, &[]), [18, 18, 1]);
+    assert_eq!(sums(&case, &[]), [19, 19, 1]);
 }
 
 /// The number that `show` has from the library is the one that `classes` counts, of every slot

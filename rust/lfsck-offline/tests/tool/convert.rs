@@ -166,7 +166,7 @@ fn a_conversion_is_not_taken_back() {
     let told = case.run(&["log"]).expect(0).out;
     let version = env!("CARGO_PKG_VERSION");
     let lines = format!(
-        "  conversion, lfsck-offline {version}\n  12 parent rows widened from 3915 to 48075 \
+        "  conversion, lfsck-offline {version}\n  13 parent rows widened from 3915 to 48075 \
          bytes.\n"
     );
     assert!(told.ends_with(&lines), "{told}");
@@ -218,6 +218,7 @@ fn a_position_of_another_edition_goes_alone() {
                 "of an edition before 2026-07, with at most 160 slots",
             ),
             (of("4\nedition 2026-07"), "of edition 2026-07"),
+            (of("4\nedition 2026-08"), "of edition 2026-08"),
             (of("4\nedition 2027-01"), "of edition 2027-01"),
             (of("9"), "which cannot be read"),
             (String::new(), "which cannot be read"),

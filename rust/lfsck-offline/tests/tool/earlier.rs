@@ -19,6 +19,9 @@ const COUNT: &str = ",\"WRONG-OST\":0";
 const VERSION: &str = concat!("\"version\":\"", env!("CARGO_PKG_VERSION"), "\"");
 const FIRST: &str = "\"version\":\"0.1.0\"";
 
+/// What a run of this version says that used no object again, and no earlier one says.
+pub const REUSED: &str = ",\"reused\":[]";
+
 /// The versions of those editions, with the formats of their positions.
 const VERSIONS: [(&str, &str); 6] = [
     ("0.1.0", "1"),
@@ -30,12 +33,13 @@ const VERSIONS: [(&str, &str); 6] = [
 ];
 
 /// The formats of other editions, and how the line names what saved them.
-const FORMATS: [(&str, &str); 6] = [
+const FORMATS: [(&str, &str); 7] = [
     ("1", "an edition before 2026-07, with at most 160 slots"),
     ("2", "an edition before 2026-07, with at most 160 slots"),
     ("3", "an edition before 2026-07, with at most 160 slots"),
     ("4\nedition 2026-06", "edition 2026-06"),
     ("4\nedition 2026-07", "edition 2026-07"),
+    ("4\nedition 2026-08", "edition 2026-08"),
     ("4\nedition the one after", "edition the one after"),
 ];
 
@@ -80,6 +84,8 @@ fn earlier_log(log: &str, version: &str, tables: [&[u8]; 2]) -> String {
     let mut parts = log.split(mark);
     let first = parts.next().expect("a beginning").to_string();
     let log = parts.fold(first, |log, part| log + mark + &padded(part));
+    assert_eq!(log.matches(REUSED).count(), 1);
+    let log = log.replace(REUSED, "");
     let log = log.replace(VERSION, &format!("\"version\":\"{version}\""));
     tables.iter().fold(log, |log, table| {
         log.replace(&sha256(table), &sha256(&narrowed(table)))
@@ -241,7 +247,7 @@ fn begun(name: &str, format: &str) -> Case {
     case.run(&[&RUN[..], &["--steps", "10"]].concat()).expect(1);
     let text = String::from_utf8(case.read(POSITION)).expect("a text");
     let (first, rest) = text.split_once("position 1").expect("a position");
-    assert_eq!(first, "lfsck-offline position, format 4\nedition 2026-08\n");
+    assert_eq!(first, "lfsck-offline position, format 4\nedition 2026-09\n");
     let (at, _) = rest.split_once("parents ").expect("a digest");
     let at = format!("position 1{at}");
     case.write(POSITION, position(format, &at, &case.files()).as_bytes());
@@ -256,7 +262,7 @@ fn a_position_of_another_edition_is_refused() {
         let case = begun("other-edition", format);
         let before = case.files();
         let line = format!(
-            "lfsck-offline.position: saved by {edition}; this is edition 2026-08, and no run is \
+            "lfsck-offline.position: saved by {edition}; this is edition 2026-09, and no run is \
              taken up across editions; --from-start begins without it\n"
         );
         for words in [
@@ -353,10 +359,11 @@ fn mended_first(name: &str) -> Case {
     let case = Case::with(name, &parent, &object, &[]);
     case.run(&["run", "--steps", "1"]).expect(1);
     let log = String::from_utf8(case.read(LOG)).expect("a text");
-    for part in [COUNT, VERSION] {
+    for part in [COUNT, VERSION, REUSED] {
         assert_eq!(log.matches(part).count(), 1);
     }
-    let log = log.replace(COUNT, "").replace(VERSION, FIRST);
+    let log = log.replace(COUNT, "").replace(REUSED, "");
+    let log = log.replace(VERSION, FIRST);
     case.write(LOG, log.as_bytes());
     case
 }

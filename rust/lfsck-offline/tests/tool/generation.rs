@@ -23,6 +23,7 @@ fn raised() -> Vec<(String, u64, u64)> {
         (8, 0, 1),
         (10, 65_535, 0),
         (11, 0, 1),
+        (13, 0, 1),
     ];
     raised.map(|(id, old, new)| (file(id), old, new)).to_vec()
 }
@@ -46,6 +47,7 @@ fn show_tells_the_generation_that_a_repair_leaves() {
         (9, &[]),
         (10, &["from 65535 to 0"]),
         (11, &["from 0 to 1"]),
+        (13, &["from 0 to 1"]),
     ] {
         let told = case.run(&["show", &file(id)]).expect(0).out;
         let shown = told.lines().filter(|line| line.contains("generation goes"));
@@ -83,11 +85,12 @@ fn a_finding_has_the_generation_for_machines() {
             )
         })
         .collect();
-    let [three, six, seven, ten, eleven] = [3, 6, 7, 10, 11].map(file);
+    let [three, six, seven, ten, eleven, thirteen] = [3, 6, 7, 10, 11, 13].map(file);
     let expected = [
         ("MULTIPLE", three.as_str(), (0, 1)),
         ("WRONG-OST", ten.as_str(), (65_535, 0)),
         ("WRONG-OST", eleven.as_str(), (0, 1)),
+        ("MULTIPLE", thirteen.as_str(), (0, 1)),
         ("ORPHAN", six.as_str(), (0, 1)),
         ("ORPHAN", six.as_str(), (0, 1)),
         ("ORPHAN", seven.as_str(), (0, 1)),

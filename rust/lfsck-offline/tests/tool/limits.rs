@@ -77,7 +77,6 @@ fn full_tables_are_checked_classed_and_repaired() {
     assert_eq!(sound.number("object_rows"), 65_536);
     assert_eq!(sound.number("reserve_fids"), 65_536);
     time("check");
-
     let classes = case.json(&["classes"], 0);
     let summary = classes.get("summary");
     let faults = ["SELF", "MULTIPLE", "DANGLING", "UNMATCHED", "OWNER"];
@@ -90,6 +89,8 @@ fn full_tables_are_checked_classed_and_repaired() {
     assert_eq!(summary.number("UNUSED"), (OBJECTS - NAMED * SLOTS) as u64);
     expect_compared(&case, classes.get("compared"));
     time("classes and show");
+    expect_writes(&case);
+    time("writes");
 
     // The faults are in the first eight files.
     let steps = (8 * (1 + SLOTS)).to_string();
@@ -104,6 +105,14 @@ fn full_tables_are_checked_classed_and_repaired() {
     let left = (PARENTS - 8) * (1 + SLOTS) + OBJECTS;
     assert_eq!(report.number("steps_left"), left as u64);
     time("run");
+}
+
+/// The object that is absent, of slot 5 of the fourth file, is made in the row behind all objects.
+fn expect_writes(case: &Case) {
+    let shown = case.json(&["show", "0x200000401:4", "--writes"], 0);
+    let writes = shown.get("file").list("positions")[6].list("writes");
+    assert_eq!(writes.len(), 1);
+    assert_eq!(writes[0].number("row"), (NAMED * SLOTS) as u64);
 }
 
 /// One slot is compared for each, but 6,006 for the absent object, which slot 5 of the fourth file

@@ -169,7 +169,7 @@ fn the_log_tells_what_the_run_told() {
         assert!(told.contains(line), "{line}");
     }
     assert!(
-        told.contains("  From position 1,0,0 to 3,0,0 in 52 steps."),
+        told.contains("  From position 1,0,0 to 3,0,0 in 55 steps."),
         "{told}"
     );
 }
@@ -220,17 +220,19 @@ fn a_file_and_an_object_have_their_story() {
     expect_story(&case, &file(2), &[("SELF", "own_fid")]);
     let multiple = ["generation", "slot", "object_made"].map(|kind| ("MULTIPLE", kind));
     expect_story(&case, &file(3), &multiple);
+    // The object of this one was there.
+    expect_story(&case, &file(13), &multiple[..2]);
     for fid in [file(4), object(0x14)] {
         expect_story(&case, &fid, &[("DANGLING", "object_made")]);
     }
     expect_story(&case, &object(0x27), &[("EMPTY", "object_destroyed")]);
     // The object that a slot named before is concerned as well.
     expect_story(&case, &object(0x11), &[("MULTIPLE", "slot")]);
-    expect_story(&case, &object(0x10), &[]);
+    expect_story(&case, &object(0x13), &[]);
     let told = case.run(&["log", &file(2)]).expect(0).out;
     let why = "SELF: the layout's own FID is not the file's";
     assert!(told.contains(why), "{told}");
-    let told = case.run(&["log", &object(0x10)]).expect(0).out;
+    let told = case.run(&["log", &object(0x13)]).expect(0).out;
     assert!(told.starts_with("Nothing in the log concerns"), "{told}");
     case.run(&["undo"]).expect(0);
     expect_story(&case, &file(2), &[("SELF", "own_fid"), ("-", "own_fid")]);

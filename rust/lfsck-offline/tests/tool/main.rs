@@ -7,6 +7,7 @@ mod changes;
 mod commands;
 mod compared;
 mod convert;
+mod cuts;
 mod earlier;
 mod foresee;
 mod generation;

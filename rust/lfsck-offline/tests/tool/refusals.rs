@@ -230,7 +230,7 @@ fn a_saved_position_that_the_tables_do_not_have_is_refused() {
     case.run(&["run", "--steps", "5"]).expect(1);
     let good = case.read(POSITION);
     assert_eq!(forged(&good, "1 2 0").as_bytes(), good);
-    for position in ["1 99 7", "1 0 9", "2 24 0", "2 0 1", "3 0 1", "9 9 9"] {
+    for position in ["1 99 7", "1 0 9", "2 25 0", "2 0 1", "3 0 1", "9 9 9"] {
         case.write(POSITION, forged(&good, position).as_bytes());
         let before = case.files();
         let told = case

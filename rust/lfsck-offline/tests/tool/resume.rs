@@ -140,7 +140,7 @@ fn no_steps_change_nothing() {
     let before = case.files();
     let told = case.json(&[&RUN[..], &["--steps", "0"]].concat(), 1);
     assert_eq!(told.number("steps_done"), 0);
-    assert_eq!(told.number("steps_left"), 52);
+    assert_eq!(told.number("steps_left"), 55);
     assert_eq!(case.files(), before);
     assert!(!before.contains_key(POSITION));
 }

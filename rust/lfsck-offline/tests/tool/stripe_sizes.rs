@@ -2,7 +2,7 @@
 //! taken back and told where an earlier edition made a run over them.
 
 use crate::bytes::{PARENT, parent_row};
-use crate::earlier::{NARROW, narrowed, position};
+use crate::earlier::{NARROW, REUSED, narrowed, position};
 use crate::intake::{FID, LMA, LOV, OWNERS, entry, on_made, take};
 use crate::json::{Value, parse};
 use crate::tool::{Case, LOG, POSITION, hex, sha256};
@@ -213,6 +213,7 @@ fn left(name: &str, size: u32) -> (Case, Case) {
     assert_eq!(log.matches(&good).count(), 2, "the row before and after");
     let log = log
         .replace(&good, &digits(&size.to_le_bytes()))
+        .replace(REUSED, "")
         .replace(&sha256(&start["parents.tbl"]), &sha256(&before))
         .replace(
             &sha256(&case.read("parents.tbl")),
@@ -299,7 +300,7 @@ fn a_conversion_leaves_sizes() {
         let case = sample("size-widened", bad.0);
         let wide = case.read("parents.tbl");
         case.write("parents.tbl", &narrowed(&wide));
-        assert_eq!(case.read("parents.tbl").len(), 12 * NARROW);
+        assert_eq!(case.read("parents.tbl").len(), 13 * NARROW);
         case.run(&["convert"]).expect(0);
         assert!(case.read("parents.tbl") == wide);
         case.run(&["run"]).expect_line(2, &line(ROW, bad));
