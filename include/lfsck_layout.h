@@ -375,7 +375,7 @@ uint32_t lfsck_run(uint8_t *parents, size_t parents_bytes,
  *                    the step cannot be made, as lfsck_run would answer; nothing is written
  *
  * A program that keeps its tables elsewhere, on disks say, repairs them so that it may be cut off
- * between any two writes:
+ * between any two writes (tests/c/row_store.h does it with files):
  *
  *   1. Read the tables, and take the start from lfsck_start.
  *   2. Until the position is the end: ask for the writes of its step; make the step on the copy in
