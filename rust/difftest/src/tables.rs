@@ -276,26 +276,17 @@ fn random_ost(random: &mut Random) -> u32 {
 
 /// Lets a slot name what another names, and some objects claim it, fresh or with data, named or not.
 pub fn crowd(tables: &mut Tables, random: &mut Random) {
-    let mut named = Vec::new();
-    for (row, parent) in tables.parents.iter().enumerate() {
-        let slots = parent.iter().flat_map(|parent| &parent.layout.slots);
-        let stripes = slots.enumerate();
-        named.extend(stripes.filter_map(|(slot, stripe)| Some((row, slot, (*stripe)?.object))));
-    }
+    let named = named_slots(tables);
     if named.is_empty() {
         return;
     }
-    let ((row, slot, _), (.., object)) = (random.pick(&named), random.pick(&named));
-    let Some(parent) = &mut tables.parents[row] else {
-        return;
-    };
-    if let Some(stripe) = &mut parent.layout.slots[slot] {
-        stripe.object = object;
+    let ((_, claim), (object, _)) = (random.pick(&named), random.pick(&named));
+    let files = tables.parents.iter_mut().flatten();
+    for file in files.filter(|file| file.fid == claim.parent) {
+        if let Some(stripe) = &mut file.layout.slots[claim.index as usize] {
+            stripe.object = object;
+        }
     }
-    let claim = Claim {
-        parent: parent.fid,
-        index: slot as u32,
-    };
     for object in tables.objects.iter_mut().flatten() {
         if random.one_in(3) {
             object.claim = Some(claim);
