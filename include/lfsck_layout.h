@@ -35,7 +35,7 @@ enum {
     LFSCK_FID_TWICE = 15,     /* a FID twice among used parents, or twice among used objects */
     LFSCK_NO_POSITION = 16,   /* there is no such position, slot, record, state or child */
     LFSCK_NO_ROOM = 17,       /* too few places for what is handed out */
-    LFSCK_NO_RESERVE = 21,    /* a slot is to be redirected: no usable FID in the reserve */
+    LFSCK_NO_RESERVE = 21,    /* a slot is to get a new object: no usable FID in the reserve */
     LFSCK_NO_OBJECT_ROW = 22, /* an object is to be made: no unused object row */
     LFSCK_NO_PARENT_ROW = 23, /* a file is to be made: no unused parent row */
     LFSCK_BAD_LINK = 31,      /* a linkEA, a record or a name is against the rules */
@@ -64,7 +64,7 @@ enum {
 
 /* What a policy allows, beside the repairs that are always made; add them for both. */
 enum {
-    LFSCK_CREATE = 1, /* make objects for slots that have none of their own */
+    LFSCK_CREATE = 1, /* make objects for slots that have none of their own, or use waiting ones */
     LFSCK_ADOPT = 2   /* put objects that no slot names in their places, destroy empty ones */
 };
 
@@ -327,6 +327,10 @@ uint32_t lfsck_keeper(const uint8_t *parents, size_t parents_bytes,
  * slot of a file that was there before it, or the number of its slots, raises the generation of
  * that file's layout by one, 65,535 going to 0; no other step changes a generation. A file that a
  * step makes begins at 0.
+ *
+ * With LFSCK_CREATE a slot that is LFSCK_MULTIPLE gets the first object that is fresh, claims this
+ * very slot and is named by no slot; only without one a new object, under a FID of the reserve, in
+ * an unused row. Editions before 2026-09 always made a new one.
  *
  *   parents, objects  the tables, changed
  *   reserve           FIDs for new objects, 16 bytes each
