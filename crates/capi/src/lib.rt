@@ -1,4 +1,5 @@
 // What C calls: thin exports over the functions on numbers and lent slices.
+#![tactic(auto)]
 pub mod classes;
 pub mod input;
 pub mod intakes;

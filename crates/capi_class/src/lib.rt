@@ -1,4 +1,5 @@
 // The class at a position, as numbers.
+#![tactic(auto)]
 ghost use Rattle.std.specs.Prelude.{◌≡◌, ◌+◌, ◌≤◌, length};
 ghost use Rattle.std.proofs.lemmas.List.Edits.{sets};
 ghost use Rattle.tables.specs.Positions.{place};
@@ -15,7 +16,7 @@ use tables::Position;
 pub const CLASS_SIZE: usize = 4;
 
 // The numbers of a class: its own, and the sequence, id and index that were claimed.
-#[derive(Drop)]
+#[derive(Clone, Copy)]
 struct ClassNumbers {
     class: u64,
     seq: u64,

@@ -1,4 +1,5 @@
 // LinkEA values as numbers: read, one record of them, and written.
+#![tactic(auto)]
 ghost use Rattle.std.specs.Prelude.{◌≡◌, ◌≤◌, length};
 ghost use Rattle.std.proofs.lemmas.List.Edits.{sets};
 ghost use Rattle.linkea.specs.Answers.{read_link, reading_number, read_record, record_number};
@@ -16,7 +17,7 @@ const HEADER_NUMBERS: usize = 4;
 const RECORD_NUMBERS: usize = 6;
 
 // A header that is handed in as numbers.
-#[derive(Drop)]
+#[derive(Clone, Copy)]
 pub enum HeaderGiven {
     NotHeader,
     HeaderIs(LinkHeader),

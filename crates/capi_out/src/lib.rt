@@ -1,4 +1,5 @@
 // Numbers that are handed out.
+#![tactic(auto)]
 ghost use Rattle.std.specs.Prelude.{◌≡◌, ◌+◌, ◌≤◌, ◌<◌, [], ◌∷◌, length, set};
 ghost use Rattle.std.proofs.lemmas.List.Edits.{sets};
 

@@ -1,4 +1,5 @@
 // The classes of document 01 over the lent tables: of a header, a slot, an object, and at a position.
+#![tactic(auto)]
 ghost use Rattle.std.specs.Prelude.{◌≡◌, true, false};
 ghost use Rattle.tables.specs.Bytes.{parse};
 ghost use Rattle.tables.specs.Positions.{is_position, is_end};
@@ -10,7 +11,7 @@ use rules::Class;
 use tables::Position;
 
 // What is said of the class at a position: the number of a refusal, or the class.
-#[derive(Drop)]
+#[derive(Clone, Copy)]
 pub enum ClassAnswer {
     NoClass(u32),
     ClassIs(Class),

@@ -1,5 +1,6 @@
 // Example E10 of the paper: an object that may hold data claims slot 1,999, and then slot 2,000, of an absent file. Prints the class of the object and
 // what a run that adopts makes of it: at index 1,999 a parent of 2,000 slots is made for it, at 2,000 its place can't be had.
+#![tactic(auto)]
 use capi_run::REPORT_SIZE;
 use fid::Fid;
 use layout::{MAX_SLOTS, PLAIN_HEADER, SLOT_SIZE};

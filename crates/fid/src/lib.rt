@@ -1,4 +1,6 @@
 // FIDs: read, written, compared, and tested by the good-FID rules.
+#![tactic(auto)]
+
 ghost use Rattle.std.specs.Prelude.{◌≡◌, ◌+◌, ◌≤◌, length, drop};
 ghost use Rattle.std.proofs.lemmas.List.Edits.{sets};
 ghost use Rattle.wire.specs.Numbers.{big};
@@ -18,7 +20,7 @@ const LEAST_SEQUENCE: u64 = 0x2_0000_0400;
 const GREATEST_SEQUENCE: u64 = 0xffff_ffff_ffff_fffe;
 
 // Sequence, object id and version, as they stand on disk.
-#[derive(Drop)]
+#[derive(Clone, Copy)]
 pub struct Fid {
     pub seq: u64,
     pub oid: u32,
@@ -26,11 +28,11 @@ pub struct Fid {
 }
 
 // The FID of a file, on an MDT.
-#[derive(Drop)]
+#[derive(Clone, Copy)]
 pub struct MdtFid(pub Fid);
 
 // The FID of an object, on an OST.
-#[derive(Drop)]
+#[derive(Clone, Copy)]
 pub struct OstFid(pub Fid);
 
 // The FID at a place of the slice.

@@ -1,4 +1,5 @@
 // What is taken of a dump of attributes.
+#![tactic(auto)]
 
 // The numbers that stop a reading: a bad line, an attribute twice, no self FID, neither kind or both, and a row that doesn't fit.
 pub const BAD_DUMP: usize = 33;
@@ -12,7 +13,7 @@ pub const NO_KIND: usize = 36;
 pub const NO_FIT: usize = 37;
 
 // The attributes that are taken, and all others.
-#[derive(Drop)]
+#[derive(Clone, Copy)]
 pub enum Kind {
     Lov,
     Fid,

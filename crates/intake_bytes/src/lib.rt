@@ -1,4 +1,5 @@
 // An unfinished line of a dump, byte by byte: what is known of it stands in numbers and in lent bytes.
+#![tactic(auto)]
 ghost use Rattle.std.specs.Prelude.{◌≡◌, cond, ◌≤◌, ◌<◌, eqb, length};
 ghost use Rattle.intake.specs.Says.{starts, named, digit, head_size, kind_of};
 ghost use Rattle.intake_bytes.specs.Lent.{layout_at, base_of, want_of, new_line, folded, valued, Room, DigitStep, PairStep, Held, LineStep, Feeds, PastHead, DigitsFed, LineFed, ValueFed};
@@ -40,7 +41,7 @@ pub const NEWLINE: u8 = 10;
 pub const BROKEN: usize = 17;
 
 // Of each attribute of the open entry its length and 1, or 0 where it has none.
-#[derive(Drop)]
+#[derive(Clone, Copy)]
 pub struct Marks {
     pub lov: usize,
     pub fid: usize,
@@ -49,7 +50,7 @@ pub struct Marks {
 
 // The unfinished line: the bytes of its head so far, where its value goes and how much of it is kept, half a byte (0 none, a digit and 1, or 17
 // where it isn't hex) and the value's length so far.
-#[derive(Drop)]
+#[derive(Clone, Copy)]
 pub struct Unfinished {
     pub seen: usize,
     pub base: usize,
@@ -59,7 +60,7 @@ pub struct Unfinished {
 }
 
 // Where in a piece the reading stands, and the line there.
-#[derive(Drop)]
+#[derive(Clone, Copy)]
 pub struct Reached {
     pub at: usize,
     pub line: Unfinished,

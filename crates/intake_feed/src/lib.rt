@@ -1,3 +1,4 @@
 // A dump taken in piece by piece.
+#![tactic(auto)]
 pub mod feeding;
 pub mod lines;

@@ -1,4 +1,5 @@
 // What a line of a dump says where it ends, and what it does to the open entry.
+#![tactic(auto)]
 ghost use Rattle.std.specs.Prelude.{◌≡◌, ◌≤◌, ◌<◌, length};
 ghost use Rattle.intake.specs.Says.{head_size, good_size};
 ghost use Rattle.intake_bytes.specs.Lent.{layout_at, max_count, mark_of};
@@ -9,7 +10,7 @@ use intake::{ATTRIBUTE_TWICE, BAD_DUMP, Kind};
 use intake_bytes::{HEAD_AT, HEAD_SIZE, LMA_SIZE, MARK_AT, Marks, OLDER_SIZE, Unfinished};
 
 // What a line says; the length and the bytes of a taken value stand beside it.
-#[derive(Drop)]
+#[derive(Clone, Copy)]
 pub enum Said {
     Opens,
     Closes,
@@ -19,7 +20,7 @@ pub enum Said {
 }
 
 // What a line leaves: an open entry or none (its first line, or 0, and what it has), a stop, or an entry to close.
-#[derive(Drop)]
+#[derive(Clone, Copy)]
 pub enum After {
     Goes(usize, Marks),
     Stops(usize),
@@ -27,7 +28,7 @@ pub enum After {
 }
 
 // The entry that is open (its first line, or 0, and what it has), the lines read and the unfinished one.
-#[derive(Drop)]
+#[derive(Clone, Copy)]
 pub struct Reader {
     pub from: usize,
     pub marks: Marks,
@@ -36,7 +37,7 @@ pub struct Reader {
 }
 
 // What the end of a line leads to: the reader at the next line, the number that stops it, or an entry to close.
-#[derive(Drop)]
+#[derive(Clone, Copy)]
 pub enum Turn {
     Next(Reader),
     Stop(usize),

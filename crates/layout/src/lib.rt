@@ -1,4 +1,5 @@
 // Striping layouts, version 1 and 3: reader, slot reader and slot rewrite, and the pieces that the writer is made of.
+#![tactic(auto)]
 ghost use Rattle.std.specs.Prelude.{◌≡◌, true, ◌&&◌, ◌+◌, ◌*◌, ◌≤◌, ◌<◌, length, drop};
 ghost use Rattle.std.proofs.lemmas.List.Edits.{sets};
 ghost use Rattle.layout.specs.Slot.{slot_size, zero_slot, slot_of, encode_slot, decode_slots, allowed_slot, allowed_slots, slot_names, same_slot};
@@ -60,14 +61,14 @@ pub const HOLE_PATTERN: u32 = 0x4000_0001;
 const STRIPE_UNIT: u32 = 65536;
 
 // One stripe: a hole, or an object's FID, the generation and the OST index.
-#[derive(Drop)]
+#[derive(Clone, Copy)]
 pub enum Slot {
     Hole,
     Names(OstFid, u32, u32),
 }
 
 // What a header says, the stripe count aside: magic, pattern, own id and own sequence, stripe size, generation.
-#[derive(Drop)]
+#[derive(Clone, Copy)]
 pub struct Header {
     pub magic: u32,
     pub pattern: u32,
@@ -78,14 +79,14 @@ pub struct Header {
 }
 
 // What the reader says: refused, or the header and the stripe count.
-#[derive(Drop)]
+#[derive(Clone, Copy)]
 pub enum Reading {
     Refused,
     Accepted(Header, u16),
 }
 
 // What the slot reader says.
-#[derive(Drop)]
+#[derive(Clone, Copy)]
 pub enum SlotRead {
     BadLayout,
     NoSlot,

@@ -1,4 +1,5 @@
 // The layout writer, whose slots are handed in as numbers.
+#![tactic(auto)]
 ghost use Rattle.std.specs.Prelude.{◌≡◌, ◌&&◌, ◌+◌, ◌*◌, ◌≤◌, length};
 ghost use Rattle.std.proofs.lemmas.List.Edits.{sets};
 ghost use Rattle.layout.specs.Slot.{slot_size, encode_slot, encode_slots, allowed_slot, allowed_slots};
@@ -12,14 +13,14 @@ use wire::MAX_WORD;
 pub const SLOT_NUMBERS: usize = 5;
 
 // A slot that is handed in as five numbers.
-#[derive(Drop)]
+#[derive(Clone, Copy)]
 pub enum Given {
     NotSlot,
     GivenSlot(Slot),
 }
 
 // What the writer says: refused fields, a short destination, or the bytes written.
-#[derive(Drop)]
+#[derive(Clone, Copy)]
 pub enum Written {
     BadFields,
     TooShort,

@@ -1,4 +1,5 @@
 // The linkEA read: the whole, record by record, and one record at a place.
+#![tactic(auto)]
 ghost use Rattle.std.specs.Prelude.{◌≡◌, false, not, ◌&&◌, ◌≤◌, ◌<◌, length, eqb};
 ghost use Rattle.linkea.specs.Link.{link_header, decode_link_header, places};
 ghost use Rattle.linkea.specs.Conditions.{some, bad_byte, bad_record, refused_link};
@@ -31,7 +32,7 @@ const SHORTEST_RECORD: usize = NAME_AT + 1;
 const SLASH: u8 = 47;
 
 // What a header says, the magic number aside: record count, total length, overflow time, padding.
-#[derive(Drop)]
+#[derive(Clone, Copy)]
 pub struct LinkHeader {
     pub count: u32,
     pub total: u64,
@@ -40,7 +41,7 @@ pub struct LinkHeader {
 }
 
 // A record that was found: its parent, where its name starts, the name's length, and the place after the record.
-#[derive(Drop)]
+#[derive(Clone, Copy)]
 pub struct Found {
     pub parent: MdtFid,
     pub start: usize,
@@ -49,14 +50,14 @@ pub struct Found {
 }
 
 // What the reader of the whole says.
-#[derive(Drop)]
+#[derive(Clone, Copy)]
 pub enum Reading {
     Refused,
     Accepted(LinkHeader),
 }
 
 // What the cursor says at a place: not a record, the end, or a record.
-#[derive(Drop)]
+#[derive(Clone, Copy)]
 pub enum Step {
     Bad,
     End,
@@ -64,7 +65,7 @@ pub enum Step {
 }
 
 // What the reader of one record says.
-#[derive(Drop)]
+#[derive(Clone, Copy)]
 pub enum RecordRead {
     BadLink,
     NoRecord,

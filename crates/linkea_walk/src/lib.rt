@@ -1,5 +1,6 @@
 // The linkEA reader that keeps the lent bytes and a place in them, and walks record by record. Its functions take it apart and leave the
 // work to functions on a slice and a number.
+#![tactic(auto)]
 ghost use Rattle.std.specs.Prelude.{◌≡◌};
 ghost use Rattle.linkea.specs.Answers.{step_at};
 ghost use Rattle.linkea.specs.Walk.{opening_of, onward, place_after, name_given};

@@ -1,4 +1,5 @@
 // The linkEA writer, whose records are handed in as numbers, with the bytes in which their names lie.
+#![tactic(auto)]
 ghost use Rattle.std.specs.Prelude.{◌≡◌, false, not, map, ◌+◌, ◌*◌, ◌≤◌, length};
 ghost use Rattle.std.proofs.lemmas.List.Edits.{sets};
 ghost use Rattle.wire.specs.Numbers.{max_word};
@@ -27,7 +28,7 @@ const LONGEST_RECORD: u64 = 65535;
 const LONGEST_NAME: u64 = LONGEST_RECORD - NAME_AT as u64;
 
 // What the writer says: refused records, a short destination, or the bytes written.
-#[derive(Drop)]
+#[derive(Clone, Copy)]
 pub enum Written {
     BadRecords,
     TooShort,

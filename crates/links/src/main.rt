@@ -1,5 +1,6 @@
 // A linkEA of two records, opened by the reader that keeps the lent bytes: prints the first name, the place and parent of the second record, and what a linkEA cut
 // short gives.
+#![tactic(auto)]
 use libc::STDOUT_FILENO;
 use linkea::{Found, Step};
 

@@ -1,4 +1,5 @@
 // Every class in one call: one check, then the classes from a position on.
+#![tactic(auto)]
 ghost use Rattle.std.specs.Prelude.{◌≡◌, true, length};
 ghost use Rattle.std.proofs.lemmas.List.Edits.{sets};
 ghost use Rattle.tables.specs.Bytes.{parse};
@@ -9,7 +10,7 @@ ghost use Rattle.listing.specs.Listing.{told_positions, onward, classes_at, list
 use tables::Position;
 
 // How many positions were told, and the first that was not.
-#[derive(Drop)]
+#[derive(Clone, Copy)]
 struct Told {
     done: u64,
     position: Position,

@@ -1,8 +1,9 @@
 // Names against objects: entry rows and child rows, what is found of each entry, and how a climb from a directory ends.
+#![tactic(auto)]
 pub mod rows;
 
 // What an entry's FID-in-dirent and its child's self FID say together.
-#[derive(Drop)]
+#[derive(Clone, Copy)]
 pub enum FidFinding {
     FidAgrees,
     NoDirentFid,
@@ -12,14 +13,14 @@ pub enum FidFinding {
 }
 
 // Whether the child has the record of an entry.
-#[derive(Drop)]
+#[derive(Clone, Copy)]
 pub enum LinkFinding {
     RecordThere,
     NoRecord,
 }
 
 // How a climb from a directory ends.
-#[derive(Drop)]
+#[derive(Clone, Copy)]
 pub enum Climbed {
     TooLong,
     Hidden,

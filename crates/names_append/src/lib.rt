@@ -1,4 +1,5 @@
 // Sweep 3: missing records are appended, in the order of the entries.
+#![tactic(auto)]
 ghost use Rattle.std.specs.Prelude.{◌≡◌, Bool, ◌/◌, ◌≤◌, ◌<◌, length, get_or};
 ghost use Rattle.fid.specs.declared.MdtFid.{MdtFid};
 ghost use Rattle.names.specs.Rows.{entry_size, parse_entries, parse_children};
@@ -14,7 +15,7 @@ use names_check::finding;
 use names_links::append;
 
 // What an entry asks of its child: nothing, a record for which there is room, or one that outgrows it.
-#[derive(Drop)]
+#[derive(Clone, Copy)]
 pub enum Asked {
     Nothing,
     Room,
@@ -22,7 +23,7 @@ pub enum Asked {
 }
 
 // How many records were appended, the entry it stopped in front of or the number of entries, and whether it stopped.
-#[derive(Drop)]
+#[derive(Clone, Copy)]
 pub struct Swept {
     pub count: usize,
     pub reached: usize,

@@ -17,7 +17,7 @@ use names::rows::{LINK_ROOM, LINK_ROOM_AT};
 const STAYS: u8 = 1;
 
 // How many records were kept, and where in the row the next one goes.
-#[derive(Drop)]
+#[derive(Clone, Copy)]
 pub struct Packed {
     pub count: u32,
     pub to: usize,

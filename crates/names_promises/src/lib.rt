@@ -1,1 +1,2 @@
 // No code: what is promised of a mending, over records, and the proof.
+#![tactic(auto)]

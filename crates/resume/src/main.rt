@@ -1,5 +1,6 @@
 // Example E8 of the paper by `engine::run_on`, which changes the lent position in place: once in several calls, each handed the position as the
 // last one left it, and once in one call. Prints what each call answers, the steps done, the position and the repairs, and then the tables.
+#![tactic(auto)]
 ghost use Rattle.std.specs.Prelude.{◌≡◌};
 ghost use Rattle.engine.specs.RunBytes.{run_bytes};
 
@@ -11,7 +12,7 @@ use tables::Position;
 use tables::rows::{PARENT_SIZE, ROOM_AT};
 
 // What a call reports, and the position that it was lent, after it.
-#[derive(Drop)]
+#[derive(Clone, Copy)]
 struct Resumed {
     report: Report,
     position: Position,

@@ -1,4 +1,5 @@
 // Rows written in place in the lent tables: what the repairs write.
+#![tactic(auto)]
 pub mod files;
 pub mod objects;
 pub mod parents;

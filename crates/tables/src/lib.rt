@@ -1,31 +1,32 @@
 // The lent tables: parent rows, object rows and the reserve.
+#![tactic(auto)]
 pub mod rows;
 
 use fid::{MdtFid, OstFid};
 
 // The uid and gid of a file or an object.
-#[derive(Drop)]
+#[derive(Clone, Copy)]
 pub struct Owner {
     pub uid: u32,
     pub gid: u32,
 }
 
 // Where a slot stands: its file and its stripe index.
-#[derive(Drop)]
+#[derive(Clone, Copy)]
 pub struct Place {
     pub file: MdtFid,
     pub index: u32,
 }
 
 // What an object says of its place: nothing, or a place.
-#[derive(Drop)]
+#[derive(Clone, Copy)]
 pub enum Claim {
     Unclaimed,
     Claims(Place),
 }
 
 // What a used object row says.
-#[derive(Drop)]
+#[derive(Clone, Copy)]
 pub struct Object {
     pub fid: OstFid,
     pub ost: u32,
@@ -35,7 +36,7 @@ pub struct Object {
 }
 
 // Stage, row and part of a step; the end is 3, 0, 0.
-#[derive(Drop)]
+#[derive(Clone, Copy)]
 pub struct Position {
     pub stage: u64,
     pub row: u64,
@@ -43,14 +44,14 @@ pub struct Position {
 }
 
 // What is said of the start: the number of a refusal, or the position.
-#[derive(Drop)]
+#[derive(Clone, Copy)]
 pub enum StartAnswer {
     NoStart(u32),
     StartIs(Position),
 }
 
 // What is said of the step count: the number of a refusal, or the count.
-#[derive(Drop)]
+#[derive(Clone, Copy)]
 pub enum StepsAnswer {
     NoSteps(u32),
     StepsAre(u64),
