@@ -1,5 +1,6 @@
 // Striping layouts, version 1 and 3: reader, slot reader and slot rewrite, and the pieces that the writer is made of.
 #![tactic(auto)]
+
 ghost use Rattle.std.specs.Prelude.{◌≡◌, true, ◌&&◌, ◌+◌, ◌*◌, ◌≤◌, ◌<◌, length, drop};
 ghost use Rattle.std.proofs.lemmas.List.Edits.{sets};
 ghost use Rattle.layout.specs.Slot.{slot_size, zero_slot, slot_of, encode_slot, decode_slots, allowed_slot, allowed_slots, slot_names, same_slot};

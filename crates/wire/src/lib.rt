@@ -1,5 +1,6 @@
 // Numbers in a lent slice, little-endian and big-endian.
 #![tactic(auto)]
+
 ghost use Rattle.std.specs.Prelude.{◌≡◌, ◌+◌, ◌≤◌, length, drop};
 ghost use Rattle.std.proofs.lemmas.List.Edits.{sets};
 ghost use Rattle.wire.specs.Numbers.{le, bytes, big, number, number_bytes};

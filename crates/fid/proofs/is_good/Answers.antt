@@ -1,0 +1,11 @@
+use mathlib.Core.Path.{sym, ◌∙◌}
+use borrow.Author.Tests.{not-true, not-false}
+use Rattle.fid.proofs.FidLaws.{good_bad, good_version}
+use borrow.Author.Rules.{rules}
+use Rattle.fid.proofs.is_good.Goals as goal
+
+pub returns-then-not-is_good_number : goal.returns-then-not-is_good_number
+returns-then-not-is_good_number c = good_bad _ (sym c.is_good_number.ensures ∙ c.if-not-is_good_number.true)
+
+pub returns : goal.returns
+returns c = good_version _ (sym c.is_good_number.ensures ∙ c.if-not-is_good_number.false)

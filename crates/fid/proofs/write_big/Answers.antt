@@ -1,0 +1,9 @@
+use Rattle.wire.specs.Numbers.{big}
+use Rattle.fid.proofs.FidLaws.{fid_stores}
+use borrow.Author.Rules.{rules}
+use Rattle.fid.proofs.write_big.Goals as goal
+
+pub returns : goal.returns
+returns c =
+    let a = c.args in
+    cc (fid_stores big a.s.now a.at a.f)

@@ -1,0 +1,12 @@
+use mathlib.Core.Path.{ap, sym, ◌∙◌}
+use Rattle.layout.specs.Slot.{slot_names}
+use borrow.Author.Rules.{rules}
+use Rattle.layout.proofs.names.Goals as goal
+
+pub returns-in-Hole : goal.returns-in-Hole
+unfolding slot_names
+returns-in-Hole c = ap (slot_names _) (sym c.in-Hole.is)
+
+pub returns-in-Names : goal.returns-in-Names
+unfolding slot_names
+returns-in-Names c = c.same_ost.ensures ∙ ap (slot_names _) (sym c.in-Names.is)

@@ -1,0 +1,19 @@
+use Rattle.layout.proofs.SlotLaws.{put_hole, put_names}
+use borrow.Author.Rules.{rules}
+use Rattle.layout.proofs.put_slot.Goals as goal
+
+pub returns-in-Hole : goal.returns-in-Hole
+returns-in-Hole c =
+    let x = c in
+    let b = x in
+    let a = b in
+    let k = a in
+    put_hole _ _ _ _ _ k.requires k.in-Hole.is a.put_le64.ensures b.put_le64-in-Hole.ensures x.put_le64-in-Hole-2.ensures
+
+pub returns-in-Names : goal.returns-in-Names
+returns-in-Names c =
+    let x = c in
+    let b = x in
+    let a = b in
+    let k = a in
+    put_names _ _ _ _ _ k.in-Names.f k.in-Names.g k.in-Names.i k.requires k.in-Names.is a.write_fid.ensures b.put_le32.ensures x.put_le32-in-Names.ensures

@@ -1,0 +1,6 @@
+use Rattle.layout.proofs.StripeLaws.{raised_is}
+use borrow.Author.Rules.{rules}
+use Rattle.layout.proofs.raised.Goals as goal
+
+pub returns : goal.returns
+returns c = raised_is c.args.h _ c.next_generation.ensures

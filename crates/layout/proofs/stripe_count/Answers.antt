@@ -1,0 +1,7 @@
+use Rattle.layout.specs.Layout.{stripe_count}
+use borrow.Author.Rules.{rules}
+use Rattle.layout.proofs.stripe_count.Goals as goal
+
+pub returns : goal.returns
+unfolding stripe_count
+returns c = c.le16.ensures

@@ -1,0 +1,7 @@
+use borrow.Author.Rules.{rules}
+use native.Mathlib.Omega.{arith}
+use Rattle.wire.proofs.NumberLaws.{le_twice}
+use Rattle.wire.proofs.le32.Goals as goal
+
+pub returns : goal.returns
+returns c = let a = c.args in omega (arith, le_twice 2 a.s.now a.at)
