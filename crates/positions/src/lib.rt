@@ -1,5 +1,6 @@
 // Positions: which exist, the first and the next, and the count of steps.
 #![tactic(auto)]
+
 ghost use Rattle.std.specs.Prelude.{◌≡◌, true, ◌/◌, ◌≤◌, ◌<◌, length};
 ghost use Rattle.tables.specs.Bytes.{parent_size, object_size, parse_parent, parse, parse_parents, parse_objects};
 ghost use Rattle.tables.specs.Positions.{slots_of, width, in_stage_one, in_stage_two, is_end, is_position, place, from_object, from_parent, start, after_part, next, row_steps, count_steps};

@@ -1,0 +1,14 @@
+use Prim.Native.Nat.{◌-◌, ◌≤◌}
+use mathlib.Core.Path.{◌≡◌, sym, ◌∙◌}
+use native.Mathlib.Omega.{arith}
+use borrow.Author.Tests.{not-true, not-false}
+use Rattle.tables.specs.Bytes.{object_size, object_rows}
+use Rattle.tables.specs.Check.{all, when_used, fresh_mark}
+use Rattle.tables.proofs.AllLaws.{all_from, all_start, all_end, all_pass, all_fail}
+use Rattle.checks.proofs.whole.fresh_marks.Given as goal
+
+abbrev pub invariant-loop-r : goal.invariant-loop-r
+invariant-loop-r l = (l.r ≤ l.n) × (all (when_used fresh_mark) (object_rows l.objects) ≡ all_from (when_used fresh_mark) object_size l.objects l.n l.r)
+
+abbrev pub decreases-loop-r : goal.decreases-loop-r
+decreases-loop-r l = l.n - l.r
