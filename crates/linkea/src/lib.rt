@@ -1,5 +1,6 @@
 // The linkEA read: the whole, record by record, and one record at a place.
 #![tactic(auto)]
+
 ghost use Rattle.std.specs.Prelude.{◌≡◌, false, not, ◌&&◌, ◌≤◌, ◌<◌, length, eqb};
 ghost use Rattle.linkea.specs.Link.{link_header, decode_link_header, places};
 ghost use Rattle.linkea.specs.Conditions.{some, bad_byte, bad_record, refused_link};

@@ -1,0 +1,56 @@
+use native.Mathlib.Omega.{arith}
+use mathlib.Core.Path.{◌≡◌, refl, sym, ap, ◌∙◌}
+use Prim.Native.Nat.{ℕ, ◌+◌, ◌-◌, ◌≤◌}
+use lib.ListN.{length}
+use Rattle.linkea.specs.Link.{link_header}
+use Rattle.linkea.proofs.PlaceLaws.{GoodRecord, good_record, good_from, good_start, good_stop_lem, good_next, good_end}
+use Rattle.linkea.proofs.RecordLaws.{length_read}
+use Rattle.linkea.proofs.good_records.Goals as goal
+use Rattle.linkea.proofs.good_records.Goals.{Else-bad_record}
+
+-- the record at the loop's place
+good : (c : goal.Else-bad_record) → GoodRecord c.args.l.now c.loop-at.at
+good c =
+    let w = c in
+    good_record w.args.l.now w.loop-at.at (sym c.bad_record.ensures ∙ c.if-bad_record.false)
+
+pub loop-at-init : goal.loop-at-init
+loop-at-init c = (omega arith, refl)
+
+pub returns-then-bad_record : goal.returns-then-bad_record
+returns-then-bad_record c =
+    let w = c in
+    let a = w.args in
+    sym (good_start a.l.now a.count ∙ w.loop-at.invariant.1 ∙ sym (good_stop_lem a.l.now a.count w.loop-at.k w.loop-at.at (omega arith) (sym c.bad_record.ensures ∙ c.if-bad_record.true)))
+
+pub be16-requires : goal.be16-requires
+be16-requires c = omega (arith, good c)
+
+pub overflow_add-at : goal.overflow_add-at
+overflow_add-at c =
+    let w = c in
+    omega (arith, good (goal.at.overflow_add-at c).Else-bad_record, c.be16.ensures, length_read w.args.l.now w.loop-at.at)
+
+pub overflow_add-k : goal.overflow_add-k
+overflow_add-k c = let w = c in omega (arith, w.loop-at.invariant.0)
+
+pub loop-at-smaller : goal.loop-at-smaller
+loop-at-smaller c =
+    let w = c in
+    omega (arith, good (goal.at.loop-at-smaller c).Else-bad_record, c.be16.ensures, length_read w.args.l.now w.loop-at.at)
+
+pub loop-at-preserved : goal.loop-at-preserved
+loop-at-preserved c =
+    let w = c in
+    let a = w.args in
+    let e = c.be16.ensures ∙ length_read a.l.now w.loop-at.at in (
+      omega (arith, good (goal.at.loop-at-preserved c).Else-bad_record, e),
+      w.loop-at.invariant.1 ∙ good_next a.l.now a.count w.loop-at.k w.loop-at.at (omega arith) (sym c.bad_record.ensures ∙ c.if-bad_record.false)
+          ∙ ap (λ (n : ℕ). good_from a.l.now a.count (w.loop-at.k + 1) (w.loop-at.at + n)) (sym e),
+    )
+
+pub returns : goal.returns
+returns c =
+    let w = c in
+    let a = w.args in
+    good_end a.l.now a.count w.loop-at.k w.loop-at.at (omega arith) ∙ sym (good_start a.l.now a.count ∙ w.loop-at.invariant.1)
