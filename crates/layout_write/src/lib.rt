@@ -1,5 +1,6 @@
 // The layout writer, whose slots are handed in as numbers.
 #![tactic(auto)]
+
 ghost use Rattle.std.specs.Prelude.{◌≡◌, ◌&&◌, ◌+◌, ◌*◌, ◌≤◌, length};
 ghost use Rattle.std.proofs.lemmas.List.Edits.{sets};
 ghost use Rattle.layout.specs.Slot.{slot_size, encode_slot, encode_slots, allowed_slot, allowed_slots};
