@@ -1,5 +1,6 @@
 // An unfinished line of a dump, byte by byte: what is known of it stands in numbers and in lent bytes.
 #![tactic(auto)]
+
 ghost use Rattle.std.specs.Prelude.{◌≡◌, cond, ◌≤◌, ◌<◌, eqb, length};
 ghost use Rattle.intake.specs.Says.{starts, named, digit, head_size, kind_of};
 ghost use Rattle.intake_bytes.specs.Lent.{layout_at, base_of, want_of, new_line, folded, valued, Room, DigitStep, PairStep, Held, LineStep, Feeds, PastHead, DigitsFed, LineFed, ValueFed};
