@@ -95,6 +95,16 @@ def imported(text, own):
     return names, modules
 
 
+def brought(path, texts):
+    """The files whose names a file has by 'use Child.*': its child, and what that child brings."""
+    found = []
+    for child in re.findall(r"(?m)^\s*(?:unfoldable )?(?:pub )?use (\w+)\.\*$", texts[path]):
+        below = os.path.join(path[: -len(".antt")], child + ".antt")
+        if below in texts:
+            found += [below] + brought(below, texts)
+    return found
+
+
 def aliases(text, own):
     """The names that a text gives to what it imports from a crate of the repository."""
     found = set()
@@ -130,6 +140,8 @@ def main(argv):
     written = {}
     for path, text in texts.items():
         names, modules = imported(text, own)
+        for below in brought(path, texts):
+            names |= mine[below] | imported(texts[below], own)[0]
         scope = (mine.get(path, set()) | (names & everywhere) | fields) if path.endswith(".antt") else (names & everywhere)
         table = {n: turn[n] for n in scope if turn.get(n, n) != n}
         present = set(BARE.findall(QUOTED.sub(" ", re.sub(r"(?m)--.*$", " ", text))))

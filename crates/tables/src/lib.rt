@@ -1,5 +1,6 @@
 // The lent tables: parent rows, object rows and the reserve.
 #![tactic(auto)]
+
 pub mod rows;
 
 use fid::{MdtFid, OstFid};

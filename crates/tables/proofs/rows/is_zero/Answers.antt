@@ -1,0 +1,7 @@
+use Rattle.fid.specs.Fid.{zero_fid}
+use borrow.Author.Rules.{rules}
+use Rattle.tables.proofs.rows.is_zero.Goals as goal
+
+pub returns : goal.returns
+unfolding zero_fid
+returns c = c.same_fid.ensures

@@ -1,0 +1,7 @@
+use Rattle.tables.specs.Bytes.{layout_length}
+use borrow.Author.Rules.{rules}
+use Rattle.tables.proofs.rows.layout_len.Goals as goal
+
+pub returns : goal.returns
+unfolding layout_length
+returns c = c.le16.ensures

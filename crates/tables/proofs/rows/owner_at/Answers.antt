@@ -1,0 +1,6 @@
+use Rattle.tables.proofs.RowReads.{owner_is}
+use borrow.Author.Rules.{rules}
+use Rattle.tables.proofs.rows.owner_at.Goals as goal
+
+pub returns : goal.returns
+returns c = let a = c.args in owner_is a.row.now a.at _ _ c.le32.ensures c.le32-2.ensures
