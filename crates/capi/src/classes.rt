@@ -7,8 +7,7 @@ ghost use Rattle.capi_class.specs.Classes.{told_numbers};
 ghost use Rattle.listing.specs.Listing.{listing};
 
 // The class at a position: 4 numbers into out.
-#[unsafe(no_mangle)]
-pub extern "C" fn lfsck_class(
+pub fn lfsck_class(
     parents: &[u8],
     objects: &[u8],
     stage: u64,
@@ -23,8 +22,7 @@ pub extern "C" fn lfsck_class(
 }
 
 // The classes from a position on, 4 numbers each into out: the position in and out, how many were told into done.
-#[unsafe(no_mangle)]
-pub extern "C" fn lfsck_classes(
+pub fn lfsck_classes(
     parents: &[u8],
     objects: &[u8],
     position: &mut [u64],

@@ -7,8 +7,7 @@ ghost use Rattle.capi_out.specs.Out.{out_answer, out_numbers};
 ghost use Rattle.capi_tables.specs.Tables.{start_numbers, steps_numbers};
 
 // Checks the whole input: tables, policy and position.
-#[unsafe(no_mangle)]
-pub extern "C" fn lfsck_check(
+pub fn lfsck_check(
     parents: &[u8],
     objects: &[u8],
     reserve: &[u8],
@@ -23,8 +22,7 @@ pub extern "C" fn lfsck_check(
 }
 
 // Where a run starts: 3 numbers into position.
-#[unsafe(no_mangle)]
-pub extern "C" fn lfsck_start(parents: &[u8], objects: &[u8], position: &mut [u64]) -> u32
+pub fn lfsck_start(parents: &[u8], objects: &[u8], position: &mut [u64]) -> u32
     ensures answer { result ≡ out_answer (start_number (start_answer parents.now objects.now)) (start_numbers (start_answer parents.now objects.now)) position.old }
     ensures position { position.new ≡ out_numbers (start_number (start_answer parents.now objects.now)) (start_numbers (start_answer parents.now objects.now)) position.old }
 {
@@ -32,8 +30,7 @@ pub extern "C" fn lfsck_start(parents: &[u8], objects: &[u8], position: &mut [u6
 }
 
 // How many steps an uncut run takes: 1 number into out.
-#[unsafe(no_mangle)]
-pub extern "C" fn lfsck_steps(parents: &[u8], objects: &[u8], out: &mut [u64]) -> u32
+pub fn lfsck_steps(parents: &[u8], objects: &[u8], out: &mut [u64]) -> u32
     ensures answer { result ≡ out_answer (steps_number (steps_answer parents.now objects.now)) (steps_numbers (steps_answer parents.now objects.now)) out.old }
     ensures out { out.new ≡ out_numbers (steps_number (steps_answer parents.now objects.now)) (steps_numbers (steps_answer parents.now objects.now)) out.old }
 {

@@ -3,8 +3,7 @@ ghost use Rattle.intake_feed.specs.Feed.{PieceFed};
 ghost use Rattle.intake_feed.specs.End.{DumpEnded};
 
 // Takes a piece of a dump in: fills rows of the tables; with 33 to 37 the line into out.
-#[unsafe(no_mangle)]
-pub extern "C" fn lfsck_intake_feed(
+pub fn lfsck_intake_feed(
     state: &mut [u8],
     piece: &[u8],
     owners: &[u8],
@@ -18,8 +17,7 @@ pub extern "C" fn lfsck_intake_feed(
 }
 
 // The end of a dump: with 33 to 37 the line into out.
-#[unsafe(no_mangle)]
-pub extern "C" fn lfsck_intake_end(state: &[u8], out: &mut [u64]) -> u32
+pub fn lfsck_intake_end(state: &[u8], out: &mut [u64]) -> u32
     ensures { DumpEnded state.now out.old out.new result }
 {
     intake_feed::feeding::end(state, out)

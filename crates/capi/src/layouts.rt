@@ -7,8 +7,7 @@ ghost use Rattle.capi_layout.specs.Layouts.{read_fields, rewrite_number, rewrite
 ghost use Rattle.capi_write.specs.Write.{write_number, write_values, write_answer, write_dest};
 
 // Reads a layout: 8 numbers into fields.
-#[unsafe(no_mangle)]
-pub extern "C" fn lfsck_layout_read(layout: &[u8], fields: &mut [u64]) -> u32
+pub fn lfsck_layout_read(layout: &[u8], fields: &mut [u64]) -> u32
     ensures answer { result ≡ out_answer (read_number (read_layout layout.now)) (read_fields (read_layout layout.now)) fields.old }
     ensures fields { fields.new ≡ out_numbers (read_number (read_layout layout.now)) (read_fields (read_layout layout.now)) fields.old }
 {
@@ -16,8 +15,7 @@ pub extern "C" fn lfsck_layout_read(layout: &[u8], fields: &mut [u64]) -> u32
 }
 
 // Reads slot `index` of a layout: 5 numbers into out.
-#[unsafe(no_mangle)]
-pub extern "C" fn lfsck_layout_slot(layout: &[u8], index: u64, out: &mut [u64]) -> u32
+pub fn lfsck_layout_slot(layout: &[u8], index: u64, out: &mut [u64]) -> u32
     ensures answer { result ≡ out_answer (slot_read_number (read_slot layout.now index)) (slot_read_fields (read_slot layout.now index)) out.old }
     ensures out { out.new ≡ out_numbers (slot_read_number (read_slot layout.now index)) (slot_read_fields (read_slot layout.now index)) out.old }
 {
@@ -25,8 +23,7 @@ pub extern "C" fn lfsck_layout_slot(layout: &[u8], index: u64, out: &mut [u64]) 
 }
 
 // Writes a layout of 7 fields, a pool name and slots of 5 numbers each; the bytes written into out.
-#[unsafe(no_mangle)]
-pub extern "C" fn lfsck_layout_write(
+pub fn lfsck_layout_write(
     fields: &[u64],
     pool: &[u8],
     slots: &[u64],
@@ -41,8 +38,7 @@ pub extern "C" fn lfsck_layout_write(
 }
 
 // Rewrites slot `index` of a layout in place, the slot as 5 numbers.
-#[unsafe(no_mangle)]
-pub extern "C" fn lfsck_slot_rewrite(layout: &mut [u8], index: u64, slot: &[u64]) -> u32
+pub fn lfsck_slot_rewrite(layout: &mut [u8], index: u64, slot: &[u64]) -> u32
     ensures answer { result ≡ rewrite_number layout.old index slot.now }
     ensures layout { layout.new ≡ rewrite_left layout.old index slot.now }
 {

@@ -1,5 +1,6 @@
-// What C calls: thin exports over the functions on numbers and lent slices.
+// What C calls, as functions on numbers and lent slices: capi_c exports them.
 #![tactic(auto)]
+
 pub mod classes;
 pub mod input;
 pub mod intakes;

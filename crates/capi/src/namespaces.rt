@@ -3,8 +3,7 @@ ghost use Rattle.std.specs.Prelude.{◌≡◌};
 ghost use Rattle.names.specs.Calls.{find_number, find_out, judge_number, judge_marks, left, mend_call, pass_call};
 
 // The findings of every entry: 2 numbers each into out.
-#[unsafe(no_mangle)]
-pub extern "C" fn lfsck_names_find(entries: &[u8], children: &[u8], out: &mut [u64]) -> u32
+pub fn lfsck_names_find(entries: &[u8], children: &[u8], out: &mut [u64]) -> u32
     ensures answer { result ≡ find_number entries.now children.now out.old }
     ensures numbers { out.new ≡ find_out entries.now children.now out.old }
 {
@@ -12,8 +11,7 @@ pub extern "C" fn lfsck_names_find(entries: &[u8], children: &[u8], out: &mut [u
 }
 
 // Which directories are visible: a mark for each child row.
-#[unsafe(no_mangle)]
-pub extern "C" fn lfsck_names_judge(
+pub fn lfsck_names_judge(
     entries: &[u8],
     children: &[u8],
     index: &mut [u8],
@@ -27,8 +25,7 @@ pub extern "C" fn lfsck_names_judge(
 }
 
 // Mends under the marks: 5 numbers into report.
-#[unsafe(no_mangle)]
-pub extern "C" fn lfsck_names_mend(
+pub fn lfsck_names_mend(
     entries: &mut [u8],
     children: &mut [u8],
     index: &mut [u8],
@@ -43,8 +40,7 @@ pub extern "C" fn lfsck_names_mend(
 }
 
 // Judges, then mends under the marks that it wrote.
-#[unsafe(no_mangle)]
-pub extern "C" fn lfsck_names_pass(
+pub fn lfsck_names_pass(
     entries: &mut [u8],
     children: &mut [u8],
     index: &mut [u8],

@@ -3,8 +3,7 @@ ghost use Rattle.std.specs.Prelude.{◌≡◌};
 ghost use Rattle.capi_run.specs.Runs.{called};
 
 // A run of at most so many steps: the position in and out, 10 numbers into report.
-#[unsafe(no_mangle)]
-pub extern "C" fn lfsck_run(
+pub fn lfsck_run(
     parents: &mut [u8],
     objects: &mut [u8],
     reserve: &[u8],

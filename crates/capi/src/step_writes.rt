@@ -4,8 +4,7 @@ ghost use Rattle.tables.specs.Positions.{place};
 ghost use Rattle.capi_writes.specs.Writes.{writes_answer, writes_out};
 
 // The writes of the step at a position: 7 numbers into out.
-#[unsafe(no_mangle)]
-pub extern "C" fn lfsck_step_writes(
+pub fn lfsck_step_writes(
     parents: &[u8],
     objects: &[u8],
     reserve: &[u8],
