@@ -27,7 +27,7 @@ SPELLED = {
     "object-row": "object_record",
     "parent_row": "parent_record",
     "destroyed-row": "destroyed_record",
-} | {n: n + "_lem" for n in "number_by goes_on is_digit stop_is stops_at slots_read none_left look_at look_in from_start".split()}
+} | {n: n + "_lem" for n in "number_by goes_on is_digit stop_is stops_at slots_read none_left look_at look_in from_start cut_step slot_step".split()}
 
 
 def snake(name):

@@ -5,69 +5,69 @@ unfoldable pub use Endings.*
 -- object z of row q is fresh, claims a slot and is named by none: nothing but its own step looks at it
 pub record Waits (T : Tables) (q : ℕ) (z : Object) : Type 0 where
   pub sound : Distinct T
-  pub holds : objectAt T.objects q ≡ used z
+  pub holds : object_at T.objects q ≡ used z
   pub fresh : z.fresh ≡ true
   pub claimed : (home : Place) × (z.claim ≡ Claims home)
   pub unnamed : (k l : ℕ) → names_at T.parents z.fid k l ≡ false
 
 -- as if it had been destroyed
 abbrev pub without : Tables → ℕ → Tables
-without T q = putObject T q destroyed
+without T q = put_object T q destroyed
 
 module _ (T : Tables) (q : ℕ) (z : Object) (wait : Waits T q z) where
   -- a FID that a slot names is not in row q
-  elsewhere : (g : OstFid) (k l : ℕ) → names_at T.parents g k l ≡ true → isObject g (objectAt T.objects q) ≡ false
-  unfolding isObject hasFid
-  elsewhere g k l e = rw wait.holds (never (sameFid z.fid.0 g.0) (λ t. clash e (rw (← ost-true z.fid g t) (wait.unnamed k l))))
+  elsewhere : (g : OstFid) (k l : ℕ) → names_at T.parents g k l ≡ true → is_object g (object_at T.objects q) ≡ false
+  unfolding is_object has_fid
+  elsewhere g k l e = rw wait.holds (never (same_fid z.fid.0 g.0) (λ t. clash e (rw (← ost_true z.fid g t) (wait.unnamed k l))))
 
-  named_row : (g : OstFid) (k l : ℕ) → names_at T.parents g k l ≡ true → objectRow (without T q).objects g ≡ objectRow T.objects g
-  unfolding isObject hasFid destroyed
-  named_row g k l e = row-of-frame T q destroyed g (elsewhere g k l e) refl
+  named_row : (g : OstFid) (k l : ℕ) → names_at T.parents g k l ≡ true → object_row (without T q).objects g ≡ object_row T.objects g
+  unfolding is_object has_fid destroyed
+  named_row g k l e = row_of_frame T q destroyed g (elsewhere g k l e) refl
 
-  named_object : (g : OstFid) (k l : ℕ) → names_at T.parents g k l ≡ true → objectOf (without T q).objects g ≡ objectOf T.objects g
-  unfolding isObject hasFid destroyed
-  named_object g k l e = object-frame T q destroyed g (elsewhere g k l e) refl
+  named_object : (g : OstFid) (k l : ℕ) → names_at T.parents g k l ≡ true → object_of (without T q).objects g ≡ object_of T.objects g
+  unfolding is_object has_fid destroyed
+  named_object g k l e = object_frame T q destroyed g (elsewhere g k l e) refl
 
-  slot_way_lem : (home : Place) (r i : ℕ) (s : Slot) → slot_at T.parents r i ≡ s → slotWay (without T q) home r i s ≡ slotWay T home r i s
-  unfolding slotWay names_at slotNames putObject
+  slot_way_lem : (home : Place) (r i : ℕ) (s : Slot) → slot_at T.parents r i ≡ s → slot_way (without T q) home r i s ≡ slot_way T home r i s
+  unfolding slot_way names_at slot_names put_object
   slot_way_lem home r i Hole e = refl
   slot_way_lem home r i (Names g n m) e = ap (λ x. cond (takeable T.parents home g r i x) (Take r) NoWay) same
     where
-      same : objectOf (without T q).objects g ≡ objectOf T.objects g
+      same : object_of (without T q).objects g ≡ object_of T.objects g
       same = named_object g r i (rw (e, same_self g.0))
 
   way_same : (home : Place) → way (without T q) home ≡ way T home
-  unfolding way rowWay putObject
-  way_same home = ap (λ v. cond (ltb home.index maxSlots) v NoWay) (row (parentRow T.parents home.file))
+  unfolding way row_way put_object
+  way_same home = ap (λ v. cond (ltb home.index max_slots) v NoWay) (row (parent_row T.parents home.file))
     where
-      row : (a : Row) → rowWay (without T q) home a ≡ rowWay T home a
+      row : (a : Row) → row_way (without T q) home a ≡ row_way T home a
       row NoRow = refl
       row (RowIs r) =
-          ap (λ v. cond (ltb home.index (width T.parents r)) v (cond (holesIn (rowAt T.parents r)) (Grow r) NoWay))
+          ap (λ v. cond (ltb home.index (width T.parents r)) v (cond (holes_in (row_at T.parents r)) (Grow r) NoWay))
           (slot_way_lem home r home.index (slot_at T.parents r home.index) refl)
 
-  destroy_there : (s : Slot) (r i : ℕ) → slot_at T.parents r i ≡ s → destroyNamed (without T q).objects s ≡ destroyNamed T.objects s
-  unfolding destroyNamed names_at slotNames
+  destroy_there : (s : Slot) (r i : ℕ) → slot_at T.parents r i ≡ s → destroy_named (without T q).objects s ≡ destroy_named T.objects s
+  unfolding destroy_named names_at slot_names
   destroy_there Hole r i e = refl
-  destroy_there (Names g n m) r i e = ap destroyAt (named_row g r i (rw (e, same_self g.0)))
+  destroy_there (Names g n m) r i e = ap destroy_at (named_row g r i (rw (e, same_self g.0)))
 
-  adopt_there : (k : ℕ) (x : Object) (home : Place) (v : Way) → adoptBy (without T q) k x home v ≡ adoptBy T k x home v
-  unfolding adoptBy putObject
+  adopt_there : (k : ℕ) (x : Object) (home : Place) (v : Way) → adopt_by (without T q) k x home v ≡ adopt_by T k x home v
+  unfolding adopt_by put_object
   adopt_there k x home NoWay = refl
   adopt_there k x home NewParent = refl
   adopt_there k x home (Fill r) = refl
   adopt_there k x home (Grow r) = refl
   adopt_there k x home (Take r) =
-      ap (repairs OfOrphan (PutSlot r home.index (slotFor x)) (ownerWrite k x (ownerOf (rowAt T.parents r))))
+      ap (repairs OfOrphan (PutSlot r home.index (slot_for x)) (owner_write k x (owner_of (row_at T.parents r))))
       (destroy_there (slot_at T.parents r home.index) r home.index refl)
 
   claim_there : (k : ℕ) (x : Object) (c : Claim) → adopt (without T q) k x c ≡ adopt T k x c
   unfolding adopt
   claim_there k x Unclaimed = refl
-  claim_there k x (Claims home) = ap (adoptBy (without T q) k x home) (way_same home) ∙ adopt_there k x home (way T home)
+  claim_there k x (Claims home) = ap (adopt_by (without T q) k x home) (way_same home) ∙ adopt_there k x home (way T home)
 
-  repair_there : (settings : Settings) (k : ℕ) (x : Object) (c : ObjectClass) → repairObject settings (without T q) k x c ≡ repairObject settings T k x c
-  unfolding repairObject
+  repair_there : (settings : Settings) (k : ℕ) (x : Object) (c : ObjectClass) → repair_object settings (without T q) k x c ≡ repair_object settings T k x c
+  unfolding repair_object
   repair_there settings k x UNUSED = refl
   repair_there settings k x KEPT = refl
   repair_there settings k x SPARE = refl
@@ -76,33 +76,33 @@ module _ (T : Tables) (q : ℕ) (z : Object) (wait : Waits T q z) where
   repair_there settings k x CONFLICT = refl
 
   module _ (k : ℕ) (apart : k ≡ q → ⊥) where
-    row_same_there : objectAt (without T q).objects k ≡ objectAt T.objects k
-    unfolding objectAt putObject
+    row_same_there : object_at (without T q).objects k ≡ object_at T.objects k
+    unfolding object_at put_object
     row_same_there = get_or-set_other T.objects q k destroyed (unused []) apart
 
-    class_there : objectClass (without T q) k ≡ objectClass T k
-    unfolding objectClass objectClassOf unnamedClass named scan names_at slot_at rowAt width putObject
-    class_there = rw row_same_there (go (objectAt T.objects k))
+    class_there : object_class (without T q) k ≡ object_class T k
+    unfolding object_class object_class_of unnamed_class named scan names_at slot_at row_at width put_object
+    class_there = rw row_same_there (go (object_at T.objects k))
       where
-        claim : (b : Bool) (c : Claim) → unnamedClass (without T q) b c ≡ unnamedClass T b c
+        claim : (b : Bool) (c : Claim) → unnamed_class (without T q) b c ≡ unnamed_class T b c
         claim b Unclaimed = refl
-        claim b (Claims home) = ap (λ v. cond b EMPTY (cond (isWay v) ORPHAN CONFLICT)) (way_same home)
+        claim b (Claims home) = ap (λ v. cond b EMPTY (cond (is_way v) ORPHAN CONFLICT)) (way_same home)
 
-        go : (w : ObjectRow) → objectClassOf (without T q) w ≡ objectClassOf T w
+        go : (w : ObjectRow) → object_class_of (without T q) w ≡ object_class_of T w
         go (unused b) = refl
         go (used x) = ap (cond (named T.parents x.fid) KEPT) (claim x.fresh x.claim)
 
     -- the step of another row is the same
-    step_there : (settings : Settings) → stepAt settings (without T q) (place 2 k 0) ≡ stepAt settings T (place 2 k 0)
-    unfolding stepAt place objectStep
-    step_there settings = rw row_same_there (go (objectAt T.objects k))
+    step_there : (settings : Settings) → step_at settings (without T q) (place 2 k 0) ≡ step_at settings T (place 2 k 0)
+    unfolding step_at place object_step
+    step_there settings = rw row_same_there (go (object_at T.objects k))
       where
         S : Tables
         S = without T q
 
-        go : (w : ObjectRow) → objectStep settings S k w ≡ objectStep settings T k w
+        go : (w : ObjectRow) → object_step settings S k w ≡ object_step settings T k w
         go (unused b) = refl
-        go (used x) = ap (repairObject settings S k x) class_there ∙ repair_there settings k x (objectClass T k)
+        go (used x) = ap (repair_object settings S k x) class_there ∙ repair_there settings k x (object_class T k)
 
 -- ## Writes beside a pending destruction
 
@@ -112,13 +112,13 @@ Beside q g Nothing = Unit {0}
 Beside q g (PutObject o x) = o ≡ q → ⊥
 Beside q g (Destroy o) = o ≡ q → ⊥
 Beside q g (Own r) = Unit {0}
-Beside q g (PutSlot r j s) = slotNames g s ≡ false
-Beside q g (GrowTo r i s) = slotNames g s ≡ false
-Beside q g (Make r f w i s) = slotNames g s ≡ false
+Beside q g (PutSlot r j s) = slot_names g s ≡ false
+Beside q g (GrowTo r i s) = slot_names g s ≡ false
+Beside q g (Make r f w i s) = slot_names g s ≡ false
 
 module _ (q : ℕ) (g : OstFid) where
-  beside_swap : (T : Tables) (w : Write) → Beside q g w → applyWrite (without T q) w ≡ without (applyWrite T w) q
-  unfolding applyWrite putObject putParent rowAt
+  beside_swap : (T : Tables) (w : Write) → Beside q g w → apply_write (without T q) w ≡ without (apply_write T w) q
+  unfolding apply_write put_object put_parent row_at
   beside_swap T Nothing a = refl
   beside_swap T (PutObject o x) a = λ i. record { parents = T.parents; objects = set_comm T.objects q o destroyed (used x) (λ e. a (sym e)) i }
   beside_swap T (Destroy o) a = λ i. record { parents = T.parents; objects = set_comm T.objects q o destroyed destroyed (λ e. a (sym e)) i }
@@ -127,8 +127,8 @@ module _ (q : ℕ) (g : OstFid) where
   beside_swap T (GrowTo r i s) a = refl
   beside_swap T (Make r f w i s) a = refl
 
-  beside_holds : (T : Tables) (w : Write) → Beside q g w → objectAt (applyWrite T w).objects q ≡ objectAt T.objects q
-  unfolding applyWrite putObject putParent objectAt
+  beside_holds : (T : Tables) (w : Write) → Beside q g w → object_at (apply_write T w).objects q ≡ object_at T.objects q
+  unfolding apply_write put_object put_parent object_at
   beside_holds T Nothing a = refl
   beside_holds T (PutObject o x) a = get_or-set_other T.objects o q (used x) (unused []) (λ e. a (sym e))
   beside_holds T (Destroy o) a = get_or-set_other T.objects o q destroyed (unused []) (λ e. a (sym e))
@@ -138,44 +138,44 @@ module _ (q : ℕ) (g : OstFid) where
   beside_holds T (Make r f w i s) a = refl
 
   row_unnamed : (T : Tables) (r : ℕ) (w : ParentRow) → ((k l : ℕ) → names_at T.parents g k l ≡ false) →
-      ((l : ℕ) → slotNames g (get_or (slots_of w) l Hole) ≡ false) → (k l : ℕ) → names_at (putParent T r w).parents g k l ≡ false
-  unfolding names_at slot_at rowAt putParent
+      ((l : ℕ) → slot_names g (get_or (slots_of w) l Hole) ≡ false) → (k l : ℕ) → names_at (put_parent T r w).parents g k l ≡ false
+  unfolding names_at slot_at row_at put_parent
   row_unnamed T r w old new k l =
-      set-pointwise T.parents r w (unused []) (λ v. slotNames g (get_or (slots_of v) l Hole) ≡ false) k (λ e. old r l) (λ e. new l) (λ n. old k l)
+      set_pointwise T.parents r w (unused []) (λ v. slot_names g (get_or (slots_of v) l Hole) ≡ false) k (λ e. old r l) (λ e. new l) (λ n. old k l)
 
   -- a slot that is set in a list, and holes at its end
-  set_unnamed : (ss : List Slot) (i : ℕ) (s : Slot) → ((l : ℕ) → slotNames g (get_or ss l Hole) ≡ false) → slotNames g s ≡ false →
-      (l : ℕ) → slotNames g (get_or (set ss i s) l Hole) ≡ false
-  set_unnamed ss i s old new l = set-pointwise ss i s Hole (λ t. slotNames g t ≡ false) l (λ e. old i) (λ e. new) (λ n. old l)
+  set_unnamed : (ss : List Slot) (i : ℕ) (s : Slot) → ((l : ℕ) → slot_names g (get_or ss l Hole) ≡ false) → slot_names g s ≡ false →
+      (l : ℕ) → slot_names g (get_or (set ss i s) l Hole) ≡ false
+  set_unnamed ss i s old new l = set_pointwise ss i s Hole (λ t. slot_names g t ≡ false) l (λ e. old i) (λ e. new) (λ n. old l)
 
-  slot_unnamed : (v : ParentRow) (i : ℕ) (s : Slot) → ((l : ℕ) → slotNames g (get_or (slots_of v) l Hole) ≡ false) → slotNames g s ≡ false →
-      (l : ℕ) → slotNames g (get_or (slots_of (withSlot v i s)) l Hole) ≡ false
-  unfolding slots_of withSlot changed restriped
+  slot_unnamed : (v : ParentRow) (i : ℕ) (s : Slot) → ((l : ℕ) → slot_names g (get_or (slots_of v) l Hole) ≡ false) → slot_names g s ≡ false →
+      (l : ℕ) → slot_names g (get_or (slots_of (with_slot v i s)) l Hole) ≡ false
+  unfolding slots_of with_slot changed restriped
   slot_unnamed (unused b) i s old new = old
   slot_unnamed (used p) i s old new = set_unnamed p.layout.slots i s old new
 
-  grown_unnamed : (v : ParentRow) (i : ℕ) (s : Slot) → ((l : ℕ) → slotNames g (get_or (slots_of v) l Hole) ≡ false) → slotNames g s ≡ false →
-      (l : ℕ) → slotNames g (get_or (slots_of (grown v i s)) l Hole) ≡ false
-  unfolding slots_of grown withSlots restriped
+  grown_unnamed : (v : ParentRow) (i : ℕ) (s : Slot) → ((l : ℕ) → slot_names g (get_or (slots_of v) l Hole) ≡ false) → slot_names g s ≡ false →
+      (l : ℕ) → slot_names g (get_or (slots_of (grown v i s)) l Hole) ≡ false
+  unfolding slots_of grown with_slots restriped
   grown_unnamed (unused b) i s old new = old
   grown_unnamed (used p) i s old new =
       let more = suc i - length p.layout.slots in
-      set_unnamed (p.layout.slots ++ replicate more Hole) i s (λ l. ap (slotNames g) (pad-getD p.layout.slots more l) ∙ old l) new
+      set_unnamed (p.layout.slots ++ replicate more Hole) i s (λ l. ap (slot_names g) (pad_get_d p.layout.slots more l) ∙ old l) new
 
-  made_unnamed : (f : MdtFid) (i : ℕ) (w : Owner) (s : Slot) (b : List ℕ) → slotNames g s ≡ false → (l : ℕ) → slotNames g (get_or (slots_of (made f i w s b)) l Hole) ≡ false
-  unfolding slots_of made slotNames
-  made_unnamed f i w s b new = set_unnamed (replicate (suc i) Hole) i s (λ l. ap (slotNames g) (holes-getD (suc i) l)) new
+  made_unnamed : (f : MdtFid) (i : ℕ) (w : Owner) (s : Slot) (b : List ℕ) → slot_names g s ≡ false → (l : ℕ) → slot_names g (get_or (slots_of (made f i w s b)) l Hole) ≡ false
+  unfolding slots_of made slot_names
+  made_unnamed f i w s b new = set_unnamed (replicate (suc i) Hole) i s (λ l. ap (slot_names g) (holes_get_d (suc i) l)) new
 
   beside_unnamed : (T : Tables) (w : Write) → Beside q g w → ((k l : ℕ) → names_at T.parents g k l ≡ false) →
-      (k l : ℕ) → names_at (applyWrite T w).parents g k l ≡ false
-  unfolding applyWrite putObject names_at slot_at rowAt slotNames
+      (k l : ℕ) → names_at (apply_write T w).parents g k l ≡ false
+  unfolding apply_write put_object names_at slot_at row_at slot_names
   beside_unnamed T Nothing a old = old
   beside_unnamed T (PutObject o x) a old = old
   beside_unnamed T (Destroy o) a old = old
-  beside_unnamed T (Own r) a old = row_unnamed T r _ old (λ l. rw (own-slots (rowAt T.parents r)) (old r l))
-  beside_unnamed T (PutSlot r j s) a old = row_unnamed T r _ old (slot_unnamed (rowAt T.parents r) j s (old r) a)
-  beside_unnamed T (GrowTo r i s) a old = row_unnamed T r _ old (grown_unnamed (rowAt T.parents r) i s (old r) a)
-  beside_unnamed T (Make r f w i s) a old = row_unnamed T r _ old (made_unnamed f i w s (tailOf (rowAt T.parents r)) a)
+  beside_unnamed T (Own r) a old = row_unnamed T r _ old (λ l. rw (own_slots (row_at T.parents r)) (old r l))
+  beside_unnamed T (PutSlot r j s) a old = row_unnamed T r _ old (slot_unnamed (row_at T.parents r) j s (old r) a)
+  beside_unnamed T (GrowTo r i s) a old = row_unnamed T r _ old (grown_unnamed (row_at T.parents r) i s (old r) a)
+  beside_unnamed T (Make r f w i s) a old = row_unnamed T r _ old (made_unnamed f i w s (tail_of (row_at T.parents r)) a)
 
 abbrev pub BesideStep : ℕ → OstFid → Step → Type 0
 BesideStep q g rests = Unit {0}
@@ -184,43 +184,43 @@ BesideStep q g (stops n) = Unit {0}
 
 module _ (T : Tables) (q : ℕ) (z : Object) (wait : Waits T q z) (settings : Settings) (k : ℕ) (apart : k ≡ q → ⊥) where
   -- the writes of another row's step
-  module _ (x : Object) (holds : objectAt T.objects k ≡ used x) where
-    slot_beside : slotNames z.fid (slotFor x) ≡ false
-    unfolding slotNames slotFor isObject hasFid
-    slot_beside = never (sameFid x.fid.0 z.fid.0) (λ t. apart (wait.sound.objects k q z.fid (rw (holds, t)) (rw (wait.holds, same_self z.fid.0))))
+  module _ (x : Object) (holds : object_at T.objects k ≡ used x) where
+    slot_beside : slot_names z.fid (slot_for x) ≡ false
+    unfolding slot_names slot_for is_object has_fid
+    slot_beside = never (same_fid x.fid.0 z.fid.0) (λ t. apart (wait.sound.objects k q z.fid (rw (holds, t)) (rw (wait.holds, same_self z.fid.0))))
 
-    owner_beside : (w : Owner) → Beside q z.fid (ownerWrite k x w)
-    unfolding ownerWrite
-    owner_beside w = go (sameOwner x.owner w)
+    owner_beside : (w : Owner) → Beside q z.fid (owner_write k x w)
+    unfolding owner_write
+    owner_beside w = go (same_owner x.owner w)
       where
-        go : (b : Bool) → Beside q z.fid (cond b Nothing (PutObject k (withOwner x w)))
+        go : (b : Bool) → Beside q z.fid (cond b Nothing (PutObject k (with_owner x w)))
         go true = tt
         go false = apart
 
-    destroy_beside : (r i : ℕ) (s : Slot) → slot_at T.parents r i ≡ s → Beside q z.fid (destroyNamed T.objects s)
-    unfolding destroyNamed destroyAt names_at slotNames
+    destroy_beside : (r i : ℕ) (s : Slot) → slot_at T.parents r i ≡ s → Beside q z.fid (destroy_named T.objects s)
+    unfolding destroy_named destroy_at names_at slot_names
     destroy_beside r i Hole e = tt
-    destroy_beside r i (Names g n m) e = go (objectRow T.objects g) refl
+    destroy_beside r i (Names g n m) e = go (object_row T.objects g) refl
       where
-        go : (a : Row) → objectRow T.objects g ≡ a → Beside q z.fid (destroyAt a)
+        go : (a : Row) → object_row T.objects g ≡ a → Beside q z.fid (destroy_at a)
         go NoRow d = tt
-        go (RowIs o) d = λ y. clash (subst (λ v. isObject g (objectAt T.objects v) ≡ true) y (object-found T g d)) (elsewhere T q z wait g r i (rw (e, same_self g.0)))
+        go (RowIs o) d = λ y. clash (subst (λ v. is_object g (object_at T.objects v) ≡ true) y (object_found T g d)) (elsewhere T q z wait g r i (rw (e, same_self g.0)))
 
-    adopt_beside : (home : Place) (v : Way) → BesideStep q z.fid (adoptBy T k x home v)
-    unfolding adoptBy makeParent
+    adopt_beside : (home : Place) (v : Way) → BesideStep q z.fid (adopt_by T k x home v)
+    unfolding adopt_by make_parent
     adopt_beside home NoWay = tt
-    adopt_beside home NewParent = go (freeParent T.parents)
+    adopt_beside home NewParent = go (free_parent T.parents)
       where
-        go : (a : Row) → BesideStep q z.fid (makeParent x home a)
+        go : (a : Row) → BesideStep q z.fid (make_parent x home a)
         go NoRow = tt
         go (RowIs r) = (slot_beside, tt, tt)
-    adopt_beside home (Fill r) = (slot_beside, owner_beside (ownerOf (rowAt T.parents r)), tt)
-    adopt_beside home (Grow r) = (slot_beside, owner_beside (ownerOf (rowAt T.parents r)), tt)
+    adopt_beside home (Fill r) = (slot_beside, owner_beside (owner_of (row_at T.parents r)), tt)
+    adopt_beside home (Grow r) = (slot_beside, owner_beside (owner_of (row_at T.parents r)), tt)
     adopt_beside home (Take r) =
-        (slot_beside, owner_beside (ownerOf (rowAt T.parents r)), destroy_beside r home.index (slot_at T.parents r home.index) refl)
+        (slot_beside, owner_beside (owner_of (row_at T.parents r)), destroy_beside r home.index (slot_at T.parents r home.index) refl)
 
-    repair_beside : (c : ObjectClass) → BesideStep q z.fid (repairObject settings T k x c)
-    unfolding repairObject adopt
+    repair_beside : (c : ObjectClass) → BesideStep q z.fid (repair_object settings T k x c)
+    unfolding repair_object adopt
     repair_beside UNUSED = tt
     repair_beside KEPT = tt
     repair_beside SPARE = tt
@@ -237,44 +237,44 @@ module _ (T : Tables) (q : ℕ) (z : Object) (wait : Waits T q z) (settings : Se
         go true (Claims home) = adopt_beside home (way T home)
         go false c = tt
 
-  step_beside : BesideStep q z.fid (stepAt settings T (place 2 k 0))
-  unfolding stepAt place objectStep
-  step_beside = go (objectAt T.objects k) refl
+  step_beside : BesideStep q z.fid (step_at settings T (place 2 k 0))
+  unfolding step_at place object_step
+  step_beside = go (object_at T.objects k) refl
     where
-      go : (w : ObjectRow) → objectAt T.objects k ≡ w → BesideStep q z.fid (objectStep settings T k w)
+      go : (w : ObjectRow) → object_at T.objects k ≡ w → BesideStep q z.fid (object_step settings T k w)
       go (unused b) e = tt
-      go (used x) e = repair_beside x e (objectClass T k)
+      go (used x) e = repair_beside x e (object_class T k)
 
 -- ## Stage two with a pending destruction
 
 module _ (settings : Settings) (s : Stand) (last : s.position ≡ place 3 0 0) (adopt : adopts settings.policy ≡ true) (q : ℕ) (z : Object) where
   next_there : (T : Tables) (k : ℕ) → k < q → q < length T.objects → next T (place 2 k 0) ≡ place 2 (suc k) 0
-  unfolding next fromObject place
+  unfolding next from_object place
   next_there T k h l = rw (lt-ltb (suc k) (length T.objects) (omega arith))
 
   pub waits_inside : (T : Tables) → Waits T q z → q < length T.objects
-  unfolding isObject hasFid
-  waits_inside T w = object-inside T z.fid q (rw (w.holds, same_self z.fid.0))
+  unfolding is_object has_fid
+  waits_inside T w = object_inside T z.fid q (rw (w.holds, same_self z.fid.0))
 
   -- its own step destroys it
-  own_step : (T : Tables) → Waits T q z → stepAt settings T (place 2 q 0) ≡ repairs OfEmpty (Destroy q) Nothing Nothing
-  unfolding stepAt place objectStep repairObject objectClass objectClassOf unnamedClass
-  own_step T w = rw w.holds (ap (repairObject settings T q z) (ap (λ r. objectClassOf T r) w.holds ∙ class) ∙ rw adopt)
+  own_step : (T : Tables) → Waits T q z → step_at settings T (place 2 q 0) ≡ repairs OfEmpty (Destroy q) Nothing Nothing
+  unfolding step_at place object_step repair_object object_class object_class_of unnamed_class
+  own_step T w = rw w.holds (ap (repair_object settings T q z) (ap (λ r. object_class_of T r) w.holds ∙ class) ∙ rw adopt)
     where
-      class : objectClassOf T (used z) ≡ EMPTY
+      class : object_class_of T (used z) ≡ EMPTY
       class =
-          ap (λ b. cond b KEPT (unnamedClass T z.fresh z.claim)) (never (named T.parents z.fid) (λ t. let (k, l, u) = named-elim T z.fid t in clash u (w.unnamed k l)))
-          ∙ ap₂ (unnamedClass T) w.fresh w.claimed.1
+          ap (λ b. cond b KEPT (unnamed_class T z.fresh z.claim)) (never (named T.parents z.fid) (λ t. let (k, l, u) = named_elim T z.fid t in clash u (w.unnamed k l)))
+          ∙ ap₂ (unnamed_class T) w.fresh w.claimed.1
 
   -- and rests where it is gone
-  gone_rests : (T : Tables) → Waits T q z → stepAt settings (without T q) (place 2 q 0) ≡ rests
-  unfolding stepAt place objectStep objectAt putObject destroyed
+  gone_rests : (T : Tables) → Waits T q z → step_at settings (without T q) (place 2 q 0) ≡ rests
+  unfolding step_at place object_step object_at put_object destroyed
   gone_rests T w = rw (get_or-set_same T.objects q destroyed (unused []) (waits_inside T w))
 
   -- the run on the tables without it ends as the run on the tables with it, up to its row
   pub pending_ends : (n : ℕ) (T : Tables) (k : ℕ) → Waits T q z → k ≤ q → stand (run settings n (without T q) (place 2 k 0)) ≡ s →
       Ends settings s last T (place 2 k 0)
-  unfolding run onStep after isEnd place applyWrites applyWrite putObject
+  unfolding run on_step after is_end place apply_writes apply_write put_object
   pending_ends zero T k w h e = absurd (not_there settings s last (without T q) (place 2 k 0) _ refl e)
   pending_ends (suc n) T k w h e = go (compareℕ k q) (λ U j. pending_ends n U j)
     where
@@ -283,53 +283,53 @@ module _ (settings : Settings) (s : Stand) (last : s.position ≡ place 3 0 0) (
 
       here : k ≡ q → Ends settings s last T (place 2 q 0)
       here d =
-          ends-writes settings s last T (place 2 q 0) OfEmpty (Destroy q) Nothing Nothing S refl (own_step T w) refl
+          ends_writes settings s last T (place 2 q 0) OfEmpty (Destroy q) Nothing Nothing S refl (own_step T w) refl
           (record { steps = n; same = rw (d, gone_rests T w) at e })
 
       after_step_lem : Step → Run
-      after_step_lem u = onStep S (place 2 k 0) (λ U. run settings n U (next U (place 2 k 0))) u
+      after_step_lem u = on_step S (place 2 k 0) (λ U. run settings n U (next U (place 2 k 0))) u
 
       less : k < q → ((U : Tables) (j : ℕ) → Waits U q z → j ≤ q → stand (run settings n (without U q) (place 2 j 0)) ≡ s → Ends settings s last U (place 2 j 0)) →
-          (u : Step) → stepAt settings T (place 2 k 0) ≡ u → BesideStep q z.fid u → Makes settings T (place 2 k 0) u → stand (after_step_lem u) ≡ s →
+          (u : Step) → step_at settings T (place 2 k 0) ≡ u → BesideStep q z.fid u → Makes settings T (place 2 k 0) u → stand (after_step_lem u) ≡ s →
           Ends settings s last T (place 2 k 0)
       less l ih rests d b m t =
-          ends-rests settings s last T (place 2 k 0) refl d
+          ends_rests settings s last T (place 2 k 0) refl d
           (subst (Ends settings s last T) (sym (next_there T k l (waits_inside T w)))
           (ih T (suc k) w l (subst (λ (p : Position). stand (run settings n S p) ≡ s) (next_there S k l (rw (length-set T.objects q destroyed) (waits_inside T w))) t)))
       less l ih (stops a) d b m t = absurd (not_there settings s last S (place 2 k 0) a refl t)
       less l ih (repairs c x y v) d b m t =
-          ends-writes settings s last T (place 2 k 0) c x y v U refl d refl
+          ends_writes settings s last T (place 2 k 0) c x y v U refl d refl
           (subst (Ends settings s last U) (sym (next_there U k l (waits_inside U kept)))
           (ih U (suc k) kept l
           (subst (λ (p : Position). stand (run settings n (without U q) p) ≡ s) (next_there (without U q) k l (rw (length-set U.objects q destroyed) (waits_inside U kept)))
           (subst (λ (X : Tables). stand (run settings n X (next X (place 2 k 0))) ≡ s) swapped t))))
         where
           U : Tables
-          U = applyWrites x y v T
+          U = apply_writes x y v T
 
           g : OstFid
           g = z.fid
 
-          swapped : applyWrites x y v S ≡ without U q
+          swapped : apply_writes x y v S ≡ without U q
           swapped =
-              ap (λ (X : Tables). applyWrite (applyWrite X y) v) (beside_swap q g T x b.0)
-              ∙ ap (λ (X : Tables). applyWrite X v) (beside_swap q g (applyWrite T x) y b.1)
-              ∙ beside_swap q g (applyWrite (applyWrite T x) y) v b.2
+              ap (λ (X : Tables). apply_write (apply_write X y) v) (beside_swap q g T x b.0)
+              ∙ ap (λ (X : Tables). apply_write X v) (beside_swap q g (apply_write T x) y b.1)
+              ∙ beside_swap q g (apply_write (apply_write T x) y) v b.2
 
           kept : Waits U q z
           kept =
               record {
                 sound = m.calm.sound;
-                holds = beside_holds q g (applyWrite (applyWrite T x) y) v b.2 ∙ beside_holds q g (applyWrite T x) y b.1 ∙ beside_holds q g T x b.0 ∙ w.holds;
+                holds = beside_holds q g (apply_write (apply_write T x) y) v b.2 ∙ beside_holds q g (apply_write T x) y b.1 ∙ beside_holds q g T x b.0 ∙ w.holds;
                 fresh = w.fresh;
                 claimed = w.claimed;
-                unnamed = beside_unnamed q g (applyWrite (applyWrite T x) y) v b.2 (beside_unnamed q g (applyWrite T x) y b.1 (beside_unnamed q g T x b.0 w.unnamed));
+                unnamed = beside_unnamed q g (apply_write (apply_write T x) y) v b.2 (beside_unnamed q g (apply_write T x) y b.1 (beside_unnamed q g T x b.0 w.unnamed));
               }
 
       go : Compare k q → ((U : Tables) (j : ℕ) → Waits U q z → j ≤ q → stand (run settings n (without U q) (place 2 j 0)) ≡ s → Ends settings s last U (place 2 j 0)) → Ends settings s last T (place 2 k 0)
       go (is_same d) ih = subst (λ j. Ends settings s last T (place 2 j 0)) (sym d) (here d)
-      go (is-less l) ih =
+      go (is_less l) ih =
           let apart : k ≡ q → ⊥ = (λ y. omega arith) in
-          less l ih (stepAt settings T (place 2 k 0)) refl (step_beside T q z w settings k apart) (step-makes settings T (place 2 k 0) w.sound)
+          less l ih (step_at settings T (place 2 k 0)) refl (step_beside T q z w settings k apart) (step_makes settings T (place 2 k 0) w.sound)
           (subst (λ (u : Step). stand (after_step_lem u) ≡ s) (step_there T q z w k apart settings) e)
-      go (is-more m) ih = absurd (omega arith)
+      go (is_more m) ih = absurd (omega arith)
