@@ -1,0 +1,17 @@
+use mathlib.Core.Path.{◌≡◌, sym, ap, ◌∙◌}
+use mathlib.Core.Bool.{not}
+use native.Mathlib.Omega.{arith}
+use Prim.Native.Nat.{◌-◌, ◌*◌}
+use lib.ListN.{length, take, drop}
+use native.Mathlib.Nat.{div-le_self}
+use Rattle.tables.proofs.AllLaws.{row_fits}
+use Rattle.tables.specs.Bytes.{is_used}
+use Rattle.search.specs.FirstRow.{free_row}
+use Rattle.search.proofs.RowSearch.{rows_left, row_start, row_none, row_hit, row_pass}
+use Rattle.search.proofs.first.free_row.Given as goal
+
+abbrev pub invariant-loop-r : goal.invariant-loop-r
+invariant-loop-r l = free_row l.table l.size ≡ rows_left (λ i. not (is_used (take l.size (drop (l.size * i) l.table)))) l.n l.r
+
+abbrev pub decreases-loop-r : goal.decreases-loop-r
+decreases-loop-r l = l.n - l.r

@@ -1,0 +1,16 @@
+use mathlib.Core.Path.{◌≡◌, sym, ap, ◌∙◌}
+use native.Mathlib.Omega.{arith}
+use Prim.Native.Nat.{◌-◌, ◌*◌}
+use lib.ListN.{length, take, drop}
+use native.Mathlib.Nat.{div-le_self}
+use Rattle.tables.proofs.AllLaws.{row_fits}
+use Rattle.tables.specs.Check.{is_row_of}
+use Rattle.search.specs.FirstRow.{row_of}
+use Rattle.search.proofs.RowSearch.{rows_left, row_start, row_none, row_hit, row_pass}
+use Rattle.search.proofs.first.row_of.Given as goal
+
+abbrev pub invariant-loop-r : goal.invariant-loop-r
+invariant-loop-r l = row_of l.table l.size l.f ≡ rows_left (λ i. is_row_of l.f (take l.size (drop (l.size * i) l.table))) l.n l.r
+
+abbrev pub decreases-loop-r : goal.decreases-loop-r
+decreases-loop-r l = l.n - l.r

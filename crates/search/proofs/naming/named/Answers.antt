@@ -1,0 +1,6 @@
+use Rattle.search.proofs.NamingLaws.{named_is}
+use borrow.Author.Rules.{rules}
+use Rattle.search.proofs.naming.named.Goals as goal
+
+pub returns : goal.returns
+returns c = named_is _ _ _ _ c.first_naming-first.ensures.place c.is_somewhere.ensures

@@ -1,0 +1,7 @@
+use mathlib.Core.Path.{◌∙◌}
+use borrow.Author.Rules.{rules}
+use Rattle.search.proofs.ParsedRows.{free_parent_is}
+use Rattle.search.proofs.parents.free_parent.Goals as goal
+
+pub returns : goal.returns
+returns c = c.free_row.ensures ∙ free_parent_is _
