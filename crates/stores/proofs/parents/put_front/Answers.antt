@@ -1,0 +1,5 @@
+use borrow.Author.Rules.{rules}
+use Rattle.stores.proofs.parents.put_front.Goals as goal
+
+pub returns : goal.returns
+returns c = cc
