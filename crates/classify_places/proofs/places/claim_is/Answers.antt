@@ -1,0 +1,20 @@
+use mathlib.Core.Path.{sym, ◌∙◌}
+use borrow.Author.Tests.{not-true, not-false}
+use Rattle.classify_places.proofs.ClaimLaws.{claim_file, claim_index}
+use borrow.Author.Rules.{rules}
+use Rattle.rules.specs.Places.{place_at, claims}
+use Rattle.classify_places.proofs.places.claim_is.Goals as goal
+
+pub returns-then-not-same_mdt : goal.returns-then-not-same_mdt
+returns-then-not-same_mdt c =
+    let a = c.args in
+    cc (claim_file c.in-Claims.place (place_at a.f a.i) (sym c.same_mdt.ensures ∙ c.if-not-same_mdt.true))
+
+pub returns-in-Unclaimed : goal.returns-in-Unclaimed
+unfolding claims
+returns-in-Unclaimed c = cc
+
+pub returns-else-not-same_mdt : goal.returns-else-not-same_mdt
+returns-else-not-same_mdt c =
+    let a = c.args in
+    cc (claim_index c.in-Claims.place (place_at a.f a.i) (sym c.same_mdt.ensures ∙ c.if-not-same_mdt.false))
