@@ -1,5 +1,6 @@
 // Numbers that are handed out.
 #![tactic(auto)]
+
 ghost use Rattle.std.specs.Prelude.{◌≡◌, ◌+◌, ◌≤◌, ◌<◌, [], ◌∷◌, length, set};
 ghost use Rattle.std.proofs.lemmas.List.Edits.{sets};
 
