@@ -1,5 +1,6 @@
 // The classes of document 01 over the lent tables: of a header, a slot, an object, and at a position.
 #![tactic(auto)]
+
 ghost use Rattle.std.specs.Prelude.{◌≡◌, true, false};
 ghost use Rattle.tables.specs.Bytes.{parse};
 ghost use Rattle.tables.specs.Positions.{is_position, is_end};

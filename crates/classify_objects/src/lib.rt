@@ -1,5 +1,6 @@
 // The class of an object row.
 #![tactic(auto)]
+
 ghost use Rattle.std.specs.Prelude.{◌≡◌, true, ◌/◌, ◌<◌, length};
 ghost use Rattle.tables.specs.Bytes.{object_size, parse};
 ghost use Rattle.tables.specs.Check.{good_layouts, Sound};

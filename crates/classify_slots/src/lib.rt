@@ -1,5 +1,6 @@
 // The class of a slot.
 #![tactic(auto)]
+
 ghost use Rattle.std.specs.Prelude.{◌≡◌, ◌/◌, ◌<◌, length};
 ghost use Rattle.tables.specs.Bytes.{parent_size, parse};
 ghost use Rattle.tables.specs.Check.{Sound};
