@@ -1,30 +1,28 @@
 // Example E10 of the paper: an object that may hold data claims slot 1,999, and then slot 2,000, of an absent file. Prints the class of the object and
 // what a run that adopts makes of it: at index 1,999 a parent of 2,000 slots is made for it, at 2,000 its place can't be had.
 #![tactic(auto)]
+
 use capi_run::REPORT_SIZE;
 use fid::Fid;
 use layout::{MAX_SLOTS, PLAIN_HEADER, SLOT_SIZE};
-use libc::STDOUT_FILENO;
+use std::io;
 use tables::rows::{PARENT_SIZE, ROOM_AT};
 
 // The bytes of a layout of version 1 with all slots that there may be.
 const WIDEST: usize = PLAIN_HEADER + SLOT_SIZE * MAX_SLOTS;
 
-fn print_class(class: u64) {
+fn print_class(rt: &impl Print, class: u64) -> io::Result<()> {
     if class == 10 {
-        io::write_all(STDOUT_FILENO, b"ORPHAN\n");
-        return;
+        return rt.write_all(b"ORPHAN\n");
     }
     if class == 11 {
-        io::write_all(STDOUT_FILENO, b"CONFLICT\n");
-        return;
+        return rt.write_all(b"CONFLICT\n");
     }
-    io::write_all(STDOUT_FILENO, b"another class\n");
+    rt.write_all(b"another class\n")
 }
 
-fn print_number(name: &[u8], n: u64) {
-    io::write_all(STDOUT_FILENO, name);
-    io::print_decimal(STDOUT_FILENO, n);
+fn print_number(rt: &impl Print, name: &str, n: u64) -> io::Result<()> {
+    print!(rt; "{name}{n}")
 }
 
 // Object A.
@@ -46,7 +44,7 @@ fn claim_on(index: u32) -> Fid {
 }
 
 // The run from the start, with adopt: its answer, the steps done and the objects adopted.
-fn show_run(parents: &mut [u8], objects: &mut [u8]) {
+fn show_run(rt: &impl Print, parents: &mut [u8], objects: &mut [u8]) -> io::Result<()> {
     let reserve = [0u8; 0];
     let mut position = [0u64; 3];
     let mut report = [0u64; REPORT_SIZE];
@@ -60,23 +58,23 @@ fn show_run(parents: &mut [u8], objects: &mut [u8]) {
         &mut position,
         &mut report,
     );
-    print_number(b"start ", started as u64);
-    print_number(b", run ", answer as u64);
-    print_number(b", steps ", report[0]);
-    print_number(b", adopted ", report[8]);
+    print_number(rt, "start ", started as u64)?;
+    print_number(rt, ", run ", answer as u64)?;
+    print_number(rt, ", steps ", report[0])?;
+    print_number(rt, ", adopted ", report[8])
 }
 
 // The slots of a layout.
-fn show_layout(layout: &[u8]) {
+fn show_layout(rt: &impl Print, layout: &[u8]) -> io::Result<()> {
     let mut fields = [0u64; 8];
     let answer = capi::layouts::lfsck_layout_read(layout, &mut fields);
-    print_number(b"; layout ", answer as u64);
-    print_number(b", slots ", fields[5]);
-    io::write_all(STDOUT_FILENO, b"\n");
+    print_number(rt, "; layout ", answer as u64)?;
+    print_number(rt, ", slots ", fields[5])?;
+    rt.write_all(b"\n")
 }
 
 // One unused parent row, and object A with its claim.
-fn show(index: u32) {
+fn show(rt: &impl Print, index: u32) -> io::Result<()> {
     let mut parents = [0u8; PARENT_SIZE];
     let mut objects = [0u8; 46];
     let mut out = [0u64; 4];
@@ -85,15 +83,15 @@ fn show(index: u32) {
     wire::put_le32(&mut objects, 17, 3);
     fid::write_fid(&mut objects, 29, claim_on(index));
     let answer = capi::classes::lfsck_class(&parents, &objects, 2, 0, 0, &mut out);
-    print_number(b"index ", index as u64);
-    print_number(b": answer ", answer as u64);
-    io::write_all(STDOUT_FILENO, b", ");
-    print_class(out[0]);
-    show_run(&mut parents, &mut objects);
-    show_layout(&parents[ROOM_AT..ROOM_AT + WIDEST]);
+    print_number(rt, "index ", index as u64)?;
+    print_number(rt, ": answer ", answer as u64)?;
+    rt.write_all(b", ")?;
+    print_class(rt, out[0])?;
+    show_run(rt, &mut parents, &mut objects)?;
+    show_layout(rt, &parents[ROOM_AT..ROOM_AT + WIDEST])
 }
 
-fn main() {
-    show(1999);
-    show(2000);
+fn main(rt: HostRuntime) -> io::Result<()> {
+    show(&rt, 1999)?;
+    show(&rt, 2000)
 }

@@ -1,6 +1,7 @@
 // The linkEA reader that keeps the lent bytes and a place in them, and walks record by record. Its functions take it apart and leave the
 // work to functions on a slice and a number.
 #![tactic(auto)]
+
 ghost use Rattle.std.specs.Prelude.{◌≡◌};
 ghost use Rattle.linkea.specs.Answers.{step_at};
 ghost use Rattle.linkea.specs.Walk.{opening_of, onward, place_after, name_given};
@@ -8,7 +9,7 @@ ghost use Rattle.linkea.specs.Walk.{opening_of, onward, place_after, name_given}
 use linkea::{LINK_HEADER, Step};
 
 // The lent bytes, and the place of the next record.
-#[derive(Drop)]
+#[derive(Clone, Copy)]
 pub struct LinkReader<'a> {
     pub bytes: &'a [u8],
     pub at: usize,

@@ -1,13 +1,14 @@
 // Example E8 of the paper by `engine::run_on`, which changes the lent position in place: once in several calls, each handed the position as the
 // last one left it, and once in one call. Prints what each call answers, the steps done, the position and the repairs, and then the tables.
 #![tactic(auto)]
+
 ghost use Rattle.std.specs.Prelude.{◌≡◌};
 ghost use Rattle.engine.specs.RunBytes.{run_bytes};
 
 use fid::Fid;
 use layout::Header;
-use libc::STDOUT_FILENO;
 use rules::Report;
+use std::io;
 use tables::Position;
 use tables::rows::{PARENT_SIZE, ROOM_AT};
 
@@ -46,44 +47,50 @@ fn go_on(
     with_position(report, position)
 }
 
-fn print(text: &[u8]) {
-    io::write_all(STDOUT_FILENO, text);
+fn print(rt: &impl Print, text: &str) -> io::Result<()> {
+    print!(rt; "{text}")
 }
 
-fn print_number(name: &[u8], n: u64) {
-    print(name);
-    io::print_decimal(STDOUT_FILENO, n);
+fn print_number(rt: &impl Print, name: &str, n: u64) -> io::Result<()> {
+    print!(rt; "{name}{n}")
 }
 
-fn print_position(name: &[u8], at: Position) {
-    print_number(name, at.stage);
-    print_number(b",", at.row);
-    print_number(b",", at.part);
+fn print_position(rt: &impl Print, name: &str, at: Position) -> io::Result<()> {
+    print_number(rt, name, at.stage)?;
+    print_number(rt, ",", at.row)?;
+    print_number(rt, ",", at.part)
 }
 
 // The repairs of E8's two classes.
-fn print_repairs(report: Report) {
+fn print_repairs(rt: &impl Print, report: Report) -> io::Result<()> {
     let counts = report.counts;
     let of = counts.of;
-    print_number(b"; DANGLING ", of[2]);
-    print_number(b", ORPHAN ", of[7]);
+    print_number(rt, "; DANGLING ", of[2])?;
+    print_number(rt, ", ORPHAN ", of[7])
 }
 
 // One call of at most so many steps, without reserve; where it leaves the position.
-fn call(parents: &mut [u8], objects: &mut [u8], policy: u64, most: u64, at: Position) -> Position {
+fn call(
+    rt: &impl Print,
+    parents: &mut [u8],
+    objects: &mut [u8],
+    policy: u64,
+    most: u64,
+    at: Position,
+) -> io::Result<Position> {
     let reserve = [0u8; 0];
     let done = go_on(parents, objects, &reserve, policy, most, at);
     let report = done.report;
     let position = done.position;
-    print_number(b"  policy ", policy);
-    print_number(b", at most ", most);
-    print_position(b" from ", at);
-    print_number(b": answer ", report.answer as u64);
-    print_number(b", steps ", report.steps);
-    print_position(b", position ", position);
-    print_repairs(report);
-    print(b"\n");
-    position
+    print_number(rt, "  policy ", policy)?;
+    print_number(rt, ", at most ", most)?;
+    print_position(rt, " from ", at)?;
+    print_number(rt, ": answer ", report.answer as u64)?;
+    print_number(rt, ", steps ", report.steps)?;
+    print_position(rt, ", position ", position)?;
+    print_repairs(rt, report)?;
+    print(rt, "\n")?;
+    Ok(position)
 }
 
 // File P.
@@ -139,16 +146,16 @@ fn wide(x: u8) -> u64 {
 }
 
 // Which object the slot names, and the used marks of the object rows.
-fn show_tables(parents: &[u8; PARENT_SIZE], objects: &[u8; 92]) {
+fn show_tables(rt: &impl Print, parents: &[u8; PARENT_SIZE], objects: &[u8; 92]) -> io::Result<()> {
     let named = fid::read_fid(parents, 59);
-    print_number(b"  slot 0 names ", named.oid as u64);
-    print_number(b"; object rows used: ", wide(objects[0]));
-    print_number(b" ", wide(objects[46]));
-    print(b"\n");
+    print_number(rt, "  slot 0 names ", named.oid as u64)?;
+    print_number(rt, "; object rows used: ", wide(objects[0]))?;
+    print_number(rt, " ", wide(objects[46]))?;
+    print(rt, "\n")
 }
 
 // In parts: one step, none, a refused call, two steps, more than are left, and a call at the end.
-fn main() {
+fn main(rt: HostRuntime) -> io::Result<()> {
     let start = Position {
         stage: 1,
         row: 0,
@@ -156,20 +163,21 @@ fn main() {
     };
     let mut parents = one_file();
     let mut objects = two_objects();
-    print(b"In parts:\n");
-    let first = call(&mut parents, &mut objects, 3, 1, start);
-    let second = call(&mut parents, &mut objects, 3, 0, first);
-    let third = call(&mut parents, &mut objects, 4, 9, second);
-    let fourth = call(&mut parents, &mut objects, 3, 2, third);
-    let fifth = call(&mut parents, &mut objects, 3, 9, fourth);
-    call(&mut parents, &mut objects, 3, 9, fifth);
-    show_tables(&parents, &objects);
+    print(&rt, "In parts:\n")?;
+    let first = call(&rt, &mut parents, &mut objects, 3, 1, start)?;
+    let second = call(&rt, &mut parents, &mut objects, 3, 0, first)?;
+    let third = call(&rt, &mut parents, &mut objects, 4, 9, second)?;
+    let fourth = call(&rt, &mut parents, &mut objects, 3, 2, third)?;
+    let fifth = call(&rt, &mut parents, &mut objects, 3, 9, fourth)?;
+    call(&rt, &mut parents, &mut objects, 3, 9, fifth)?;
+    show_tables(&rt, &parents, &objects)?;
     let mut whole_parents = one_file();
     let mut whole_objects = two_objects();
-    print(b"Uncut:\n");
-    call(&mut whole_parents, &mut whole_objects, 3, 9, start);
-    show_tables(&whole_parents, &whole_objects);
-    if check::same(&parents, &whole_parents) && check::same(&objects, &whole_objects) {
-        print(b"The tables are the same, byte for byte.\n");
+    print(&rt, "Uncut:\n")?;
+    call(&rt, &mut whole_parents, &mut whole_objects, 3, 9, start)?;
+    show_tables(&rt, &whole_parents, &whole_objects)?;
+    if parents == whole_parents && objects == whole_objects {
+        print(&rt, "The tables are the same, byte for byte.\n")?;
     }
+    Ok(())
 }
