@@ -1,5 +1,6 @@
 // An object that is there takes a slot: what is written of it, and which one a redirect uses again.
 #![tactic(auto)]
+
 ghost use Rattle.std.specs.Prelude.{◌≡◌, true, ◌*◌, ◌/◌, ◌<◌, length, take, drop};
 ghost use Rattle.tables.specs.Bytes.{object_size, is_used, parse_parents, parse_object, parse_objects};
 ghost use Rattle.tables.specs.Check.{good_layouts};
