@@ -1,5 +1,6 @@
 // The step of an object row, decided: EMPTY is destroyed, ORPHAN is put in its claimed place.
 #![tactic(auto)]
+
 ghost use Rattle.std.specs.Prelude.{◌≡◌, ◌/◌, ◌<◌, length};
 ghost use Rattle.layout.specs.Layout.{max_slots};
 ghost use Rattle.tables.specs.Bytes.{object_size, parse_parent, parse_objects};

@@ -1,5 +1,6 @@
 // The step of a header or a slot, decided.
 #![tactic(auto)]
+
 ghost use Rattle.std.specs.Prelude.{◌≡◌, cond, ◌/◌, ◌<◌, length};
 ghost use Rattle.tables.specs.Bytes.{parent_size, parse_reserve, parse_parents};
 ghost use Rattle.tables.specs.Check.{Sound};

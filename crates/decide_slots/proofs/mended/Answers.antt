@@ -1,0 +1,8 @@
+use Rattle.stores.specs.UsedRow.{row_bytes}
+use Rattle.decide_slots.proofs.SlotLaws.{mended_is}
+use borrow.Author.Rules.{rules}
+use Rattle.decide_slots.proofs.mended.Goals as goal
+
+pub returns : goal.returns
+unfolding row_bytes
+returns c = let d = c in let a = d.args in mended_is a.parents.now a.r d.requires _ c.row_at-row.ensures.0 _ c.owner_of-owner.ensures _ c.self_of-file.ensures a.j a.x

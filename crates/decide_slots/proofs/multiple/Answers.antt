@@ -1,0 +1,41 @@
+use mathlib.Core.Path.{sym, ◌∙◌}
+use borrow.Author.Tests.{not-true, not-false}
+use borrow.Author.Rules.{rules}
+use Rattle.tables.specs.Bytes.{parse_parents}
+use Rattle.tables.proofs.SoundLaws.{sound_facts}
+use Rattle.rules.specs.Settings.{settings_of}
+use Rattle.stores.specs.UsedRow.{row_bytes}
+use Rattle.writes.proofs.RowLaws.{decides_rest, decides_same}
+use Rattle.taking.proofs.TakingLaws.{reusable_inside, reusable_used}
+use Rattle.decide_slots.proofs.SlotLaws.{multiple_off, multiple_none, multiple_some}
+use Rattle.decide_slots.proofs.multiple.Goals as goal
+
+pub returns-then-not-creates : goal.returns-then-not-creates
+unfolding settings_of
+returns-then-not-creates c =
+    let a = c.args in
+    decides_rest a.parents.now a.objects.now _
+    (multiple_off a.parents.now a.objects.now (settings_of a.policy a.reserve.now) a.r a.j a.ost (sym c.creates.ensures ∙ c.if-not-creates.true))
+
+pub reusable-found-requires : goal.reusable-found-requires
+reusable-found-requires c = (sound_facts _ _ c.requires.tables).layouts
+
+pub reuse-requires : goal.reuse-requires
+reuse-requires c =
+    let s = c in let a = s.args in let e = sym c.reusable-found.ensures ∙ c.in-RowIs.is in
+    (s.requires, reusable_inside a.objects.now (parse_parents a.parents.now) _ c.in-RowIs.o e, reusable_used a.objects.now (parse_parents a.parents.now) _ c.in-RowIs.o e)
+
+pub returns-in-NoRow : goal.returns-in-NoRow
+unfolding settings_of row_bytes
+returns-in-NoRow c =
+    let d = c in let s = d in let a = s.args in
+    decides_same a.parents.now a.objects.now _ _ _ c.redirect.ensures
+    (multiple_none a.parents.now a.objects.now (settings_of a.policy a.reserve.now) a.r a.j a.ost s.requires.row _ d.row_at-row.ensures.0 _ d.self_of-file.ensures _
+    d.reusable-found.ensures (sym d.creates.ensures ∙ d.if-not-creates.false) c.in-NoRow.is)
+
+pub returns-in-RowIs : goal.returns-in-RowIs
+unfolding settings_of row_bytes
+returns-in-RowIs c =
+    let d = c in let s = d in let a = s.args in decides_same a.parents.now a.objects.now _ _ _ c.reuse.ensures
+    (multiple_some a.parents.now a.objects.now (settings_of a.policy a.reserve.now) a.r a.j a.ost s.requires.row _ d.row_at-row.ensures.0 _ d.self_of-file.ensures _
+    d.reusable-found.ensures (sym d.creates.ensures ∙ d.if-not-creates.false) c.in-RowIs.o c.in-RowIs.is)
