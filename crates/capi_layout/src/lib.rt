@@ -1,5 +1,6 @@
 // Layouts as numbers: read, and one slot rewritten.
 #![tactic(auto)]
+
 ghost use Rattle.std.specs.Prelude.{◌≡◌, ◌≤◌, length};
 ghost use Rattle.std.proofs.lemmas.List.Edits.{sets};
 ghost use Rattle.layout.specs.Answers.{read_layout, read_number, read_slot, slot_read_number};

@@ -1,5 +1,6 @@
 // LinkEA values as numbers: read, one record of them, and written.
 #![tactic(auto)]
+
 ghost use Rattle.std.specs.Prelude.{◌≡◌, ◌≤◌, length};
 ghost use Rattle.std.proofs.lemmas.List.Edits.{sets};
 ghost use Rattle.linkea.specs.Answers.{read_link, reading_number, read_record, record_number};

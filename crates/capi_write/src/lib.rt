@@ -1,5 +1,6 @@
 // A layout written from numbers.
 #![tactic(auto)]
+
 ghost use Rattle.std.specs.Prelude.{◌≡◌};
 ghost use Rattle.capi_out.specs.Out.{out_numbers};
 ghost use Rattle.capi_write.specs.Write.{magic_of, is_version, fields_fit, header_given, header_answer, header_dest, header_out, write_number, write_values, write_answer, write_dest};

@@ -1,0 +1,6 @@
+use Rattle.capi_link.proofs.LinkNumbers.{found_put}
+use borrow.Author.Rules.{rules}
+use Rattle.capi_link.proofs.put_found.Goals as goal
+
+pub returns : goal.returns
+returns c = found_put _ _ _ _ _ c.put_four.ensures c.put.ensures c.put-2.ensures
