@@ -8,7 +8,6 @@ use borrow.Author.Tests.{eqb-true, eqb-false, ne_eqb, leb-true, not-true}
 use lib.Dec.{eqb, leb}
 use lib.ListN.{length, take, drop, length-drop, take-append-drop}
 use lib.Seq.{take-add, length-take-le}
-use Rattle.wire.specs.Numbers.{bytes}
 use Rattle.wire.proofs.NumberLaws.{Bytes, bytes_drop, bytes_take, bytes_le}
 use Rattle.wire.proofs.Both.{and_first, and_second}
 use Rattle.fid.specs.Fid.{fid_size}

@@ -1,5 +1,6 @@
 // Names against objects: entry rows and child rows, what is found of each entry, and how a climb from a directory ends.
 #![tactic(auto)]
+
 pub mod rows;
 
 // What an entry's FID-in-dirent and its child's self FID say together.

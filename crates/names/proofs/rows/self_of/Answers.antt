@@ -1,0 +1,9 @@
+use mathlib.Core.Path.{ap}
+use Rattle.fid.specs.declared.Fid.{Fid}
+use Rattle.fid.specs.declared.MdtFid.{MdtFid}
+use Rattle.names.specs.Rows.{decode_child, mdt_fid}
+use Rattle.names.proofs.rows.self_of.Goals as goal
+
+pub returns : goal.returns
+unfolding decode_child mdt_fid
+returns c = ap {B = MdtFid} (λ (f : Fid). record { 0 = f }) c.read_fid.ensures
