@@ -1,5 +1,6 @@
 // Every class in one call: one check, then the classes from a position on.
 #![tactic(auto)]
+
 ghost use Rattle.std.specs.Prelude.{◌≡◌, true, length};
 ghost use Rattle.std.proofs.lemmas.List.Edits.{sets};
 ghost use Rattle.tables.specs.Bytes.{parse};
