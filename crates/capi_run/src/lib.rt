@@ -1,5 +1,6 @@
 // Runs over the lent tables, as numbers.
 #![tactic(auto)]
+
 ghost use Rattle.std.specs.Prelude.{◌≡◌, ◌≤◌, length};
 ghost use Rattle.std.proofs.lemmas.List.Edits.{sets};
 ghost use Rattle.capi_run.specs.Runs.{report_size, report_numbers, called};

@@ -1,0 +1,6 @@
+use Rattle.capi_run.proofs.RunNumbers.{report_put}
+use borrow.Author.Rules.{rules}
+use Rattle.capi_run.proofs.put_report.Goals as goal
+
+pub returns : goal.returns
+returns c = report_put _ _ _ _ c.put.ensures c.put_counts.ensures

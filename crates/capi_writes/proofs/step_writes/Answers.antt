@@ -1,0 +1,42 @@
+use mathlib.Core.Path.{sym, ◌∙◌}
+use Rattle.tables.specs.Positions.{place}
+use Rattle.writes.specs.Plan.{Decides}
+use Rattle.repair.specs.StepBytes.{step_of}
+use Rattle.capi_writes.proofs.WritesLaws.{Told, writes_refused, writes_end, writes_short, writes_ready, writes_told}
+use borrow.Author.Rules.{rules}
+use Rattle.capi_writes.proofs.step_writes.Goals as goal
+
+pub returns-then-number-ne0 : goal.returns-then-number-ne0
+unfolding Told place
+returns-then-number-ne0 c =
+    let a = c.args in
+    let whole = writes_refused a.parents.now a.objects.now a.reserve.now a.policy (place a.stage a.row a.part) a.out.now _ c.check-number.ensures c.if-number-ne0.true in
+    record { answer = whole.0; out = whole.1 }
+
+pub returns-then-is_end : goal.returns-then-is_end
+unfolding Told place
+returns-then-is_end c =
+    let a = c.args in
+    let whole = writes_end a.parents.now a.objects.now a.reserve.now a.policy (place a.stage a.row a.part) a.out.now _ c.check-number.ensures c.if-number-ne0.false (sym c.is_end.ensures ∙ c.if-is_end.true) in
+    record { answer = whole.0; out = whole.1 }
+
+pub returns-then-out-lt-WRITES_SIZE : goal.returns-then-out-lt-WRITES_SIZE
+unfolding Told place
+returns-then-out-lt-WRITES_SIZE c =
+    let a = c.args in
+    let whole = writes_short a.parents.now a.objects.now a.reserve.now a.policy (place a.stage a.row a.part) a.out.now _ c.check-number.ensures c.if-number-ne0.false (sym c.is_end.ensures ∙ c.if-is_end.false) c.if-out-lt-WRITES_SIZE.true in
+    record { answer = whole.0; out = whole.1 }
+
+pub decide-d-requires : goal.decide-d-requires
+unfolding place
+decide-d-requires c =
+    let a = c.args in
+    writes_ready a.parents.now a.objects.now a.reserve.now a.policy (place a.stage a.row a.part) a.out.now _ c.check-number.ensures c.if-number-ne0.false (sym c.is_end.ensures ∙ c.if-is_end.false)
+
+pub returns : goal.returns
+unfolding Told place Decides step_of
+returns c =
+    let k = c in
+    let a = k.args in
+    let whole = writes_told a.parents.now a.objects.now a.reserve.now a.policy (place a.stage a.row a.part) a.out.now _ k.check-number.ensures k.if-number-ne0.false (sym k.is_end.ensures ∙ k.if-is_end.false) k.if-out-lt-WRITES_SIZE.false _ c.decide-d.ensures _ _ c.tell.ensures.answer c.tell.ensures.out in
+    record { answer = whole.0; out = whole.1 }
