@@ -1,19 +1,19 @@
 -- Sweep 2 by entries: what is written in one, and what stands when some are done. Assumes nothing.
 use mathlib.Core.Path.{◌≡◌, refl, sym, ap, subst, ◌∙◌}
 use mathlib.Core.Bool.{Bool, true, false, cond, not, ◌&&◌}
-use mathlib.Core.List.{List, [], ◌∷◌, ◌++◌, map, append-nil}
+use mathlib.Core.List.{List, [], ◌∷◌, map}
 use Prim.Native.Nat.{ℕ, zero, suc, ◌+◌, ◌-◌, ◌*◌, ◌/◌, ◌≤◌, ◌<◌}
 use native.Mathlib.Numerals.{add-one}
 use native.Mathlib.Omega.{arith}
 use borrow.Rule.Slice.PartMut.{put_mid}
 use lib.ListN.{length, take, drop, get_or, set, drop_of_length-le}
-use lib.Seq.{sets, drop-cons, length-sets, set-get_or, take_all}
-use Rattle.fid.specs.Fid.{encode_fid, same_fid}
+use lib.Seq.{sets, drop-cons, length-sets, set-get_or}
+use Rattle.fid.specs.Fid.{encode_fid}
 use Rattle.fid.specs.declared.MdtFid.{MdtFid}
 use Rattle.fid.proofs.FidLaws.{Fits}
 use Rattle.fid.proofs.SameLaws.{same_is}
 use Rattle.tables.proofs.AllLaws.{row_fits, part_length, part_is}
-use Rattle.names.specs.Rows.{Entry, Child, entry_size, child_size, child_fid_at, is_none, child_of, with_fid, decode_entry, parse_entries, parse_children}
+use Rattle.names.specs.Rows.{Entry, Child, entry_size, child_fid_at, is_none, child_of, with_fid, decode_entry, parse_entries}
 use Rattle.names.specs.Check.{good_name, SoundNames}
 use Rattle.names.specs.Findings.{same}
 use Rattle.names.specs.Sweeps.{one, mends, written, differs, sweep2, writes}

@@ -1,18 +1,18 @@
 -- Sweep 1 by entries: what one gives its child, and what is left to be taken. Assumes nothing.
 use mathlib.Core.Path.{◌≡◌, refl, sym, ap, subst, ◌∙◌}
-use mathlib.Core.Bool.{Bool, true, false, cond, not, ◌&&◌}
+use mathlib.Core.Bool.{Bool, true, false, not, ◌&&◌}
 use mathlib.Core.List.{List, [], ◌∷◌}
-use Prim.Native.Nat.{ℕ, suc, ◌+◌, ◌-◌, ◌*◌, ◌/◌, ◌≤◌, ◌<◌}
+use Prim.Native.Nat.{ℕ, ◌+◌, ◌-◌, ◌*◌, ◌/◌, ◌≤◌, ◌<◌}
 use native.Mathlib.Numerals.{add-one}
 use native.Mathlib.Omega.{arith}
 use borrow.Rule.Slice.PartMut.{put_mid}
-use lib.ListN.{length, take, drop, get_or, set, drop_of_length-le}
+use lib.ListN.{length, take, drop, set, drop_of_length-le}
 use lib.Seq.{sets, drop-cons, length-sets}
 use Rattle.fid.specs.Fid.{encode_fid}
 use Rattle.fid.specs.declared.MdtFid.{MdtFid}
 use Rattle.fid.proofs.FidLaws.{Fits}
 use Rattle.tables.proofs.AllLaws.{row_fits, part_length, part_is}
-use Rattle.names.specs.Rows.{Entry, Child, entry_size, child_size, is_none, child_at, child_of, with_self, link_length, link_bytes, decode_entry, decode_child, parse_entries, parse_children}
+use Rattle.names.specs.Rows.{Entry, Child, entry_size, child_size, is_none, child_at, child_of, with_self, decode_entry, decode_child, parse_entries, parse_children}
 use Rattle.names.specs.Check.{good_link_ea, SoundNames}
 use Rattle.names.specs.Sweeps.{one, gives, taking, sweep1, taken}
 use Rattle.names.proofs.SoundLaws.{parsed_entries, parsed_child, link_at}

@@ -15,7 +15,7 @@ use Rattle.fid.specs.declared.Fid.{Fid}
 use Rattle.fid.specs.declared.MdtFid.{MdtFid}
 use Rattle.fid.proofs.SameLaws.{same_is}
 use Rattle.index.specs.Entries.{place_size, value_range, entries, number, sorted}
-use Rattle.index.specs.Search.{Ordered, lowest_of, key, key_of, numbers_of, listed, is_key, first_with}
+use Rattle.index.specs.Search.{Ordered, lowest_of, key_of, numbers_of, listed, is_key, first_with}
 use Rattle.index.specs.declared.Found.TheVariants.{Nothing}
 use Rattle.index.proofs.EntryLaws.{moved, number_key, number_fits}
 use Rattle.index.proofs.OrderLaws.{sorted_ordered}

@@ -12,7 +12,7 @@ use Rattle.wire.proofs.Splice.{stored, stored_none, stored_next, stored_all_lem}
 use Rattle.fid.specs.declared.MdtFid.{MdtFid}
 use Rattle.names.specs.Rows.{Child, is_none, no_child, child_at}
 use Rattle.names.specs.Findings.{any}
-use Rattle.names.specs.Visible.{climb, is_too_long, climbs_too_long, too_long, no_self_mark, visible_mark, hidden_mark, climb_mark, mark_of, judged}
+use Rattle.names.specs.Visible.{is_too_long, climbs_too_long, too_long, no_self_mark, visible_mark, hidden_mark, climb_mark, mark_of, judged}
 use Rattle.names.specs.declared.Climbed.TheVariants.{Hidden, Visible}
 use Rattle.names_judge.specs.Levels.{ended, climbed_of}
 use Rattle.names_judge.specs.declared.Ended.{Ended}

@@ -1,5 +1,6 @@
 // Which directories are visible: the index of the child rows by FID, and the climb.
 #![tactic(auto)]
+
 pub mod calls;
 pub mod climb;
 pub mod judge;

@@ -1,6 +1,6 @@
 -- A row of a table written: what the table says then, and that it passes the check as before. Assumes nothing.
 use mathlib.Core.Path.{◌≡◌, refl, sym, ap, ◌∙◌}
-use mathlib.Core.Bool.{Bool, true, false, ◌&&◌}
+use mathlib.Core.Bool.{Bool, true}
 use mathlib.Core.List.{List, [], ◌∷◌, map}
 use Prim.Native.Nat.{ℕ, zero, suc, ◌+◌, ◌-◌, ◌*◌, ◌/◌, ◌≤◌, ◌<◌}
 use native.Mathlib.Nat.{add-zero}
@@ -8,7 +8,6 @@ use native.Mathlib.Omega.{arith}
 use borrow.Author.Tests.{lt-ltb, eq-eqb, le-leb}
 use borrow.Rule.Slice.PartMut.{put_mid}
 use lib.ListN.{length, take, drop, get_or, set, length-set}
-use lib.Dec.{eqb, leb}
 use lib.Seq.{sets, length-sets}
 use Rattle.wire.specs.Rows.{rows}
 use Rattle.wire.proofs.Both.{and_first, and_second}
@@ -17,7 +16,7 @@ use Rattle.wire.proofs.Splice.{sets_whole, put_sets}
 use Rattle.tables.specs.Check.{all, whole_rows, first_failing}
 use Rattle.tables.proofs.AllLaws.{row_fits, part_length}
 use Rattle.tables.proofs.SoundLaws.{WholeFacts}
-use Rattle.names.specs.Rows.{Entry, Child, entry_size, child_size, child_row, decode_entry, decode_child, entry_rows, child_rows, parse_entries, parse_children}
+use Rattle.names.specs.Rows.{entry_size, child_size, child_row, decode_entry, decode_child, entry_rows, child_rows, parse_entries, parse_children}
 use Rattle.names.specs.Check.{max_rows, names_whole, child_there, children_there, good_name, good_link_ea, names_good, names_tests, names_number, SoundNames}
 use Rattle.names.proofs.SoundLaws.{NamesFacts, names_facts, children_many}
 

@@ -1,0 +1,39 @@
+use mathlib.Core.Path.{sym, ◌∙◌}
+use native.Mathlib.Omega.{arith}
+use Rattle.names.specs.Rows.{parse_children}
+use Rattle.names_store.proofs.NoteLaws.{note_at_lem}
+use Rattle.names_fids.proofs.SelvesLaws.{swept_start, swept_next, swept_end}
+use Rattle.names_fids.proofs.selves.take_selves.Goals as goal
+
+pub loop-i-init : goal.loop-i-init
+loop-i-init c =
+    let a = c.args in
+    (omega arith, omega arith, omega arith, c.requires.0, λ seen q. swept_start seen a.entries.now (parse_children a.children.now))
+
+pub take_self-n-requires : goal.take_self-n-requires
+take_self-n-requires c = (c.loop-i.invariant.3, omega arith, omega arith)
+
+pub loop-i-preserved : goal.loop-i-preserved
+loop-i-preserved c =
+    let a = c.args in
+    let t = c.take_self-n.ensures in (
+      omega arith,
+      omega (arith, t.0),
+      omega arith,
+      t.1,
+      λ seen q.
+          let i = c.loop-i.invariant.4 seen q in
+          let k = swept_next seen a.entries.now c.loop-i.i (parse_children c.loop-i.children) _ _ c.loop-i.n (omega arith)
+          (t.2 seen (note_at_lem seen a.entries.now a.notes.now c.loop-i.i (omega arith) q)) in
+          (i.0 ∙ k.0, i.1 ∙ k.1),
+    )
+
+pub returns : goal.returns
+returns c =
+    let a = c.args in (
+      c.loop-i.invariant.3,
+      λ seen q.
+          let i = c.loop-i.invariant.4 seen q in
+          let k = swept_end seen a.entries.now c.loop-i.i (parse_children c.loop-i.children) c.loop-i.n (omega arith) in
+          (sym (i.0 ∙ k.0), sym (i.1 ∙ k.1)),
+    )
