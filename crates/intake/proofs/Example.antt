@@ -1,17 +1,15 @@
 -- A small dump by computation: the rows it gives, the same in pieces, and each number with its line. Assumes nothing.
-use Prim.Native.Nat.{ℕ, zero, suc, ◌+◌, ◌-◌, ◌*◌, ◌/◌, ◌%◌}
+use Prim.Native.Nat.{ℕ}
 use mathlib.Core.Path.{◌≡◌, refl, ap, ◌∙◌}
-use mathlib.Core.List.{List, [], ◌∷◌, ◌++◌, append-nil, foldl}
-use mathlib.Core.Bool.{Bool, true, false, cond, ◌&&◌, ◌||◌}
-use lib.ListN.{length, take, drop, set, get_or, replicate}
-use lib.Dec.{leb, ltb, eqb}
+use mathlib.Core.List.{List, [], ◌∷◌, ◌++◌, append-nil}
+use lib.ListN.{take, drop, replicate}
 use Rattle.wire.specs.Numbers.{bytes}
 use Rattle.tables.specs.Bytes.{is_used, join}
-use Rattle.intake.specs.Lines.{Lines, lines, onto}
-use Rattle.intake.specs.Says.{Value, Line, file_word, trusted_word, lov_word, fid_word, lma_word, value_word, starts, named, digit, is_digit, Hex, more, hex_bytes, keep, kind_of, good_size, sized, attribute, is_empty, judge, wanted, line_says, saying, wrong, holds, opens, closes, skipped, bad, takes, no_hex, hex}
-use Rattle.intake.specs.Owners.{Owning, Number, is_decimal, told, decimal, after_space, third, second, first, until_line, after_line, next_owner, no_owner, owning, no_number, number}
-use Rattle.intake.specs.Reading.{Attribute, Entry, Open, Stop, Reading, stops_at, goes_on, has, attribute_of, with_attribute, first_unused, parent_from, object_from, filled, fills, with_self, closes_entry, on_line, is_going, take_line, read_line, read_all, at_end, ended, dump_reading, dump_ends, none, had, outside, inside, going, stopped}
-use Rattle.intake.specs.Machine.{Digits, store, digit_byte, value_of, Partial, no_line, line_byte, line_end, State, going_byte, byte, feed, begin, finish, want_in, broken, even, odd}
+use Rattle.intake.specs.Lines.{lines, onto}
+use Rattle.intake.specs.Says.{starts, named, digit, is_digit, more, hex_bytes, keep, kind_of, good_size, sized, attribute, is_empty, judge, wanted, line_says, saying}
+use Rattle.intake.specs.Owners.{is_decimal, told, decimal, after_space, third, second, first, until_line, after_line, next_owner}
+use Rattle.intake.specs.Reading.{Reading, stops_at, goes_on, has, attribute_of, with_attribute, first_unused, parent_from, object_from, filled, fills, with_self, closes_entry, on_line, is_going, take_line, read_line, read_all, at_end, ended, dump_reading, dump_ends, outside, going, stopped}
+use Rattle.intake.specs.Machine.{store, digit_byte, value_of, no_line, line_byte, line_end, going_byte, byte, feed, begin, finish}
 use Rattle.intake.proofs.Simulation.{feed_all, cut_anywhere}
 
 -- `# file: mnt/a`, `trusted.dummy=0xzz`, `trusted.lov=0x0102030405060708`

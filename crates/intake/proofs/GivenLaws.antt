@@ -2,7 +2,7 @@
 use Prim.Native.Nat.{ℕ, suc}
 use mathlib.Core.Path.{◌≡◌, refl, sym, ap, subst, ◌∙◌}
 use mathlib.Core.List.{List, [], ◌∷◌, ◌++◌}
-use mathlib.Core.Bool.{true, false, true≢false}
+use mathlib.Core.Bool.{false, true≢false}
 use lib.Seq.{append_snoc}
 use Rattle.intake.specs.Lines.{lines}
 use Rattle.intake.specs.Says.{Line, opens, closes, skipped, bad, takes, line_says, is_empty}

@@ -1,15 +1,15 @@
 -- The machine over one line: at its end it says what the line says. Assumes nothing.
-use Prim.Native.Nat.{ℕ, zero, suc, ◌+◌, ◌≤◌, ◌<◌}
+use Prim.Native.Nat.{ℕ, ◌+◌, ◌≤◌, ◌<◌}
 use mathlib.Core.Path.{◌≡◌, refl, sym, ap, ◌∙◌}
 use mathlib.Core.List.{List, [], ◌∷◌, ◌++◌, append_assoc, append-nil, foldl, foldl-append}
-use mathlib.Core.Bool.{Bool, true, false, cond}
+use mathlib.Core.Bool.{Bool, true, false}
 use native.Mathlib.Omega.{arith}
 use lib.ListN.{length, take, drop, length-append, take-append-drop, drop_of_length-le}
-use lib.Seq.{take_all, length-take-le, append_snoc}
-use lib.Dec.{ltb, leb}
+use lib.Seq.{take_all, length-take-le}
+use lib.Dec.{leb}
 use borrow.Author.Tests.{leb-true, leb-false, lt-ltb, le-ltb}
 use Rattle.intake.specs.declared.Kind.{Kind}
-use Rattle.intake.specs.Says.{Value, keep, hex_bytes, kind_of, judge, saying}
+use Rattle.intake.specs.Says.{kind_of, judge, saying}
 use Rattle.intake.specs.Machine.{Digits, even, digit_byte, value_of, Partial, no_line, line_byte, line_end}
 use Rattle.intake.proofs.HeadLaws.{kind_of_take, judge_take}
 use Rattle.intake.proofs.DigitLaws.{digits_all}

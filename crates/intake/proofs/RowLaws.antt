@@ -1,5 +1,5 @@
 -- Rows that were used stand. Assumes nothing.
-use Prim.Native.Nat.{ℕ, zero, suc, ◌+◌, ◌≤◌, ◌<◌}
+use Prim.Native.Nat.{ℕ, suc, ◌<◌}
 use mathlib.Core.Path.{◌≡◌, refl, sym, ap, ◌∙◌}
 use mathlib.Core.List.{List, [], ◌∷◌}
 use mathlib.Core.Bool.{Bool, true, false, cond, ◌&&◌, true≢false}
@@ -10,7 +10,6 @@ use lib.Dec.{leb, ltb}
 use borrow.Author.Tests.{ltb-true}
 use Rattle.wire.proofs.Both.{and_second}
 use Rattle.tables.specs.Bytes.{is_used}
-use Rattle.intake.specs.declared.Kind.{Kind}
 use Rattle.intake.specs.Lines.{lines}
 use Rattle.intake.specs.Says.{Line, opens, closes, skipped, bad, takes, line_says}
 use Rattle.intake.specs.Owners.{Owning, no_owner, owning, next_owner}

@@ -2,14 +2,14 @@
 use Prim.Native.Nat.{ℕ, suc}
 use mathlib.Core.Path.{◌≡◌, refl}
 use mathlib.Core.List.{List, ◌∷◌}
-use mathlib.Core.Bool.{Bool, true, false, cond, ◌&&◌, true≢false}
-use lib.ListN.{length, drop, set, get_or}
+use mathlib.Core.Bool.{Bool, true, false, ◌&&◌, true≢false}
+use lib.ListN.{length, drop}
 use lib.Dec.{leb, ltb}
 use Rattle.intake.specs.declared.Kind.{Kind}
 use Rattle.intake.specs.declared.Kind.TheVariants.{Lov, Fid, Lma, Other}
 use Rattle.intake.specs.Says.{Value, wrong, holds, Line, opens, closes, skipped, bad, takes, file_word, trusted_word, value_word, mark_at, starts, kind_of, good_size, sized, attribute, is_empty, judge, saying, line_says}
 use Rattle.intake.specs.Owners.{Owning, no_owner, owning, next_owner}
-use Rattle.intake.specs.Reading.{Attribute, none, had, Entry, Open, outside, inside, Reading, stops_at, goes_on, has, attribute_of, with_attribute, first_unused, parent_from, object_from, filled, fills, with_self, closes_entry, on_line, is_going, take_line, read_line}
+use Rattle.intake.specs.Reading.{Attribute, none, had, Entry, Open, outside, inside, Reading, stops_at, goes_on, has, attribute_of, first_unused, filled, fills, with_self, closes_entry, on_line, is_going, take_line, read_line}
 use Rattle.intake.specs.Rows.{Untouched, OpenLinesTouchNothing, RefusedTouchNothing}
 use Rattle.intake.proofs.TestLaws.{by_test}
 

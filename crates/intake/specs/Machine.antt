@@ -1,11 +1,11 @@
 -- The reader byte by byte: what it remembers of the unfinished line is its first bytes and the digits after them. Document 02, 2026-03: "Input arrives
 -- in pieces .. and cutting it anywhere gives the same tables".
-use Rattle.std.specs.Prelude.{ℕ, suc, ◌+◌, ◌*◌, Bool, true, false, cond, length, ltb, eqb}
+use Rattle.std.specs.Prelude.{ℕ, suc, ◌+◌, ◌*◌, cond, length, ltb, eqb}
 use mathlib.Core.List.{List, [], ◌∷◌, ◌++◌, foldl}
 use Rattle.intake.specs.Says.{Value, wrong, holds, Line, digit, is_digit, head_size, kind_of, wanted, judge}
 use Rattle.intake.specs.Lines.{newline}
 use Rattle.intake.specs.declared.Kind.{Kind}
-use Rattle.intake.specs.Reading.{Reading, Open, outside, inside, has, attribute_of, Stop, going, stopped, is_going, take_line, ended}
+use Rattle.intake.specs.Reading.{Reading, Open, outside, inside, has, attribute_of, Stop, is_going, take_line, ended}
 
 -- digits so far: not hex, whole bytes, or half a byte pending; with the number of bytes and those that are kept
 pub data Digits : Type 0 where

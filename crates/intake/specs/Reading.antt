@@ -3,7 +3,7 @@
 use Rattle.std.specs.Prelude.{ℕ, suc, ◌+◌, List, [], ◌∷◌, ◌++◌, Bool, true, false, cond, ◌&&◌, length, drop, set, get_or, leb, ltb}
 use Rattle.wire.specs.Numbers.{bytes}
 use Rattle.tables.specs.Bytes.{is_used, room_at}
-use Rattle.intake.specs.Lines.{Lines, lines}
+use Rattle.intake.specs.Lines.{lines}
 use Rattle.intake.specs.Says.{Line, opens, closes, skipped, bad, takes, line_says, lma_self_at, is_empty}
 use Rattle.intake.specs.declared.Kind.{Kind}
 use Rattle.intake.specs.declared.Kind.TheVariants.{Lov, Fid, Lma, Other}

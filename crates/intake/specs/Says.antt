@@ -1,6 +1,6 @@
 -- What one line of a dump says. Document 02, 2026-03: "Take a parent's `trusted.lov`, an object's `trusted.fid` .. and each one's `trusted.lma` ..,
 -- skip other `trusted.` lines".
-use Rattle.std.specs.Prelude.{ℕ, ◌+◌, ◌-◌, ◌*◌, List, [], ◌∷◌, ◌++◌, Bool, true, false, cond, ◌&&◌, ◌||◌, length, take, drop, leb, ltb, eqb}
+use Rattle.std.specs.Prelude.{ℕ, ◌+◌, ◌-◌, ◌*◌, List, [], ◌∷◌, Bool, true, false, cond, ◌&&◌, ◌||◌, length, take, drop, leb, ltb, eqb}
 use Rattle.fid.specs.Fid.{fid_size}
 use Rattle.intake.specs.declared.Kind.{Kind}
 use Rattle.intake.specs.declared.Kind.TheVariants.{Lov, Fid, Lma, Other}

@@ -1,21 +1,20 @@
 -- A line's bytes one after another in the lent bytes. Assumes nothing.
-use Prim.Native.Nat.{ℕ, zero, suc, ◌+◌, ◌-◌, ◌≤◌, ◌<◌}
+use Prim.Native.Nat.{ℕ, suc, ◌+◌, ◌-◌, ◌≤◌, ◌<◌}
 use mathlib.Core.Path.{◌≡◌, refl, sym, ap, subst, ◌∙◌}
-use mathlib.Core.List.{List, [], ◌∷◌, ◌++◌, foldl}
-use mathlib.Core.Bool.{Bool, true, false, cond}
+use mathlib.Core.List.{List, foldl}
+use mathlib.Core.Bool.{true}
 use native.Mathlib.Numerals.{add-one}
 use native.Mathlib.Omega.{arith}
-use lib.ListN.{length, take, drop, get_or}
+use lib.ListN.{length, drop, get_or}
 use lib.Seq.{drop-cons}
-use lib.Dec.{eqb, ltb}
 use borrow.Author.Tests.{ne_eqb}
 use Rattle.intake.specs.declared.Kind.{Kind}
 use Rattle.intake_bytes.specs.declared.Marks.{Marks}
 use Rattle.intake_bytes.specs.declared.Unfinished.{Unfinished}
 use Rattle.intake.specs.Reading.{Reading, is_going}
 use Rattle.intake.specs.Says.{kind_of, digit}
-use Rattle.intake.specs.Machine.{Digits, digit_byte, Partial, line_byte, State, going_byte, byte, want_in}
-use Rattle.intake_bytes.specs.Lent.{want_of, partial_in, part_of, Room, valued, DigitStep, PairStep, Held, Others, LineStep, Feeding, PastHead, DigitsFed, ValueFed, LineFed}
+use Rattle.intake.specs.Machine.{Partial, line_byte, State, going_byte, byte, want_in}
+use Rattle.intake_bytes.specs.Lent.{want_of, partial_in, part_of, valued, DigitStep, PairStep, Held, Others, LineStep, Feeding, PastHead, DigitsFed, ValueFed, LineFed}
 use Rattle.intake_bytes.specs.declared.Reached.{Reached}
 use Rattle.intake_bytes.proofs.HoldLaws.{digit_step}
 use Rattle.intake_bytes.proofs.StoreLaws.{first_half_lem}

@@ -1,20 +1,19 @@
 -- One more byte of a line in the lent bytes. Assumes nothing.
-use Prim.Native.Nat.{ℕ, zero, suc, ◌+◌, ◌-◌, ◌*◌, ◌≤◌, ◌<◌}
+use Prim.Native.Nat.{ℕ, ◌+◌, ◌-◌, ◌≤◌, ◌<◌}
 use mathlib.Core.Path.{◌≡◌, refl, sym, ap, subst, ◌∙◌}
 use mathlib.Core.List.{List, [], ◌∷◌, ◌++◌}
 use mathlib.Core.Bool.{Bool, true, false, cond}
 use native.Mathlib.Numerals.{add-one}
 use native.Mathlib.Omega.{arith}
-use lib.ListN.{length, take, drop, set, length-set, length-take, length-drop, take-append-drop}
-use lib.Seq.{take-set-le, drop-set-lt, drop-set-add, take-suc-set, take-take, take_all, drop-drop, length-take-le}
-use lib.Dec.{eqb, ltb}
-use borrow.Author.Tests.{eq-eqb, ne_eqb, lt-ltb, le-ltb}
+use lib.ListN.{length, take, drop, set, length-set, length-drop, take-append-drop}
+use lib.Seq.{drop-set-lt, drop-set-add, take-suc-set, take-take, drop-drop, length-take-le}
+use lib.Dec.{eqb}
 use Rattle.intake.specs.declared.Kind.{Kind}
 use Rattle.intake.specs.declared.Kind.TheVariants.{Lov, Fid, Lma, Other}
 use Rattle.intake_bytes.specs.declared.Marks.{Marks}
 use Rattle.intake_bytes.specs.declared.Unfinished.{Unfinished}
 use Rattle.intake.specs.Says.{kind_of, wanted}
-use Rattle.intake.specs.Machine.{Digits, even, digit_byte, Partial, line_byte}
+use Rattle.intake.specs.Machine.{Digits, even, digit_byte, line_byte}
 use Rattle.intake_bytes.specs.Lent.{base_of, mark_of, want_of, kept_in, digits_in, partial_in, part_of, Within, DigitStep, Held, Others, LineStep}
 use Rattle.intake.proofs.HeadLaws.{drop_take}
 use Rattle.intake.proofs.LineLaws.{partial, head_byte, digit_byte_lem}

@@ -1,6 +1,6 @@
 -- The unfinished line in lent bytes, and what each function does there. Document 02, 2026-03: "Input arrives in pieces".
 use Rattle.std.specs.Prelude.{ℕ, suc, ◌+◌, ◌-◌, ◌≤◌, ◌<◌, ◌≡◌, true, cond, length, take, drop, get_or, eqb, ltb}
-use mathlib.Core.List.{List, [], foldl}
+use mathlib.Core.List.{List, foldl}
 use Rattle.fid.specs.Fid.{fid_size}
 use Rattle.intake.specs.Lines.{newline}
 use Rattle.intake.specs.declared.Kind.{Kind}
@@ -9,7 +9,7 @@ use Rattle.intake_bytes.specs.declared.Marks.{Marks}
 use Rattle.intake_bytes.specs.declared.Unfinished.{Unfinished}
 use Rattle.intake_bytes.specs.declared.Reached.{Reached}
 use Rattle.intake.specs.Says.{head_size, digit, kind_of, wanted}
-use Rattle.intake.specs.Machine.{Digits, broken, even, odd, digit_byte, Partial, line_byte, State, byte, want_in}
+use Rattle.intake.specs.Machine.{Digits, broken, even, odd, digit_byte, Partial, line_byte, byte, want_in}
 use Rattle.intake.specs.Reading.{Reading, is_going}
 
 -- ## Where things stand

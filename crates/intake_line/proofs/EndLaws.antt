@@ -1,23 +1,20 @@
 -- What the machine says at a line's end, read off the lent bytes. Assumes nothing.
-use Prim.Native.Nat.{ℕ, zero, suc, ◌+◌, ◌-◌, ◌≤◌, ◌<◌}
+use Prim.Native.Nat.{ℕ, ◌+◌, ◌-◌, ◌≤◌, ◌<◌}
 use mathlib.Core.Path.{◌≡◌, refl, sym, ap, subst, ◌∙◌}
-use mathlib.Core.List.{List, [], ◌∷◌, ◌++◌}
-use mathlib.Core.Bool.{Bool, true, false, cond, ◌||◌}
+use mathlib.Core.List.{List, [], ◌∷◌}
+use mathlib.Core.Bool.{Bool, true, false, cond}
 use native.Mathlib.Omega.{arith}
 use lib.ListN.{length, take, drop, length-take, length-drop}
-use lib.Seq.{drop-drop, length-take-le}
 use lib.Dec.{eqb}
 use borrow.Author.Tests.{eq-eqb, ne_eqb}
 use Rattle.intake.specs.declared.Kind.{Kind}
 use Rattle.intake.specs.declared.Kind.TheVariants.{Lov, Fid, Lma, Other}
 use Rattle.intake_bytes.specs.declared.Unfinished.{Unfinished}
-use Rattle.intake_line.specs.declared.Said.{Said}
 use Rattle.intake_line.specs.declared.Said.TheVariants.{Opens, Closes, Skipped, Bad, Takes}
-use Rattle.intake.specs.Says.{Value, wrong, holds, Line, opens, closes, skipped, bad, takes, starts, file_word, trusted_word, value_word, kind_of, good_size, sized, attribute, is_empty, judge}
-use Rattle.intake.specs.Machine.{Digits, broken, even, odd, value_of, Partial, line_end}
+use Rattle.intake.specs.Says.{Value, wrong, holds, opens, closes, skipped, bad, takes, starts, file_word, trusted_word, value_word, kind_of, good_size, sized, attribute, is_empty, judge}
+use Rattle.intake.specs.Machine.{broken, even, odd, value_of, line_end}
 use Rattle.intake_bytes.specs.Lent.{kept_in, digits_in, partial_in}
 use Rattle.intake_line.specs.Ending.{is_other, value_is}
-use Rattle.intake.proofs.HeadLaws.{drop_take}
 use Rattle.intake_bytes.proofs.StartsLaws.{starts_short}
 
 -- ## Over a head and a value

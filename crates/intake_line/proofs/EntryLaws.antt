@@ -1,8 +1,8 @@
 -- What each line does to the open entry in the lent bytes. Assumes nothing.
-use Prim.Native.Nat.{ℕ, suc, ◌+◌, ◌-◌, ◌≤◌, ◌<◌}
-use mathlib.Core.Path.{◌≡◌, refl, sym, ap, subst, ◌∙◌}
-use mathlib.Core.List.{List, []}
-use mathlib.Core.Bool.{Bool, true, false, cond, ◌||◌}
+use Prim.Native.Nat.{ℕ, suc, ◌+◌, ◌-◌, ◌<◌}
+use mathlib.Core.Path.{◌≡◌, refl, sym, ap, subst}
+use mathlib.Core.List.{List}
+use mathlib.Core.Bool.{Bool, true, false, cond}
 use native.Mathlib.Omega.{arith}
 use lib.ListN.{length, take}
 use lib.Dec.{eqb}
@@ -12,10 +12,9 @@ use Rattle.intake.specs.declared.Kind.TheVariants.{Lov, Fid, Lma, Other}
 use Rattle.intake_bytes.specs.declared.Marks.{Marks}
 use Rattle.intake_line.specs.declared.Said.{Said}
 use Rattle.intake_line.specs.declared.Said.TheVariants.{Opens, Closes, Skipped, Bad, Takes}
-use Rattle.intake_line.specs.declared.After.{After}
 use Rattle.intake_line.specs.declared.After.TheVariants.{Goes, Stops, Closing}
-use Rattle.intake.specs.Says.{Line, takes, good_size}
-use Rattle.intake.specs.Reading.{Attribute, none, had, Entry, Open, outside, inside, Reading, goes_on, stops_at, closes_entry, has, attribute_of, with_attribute, on_line}
+use Rattle.intake.specs.Says.{good_size}
+use Rattle.intake.specs.Reading.{Attribute, had, outside, inside, Reading, stops_at, has, attribute_of, with_attribute, on_line}
 use Rattle.intake_bytes.specs.Lent.{mark_of, part_of}
 use Rattle.intake_line.specs.Ending.{line_of}
 use Rattle.intake_line.specs.Entry.{marks_with, attribute_in, entry_in, open_in, good_mark, no_marks, MarksHeld, AfterHeld, after_is, Standing, EntryStep}

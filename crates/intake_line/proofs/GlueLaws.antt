@@ -1,20 +1,19 @@
 -- The open entry while a line is read: what is wanted of a line, and what stays. Assumes nothing.
-use Prim.Native.Nat.{ℕ, suc, ◌+◌, ◌-◌, ◌≤◌, ◌<◌}
-use mathlib.Core.Path.{◌≡◌, refl, sym, ap, subst, ◌∙◌}
-use mathlib.Core.List.{List, [], foldl}
+use Prim.Native.Nat.{ℕ, ◌-◌, ◌≤◌}
+use mathlib.Core.Path.{◌≡◌, refl, sym, ap, ◌∙◌}
+use mathlib.Core.List.{List}
 use mathlib.Core.Bool.{Bool, true, false, cond}
-use native.Mathlib.Omega.{arith}
 use lib.ListN.{length, take, drop}
 use lib.Dec.{eqb}
 use borrow.Author.Tests.{eq-eqb, ne_eqb, eqb-true, eqb-false}
 use Rattle.intake.specs.declared.Kind.{Kind}
-use Rattle.intake.specs.declared.Kind.TheVariants.{Lov, Fid, Lma, Other}
+use Rattle.intake.specs.declared.Kind.TheVariants.{Lov, Fid, Lma}
 use Rattle.intake_bytes.specs.declared.Marks.{Marks}
 use Rattle.intake_bytes.specs.declared.Unfinished.{Unfinished}
 use Rattle.intake.specs.Says.{wanted, kind_of}
-use Rattle.intake.specs.Reading.{Attribute, none, had, Entry, Open, outside, inside, Reading, is_going, take_line, has, attribute_of}
-use Rattle.intake.specs.Machine.{Partial, no_line, line_end, State, going_byte, byte, want_in}
-use Rattle.intake_bytes.specs.Lent.{base_of, mark_of, want_of, kept_in, partial_in, part_of, Held, Others}
+use Rattle.intake.specs.Reading.{Attribute, none, had, Entry, Reading, is_going, take_line, has}
+use Rattle.intake.specs.Machine.{Partial, no_line, line_end, going_byte, byte, want_in}
+use Rattle.intake_bytes.specs.Lent.{mark_of, want_of, kept_in, part_of, Held, Others}
 use Rattle.intake_line.specs.Entry.{attribute_in, entry_in, open_in}
 use Rattle.intake_line.proofs.EntryLaws.{kind_in, has_not, has_one, open_out, open_in_lem}
 

@@ -1,8 +1,7 @@
 -- The byte that ends a line, over the lent bytes. Assumes nothing.
-use Prim.Native.Nat.{ℕ, suc, ◌+◌, ◌-◌, ◌≤◌, ◌<◌}
+use Prim.Native.Nat.{ℕ, suc, ◌+◌, ◌≤◌}
 use mathlib.Core.Path.{◌≡◌, refl, sym, ap, subst, ◌∙◌}
-use mathlib.Core.List.{List, []}
-use mathlib.Core.Bool.{Bool, true, false, cond}
+use mathlib.Core.List.{List}
 use native.Mathlib.Numerals.{add-one}
 use native.Mathlib.Omega.{arith}
 use lib.ListN.{length, take, drop}
@@ -11,17 +10,15 @@ use Rattle.intake_bytes.specs.declared.Marks.{Marks}
 use Rattle.intake_bytes.specs.declared.Unfinished.{Unfinished}
 use Rattle.intake_line.specs.declared.Reader.{Reader}
 use Rattle.intake_line.specs.declared.Said.{Said}
-use Rattle.intake_line.specs.declared.Said.TheVariants.{Takes}
 use Rattle.intake_line.specs.declared.After.{After}
 use Rattle.intake_line.specs.declared.After.TheVariants.{Goes, Stops, Closing}
-use Rattle.intake_line.specs.declared.Turn.{Turn}
 use Rattle.intake_line.specs.declared.Turn.TheVariants.{Next, Stop, Close}
 use Rattle.intake.specs.Says.{Line, kind_of}
-use Rattle.intake.specs.Reading.{Reading, is_going, take_line, on_line, goes_on, stops_at, closes_entry}
-use Rattle.intake.specs.Machine.{State, Partial, byte, going_byte, no_line, line_end, even}
-use Rattle.intake_bytes.specs.Lent.{mark_of, part_of, want_of, new_line, kept_in, digits_in, partial_in, Held}
+use Rattle.intake.specs.Reading.{Reading, is_going, take_line, on_line, goes_on}
+use Rattle.intake.specs.Machine.{byte, going_byte, no_line}
+use Rattle.intake_bytes.specs.Lent.{want_of, new_line, kept_in, digits_in, partial_in, Held}
 use Rattle.intake_line.specs.Ending.{line_of, LineSaid}
-use Rattle.intake_line.specs.Entry.{entry_in, open_in, MarksHeld, AfterHeld, after_is, Standing, EntryStep, ReaderHeld, NextHeld, TurnHeld, state_in, turn_is, TurnTaken}
+use Rattle.intake_line.specs.Entry.{open_in, AfterHeld, after_is, Standing, EntryStep, ReaderHeld, TurnHeld, state_in, turn_is, TurnTaken}
 use Rattle.intake_line.proofs.GlueLaws.{stands}
 
 pub new_is : (buf : List ℕ) → no_line ≡ partial_in buf new_line

@@ -1,5 +1,5 @@
 -- The open entry in lent bytes: its first line (0 outside), its marks, and the parts in which its attributes are kept.
-use Rattle.std.specs.Prelude.{ℕ, suc, ◌+◌, ◌-◌, ◌≤◌, ◌<◌, ◌≡◌, List, [], Bool, true, false, cond, ◌||◌, length, take, eqb}
+use Rattle.std.specs.Prelude.{ℕ, suc, ◌+◌, ◌-◌, ◌≤◌, ◌<◌, ◌≡◌, List, Bool, true, cond, ◌||◌, length, take, eqb}
 use Rattle.intake.specs.Lines.{newline}
 use Rattle.intake.specs.Says.{good_size}
 use Rattle.intake.specs.declared.Kind.{Kind}

@@ -1,5 +1,6 @@
 // What a line of a dump says where it ends, and what it does to the open entry.
 #![tactic(auto)]
+
 ghost use Rattle.std.specs.Prelude.{◌≡◌, ◌≤◌, ◌<◌, length};
 ghost use Rattle.intake.specs.Says.{head_size, good_size};
 ghost use Rattle.intake_bytes.specs.Lent.{layout_at, max_count, mark_of};

@@ -1,22 +1,21 @@
 -- What is stored is read back as the same reading. Assumes nothing.
-use Prim.Native.Nat.{ℕ, ◌+◌, ◌-◌, ◌≤◌, ◌<◌}
-use mathlib.Core.Path.{◌≡◌, refl, sym, ap, subst, ◌∙◌}
-use mathlib.Core.List.{List, []}
+use Prim.Native.Nat.{ℕ, ◌+◌, ◌-◌, ◌≤◌}
+use mathlib.Core.Path.{◌≡◌, refl, sym, ap, ◌∙◌}
+use mathlib.Core.List.{List}
 use mathlib.Core.Bool.{Bool, true, false, cond}
 use native.Mathlib.Omega.{arith}
 use lib.ListN.{length, take, drop, get_or}
 use lib.Seq.{drop-drop}
 use lib.Dec.{eqb, ltb}
-use borrow.Author.Tests.{lt-ltb, le-ltb, ltb-true, ltb-false}
+use borrow.Author.Tests.{ltb-true, ltb-false}
 use Rattle.tables.specs.Bytes.{parent_rows, object_rows}
 use Rattle.intake.specs.declared.Kind.{Kind}
 use Rattle.intake.specs.Says.{kind_of, wanted}
-use Rattle.intake.specs.Reading.{Open, Stop}
+use Rattle.intake.specs.Reading.{Open}
 use Rattle.intake.specs.Machine.{Digits, broken, even, odd, Partial, State}
 use Rattle.intake_bytes.specs.declared.Marks.{Marks}
 use Rattle.intake_bytes.specs.declared.Unfinished.{Unfinished}
 use Rattle.intake_bytes.specs.Lent.{base_of, want_of, part_of, Held, Others, kept_in, digits_in, partial_in}
-use Rattle.intake_line.specs.Entry.{open_in}
 use Rattle.intake_line.proofs.GlueLaws.{open_stays}
 use Rattle.intake_bytes.proofs.HoldLaws.{base_past}
 use Rattle.intake_state.specs.declared.Kept.{Kept}

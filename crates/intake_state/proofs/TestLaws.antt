@@ -1,20 +1,20 @@
 -- The state's own test, case by case, and what it gives. Assumes nothing.
-use Prim.Native.Nat.{ℕ, ◌+◌, ◌-◌, ◌≤◌, ◌<◌}
-use mathlib.Core.Path.{◌≡◌, refl, sym, ap, subst, ◌∙◌}
+use Prim.Native.Nat.{ℕ, ◌-◌, ◌≤◌, ◌<◌}
+use mathlib.Core.Path.{◌≡◌, refl, subst}
 use mathlib.Core.List.{List}
 use mathlib.Core.Bool.{Bool, true, false, cond, ◌&&◌, ◌||◌}
 use native.Mathlib.Omega.{arith}
 use lib.ListN.{length, take, drop}
 use lib.Dec.{eqb, leb, ltb}
-use borrow.Author.Tests.{eq-eqb, ne_eqb, eqb-true, eqb-false, le-leb, lt-leb, leb-true, lt-ltb, le-ltb, ltb-true, ltb-false}
+use borrow.Author.Tests.{eq-eqb, ne_eqb, eqb-true, le-leb, lt-leb, leb-true, ltb-true}
 use Rattle.wire.proofs.Both.{and_first, and_second}
 use Rattle.intake.specs.declared.Kind.{Kind}
 use Rattle.intake.specs.declared.Kind.TheVariants.{Lov, Fid, Lma, Other}
 use Rattle.intake.specs.Says.{good_size, kind_of}
 use Rattle.intake_bytes.specs.declared.Marks.{Marks}
 use Rattle.intake_bytes.specs.declared.Unfinished.{Unfinished}
-use Rattle.intake_bytes.specs.Lent.{max_count, mark_of, base_of, want_of, Held}
-use Rattle.intake_line.specs.Entry.{good_mark, GoodMarks, MarksHeld, ReaderHeld}
+use Rattle.intake_bytes.specs.Lent.{mark_of, base_of, want_of, Held}
+use Rattle.intake_line.specs.Entry.{good_mark, GoodMarks, MarksHeld}
 use Rattle.intake_bytes.proofs.HoldLaws.{base_past, want_fits}
 use Rattle.intake_state.specs.declared.Kept.{Kept}
 use Rattle.intake_state.specs.State.{state_size, KeptHeld, line_in, marks_in, reader_in, kept_of, max_read, good_stop, bare_marks, good_open, good_line, good_kept, good_state}

@@ -2,7 +2,7 @@
 use Rattle.std.specs.Prelude.{ℕ, ◌+◌, ◌≤◌, ◌≡◌, List, [], ◌∷◌, ◌++◌, Bool, true, cond, ◌&&◌, length, take, drop, eqb, leb, ltb}
 use Rattle.wire.specs.Numbers.{le, bytes}
 use Rattle.intake.specs.Says.{head_size, kind_of}
-use Rattle.intake.specs.declared.Kind.TheVariants.{Lov, Fid, Lma}
+use Rattle.intake.specs.declared.Kind.TheVariants.{Fid, Lma}
 use Rattle.tables.specs.Bytes.{layout_room, parent_rows, object_rows}
 use Rattle.intake.specs.Reading.{bad_dump, no_fit, Stop, going, stopped}
 use Rattle.intake.specs.Machine.{State}

@@ -1,5 +1,6 @@
 // The state of a reading in lent bytes, and its test.
 #![tactic(auto)]
+
 pub mod state;
 pub mod tests;
 

@@ -11,7 +11,7 @@ use Rattle.layout.specs.Answers.{read_layout, read_number, read_slot, slot_read_
 use Rattle.layout.specs.declared.Header.{Header}
 use Rattle.layout.specs.declared.Slot.{Slot}
 use Rattle.layout_write.specs.Writer.{slot_numbers, all_given, given_slots, writable, write_layout, written_number, left_by, write_bytes}
-use Rattle.layout_write.specs.Impossible.{LayoutRefused, FieldsRefused, EveryImpossibleLayout, EveryImpossibleFields}
+use Rattle.layout_write.specs.Impossible.{EveryImpossibleLayout, EveryImpossibleFields}
 
 rules_refuse : (h : Header) (ss : List Slot) → possible_stripe h.stripe ≡ false → layout_rules h ss ≡ false
 unfolding layout_rules good_header

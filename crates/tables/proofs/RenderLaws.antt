@@ -9,7 +9,6 @@ use borrow.Author.Tests.{eqb-true, eqb-false}
 use lib.Dec.{eqb}
 use lib.ListN.{length, get_or, take, drop, length-drop, take-append-drop, drop_of_length-le}
 use lib.Seq.{drop-drop, take-add, drop-cons}
-use Rattle.wire.specs.Numbers.{bytes}
 use Rattle.wire.specs.Rows.{rows}
 use Rattle.wire.proofs.NumberLaws.{Bytes, bytes_drop, bytes_take, bytes_le}
 use Rattle.fid.specs.Fid.{decode_fid, same_fid, zero_fid}

@@ -13,7 +13,7 @@ use Rattle.fid.specs.declared.Fid.{Fid}
 use Rattle.layout.specs.Slot.{max_index}
 use Rattle.layout.specs.Layout.{accepted_layout}
 use Rattle.tables.specs.Bytes.{parent_size, object_size, layout_room, layout_length, layout_bytes, is_used, parent_rows, object_rows, self_fid, claimed_fid}
-use Rattle.tables.specs.Check.{all, when_used, good_layout, max_parents, max_objects, whole_rows, parents_whole, objects_whole, all_different, none_twice, is_mark, used_mark, fresh_mark, good_parent, good_index, good_claim, fresh_claims, good_object, is_row_of}
+use Rattle.tables.specs.Check.{all, when_used, good_layout, max_parents, max_objects, whole_rows, parents_whole, objects_whole, all_different, none_twice, is_mark, used_mark, fresh_mark, good_index, good_claim, fresh_claims, good_object, is_row_of}
 
 module _ (test : List ℕ → Bool) (row : List ℕ) where
   pub when_unused : is_used row ≡ false → true ≡ when_used test row

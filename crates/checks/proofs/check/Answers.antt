@@ -1,8 +1,6 @@
 use mathlib.Core.Path.{sym, ◌∙◌}
 use native.Mathlib.Omega.{arith}
-use borrow.Author.Tests.{not-true, not-false}
 use Rattle.tables.proofs.CheckLaws.{check_11, check_11_reserve, check_12, check_13, check_14, check_14_reserve, check_15, check_16, check_0, tables_sound}
-use borrow.Author.Rules.{rules}
 use Rattle.checks.proofs.check.Goals as goal
 
 pub returns-then-not-both_whole : goal.returns-then-not-both_whole

@@ -1,7 +1,5 @@
 use mathlib.Core.Path.{sym, ◌∙◌}
-use borrow.Author.Tests.{not-true, not-false}
 use Rattle.tables.proofs.CheckLaws.{tables_11, tables_13, tables_14, tables_15, tables_0}
-use borrow.Author.Rules.{rules}
 use Rattle.checks.proofs.check_tables.Goals as goal
 
 pub returns-then-not-both_whole : goal.returns-then-not-both_whole

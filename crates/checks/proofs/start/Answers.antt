@@ -1,6 +1,5 @@
 use native.Mathlib.Omega.{arith}
 use Rattle.tables.proofs.CheckLaws.{no_start, start_is}
-use borrow.Author.Rules.{rules}
 use Rattle.checks.proofs.start.Goals as goal
 
 pub returns-then-number-ne0 : goal.returns-then-number-ne0

@@ -1,6 +1,5 @@
 use native.Mathlib.Omega.{arith}
 use Rattle.tables.proofs.CheckLaws.{no_steps, steps_are, number_sound}
-use borrow.Author.Rules.{rules}
 use Rattle.checks.proofs.steps.Goals as goal
 
 pub returns-then-number-ne0 : goal.returns-then-number-ne0

@@ -1,5 +1,4 @@
 use Rattle.fid.specs.Fid.{good_file}
-use borrow.Author.Rules.{rules}
 use Rattle.fid.proofs.good_file.Goals as goal
 
 pub returns : goal.returns

@@ -1,5 +1,4 @@
 use Rattle.fid.specs.Fid.{good_object}
-use borrow.Author.Rules.{rules}
 use Rattle.fid.proofs.good_object.Goals as goal
 
 pub returns : goal.returns

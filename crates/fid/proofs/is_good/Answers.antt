@@ -1,7 +1,5 @@
 use mathlib.Core.Path.{sym, ◌∙◌}
-use borrow.Author.Tests.{not-true, not-false}
 use Rattle.fid.proofs.FidLaws.{good_bad, good_version}
-use borrow.Author.Rules.{rules}
 use Rattle.fid.proofs.is_good.Goals as goal
 
 pub returns-then-not-is_good_number : goal.returns-then-not-is_good_number

@@ -1,6 +1,5 @@
 use Rattle.wire.specs.Numbers.{big}
 use Rattle.fid.proofs.FidLaws.{fid_at_lem}
-use borrow.Author.Rules.{rules}
 use Rattle.fid.proofs.read_big.Goals as goal
 
 pub returns : goal.returns

@@ -1,5 +1,4 @@
 use Rattle.fid.proofs.FidLaws.{decode_at}
-use borrow.Author.Rules.{rules}
 use Rattle.fid.proofs.read_fid.Goals as goal
 
 pub returns : goal.returns

@@ -1,5 +1,4 @@
 use Rattle.intake_bytes.specs.Lent.{base_of}
-use borrow.Author.Rules.{rules}
 use Rattle.intake_bytes.proofs.base_of.Goals as goal
 
 pub returns-in-Lov : goal.returns-in-Lov

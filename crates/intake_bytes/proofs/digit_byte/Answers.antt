@@ -1,4 +1,3 @@
-use borrow.Author.Rules.{rules}
 use native.Mathlib.Omega.{arith}
 use Rattle.intake_bytes.proofs.StoreLaws.{stays_broken, no_digit, first_half_lem, stores, counts_on}
 use Rattle.intake_bytes.proofs.digit_byte.Goals as goal

@@ -1,8 +1,6 @@
 use native.Mathlib.Omega.{arith}
-use Prim.Native.Nat.{◌-◌}
 use mathlib.Core.Path.{refl}
-use lib.ListN.{length}
-use Rattle.intake_bytes.specs.Lent.{ValueFed, DigitsFed}
+use Rattle.intake_bytes.specs.Lent.{ValueFed}
 use Rattle.intake_bytes.proofs.FeedLaws.{digits_start, digits_step}
 use Rattle.intake_bytes.proofs.feed_digits.Goals as goal
 

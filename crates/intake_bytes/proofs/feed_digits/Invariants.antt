@@ -1,9 +1,6 @@
-use native.Mathlib.Omega.{arith}
 use Prim.Native.Nat.{◌-◌}
-use mathlib.Core.Path.{refl}
 use lib.ListN.{length}
-use Rattle.intake_bytes.specs.Lent.{ValueFed, DigitsFed}
-use Rattle.intake_bytes.proofs.FeedLaws.{digits_start, digits_step}
+use Rattle.intake_bytes.specs.Lent.{DigitsFed}
 use Rattle.intake_bytes.proofs.feed_digits.Given as goal
 
 abbrev pub invariant-loop-at : goal.invariant-loop-at

@@ -1,9 +1,4 @@
-use borrow.Author.Rules.{rules}
 use native.Mathlib.Omega.{arith}
-use Prim.Native.Nat.{◌-◌}
-use mathlib.Core.Path.{◌≡◌}
-use lib.ListN.{length}
-use Rattle.intake_bytes.specs.Lent.{DigitsFed}
 use Rattle.intake_bytes.proofs.FeedLaws.{digits_start, pair_step}
 use Rattle.intake_bytes.proofs.feed_pairs.Goals as goal
 

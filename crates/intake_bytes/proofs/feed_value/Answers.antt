@@ -1,4 +1,3 @@
-use borrow.Author.Rules.{rules}
 use Rattle.intake_bytes.proofs.FeedLaws.{digits_then}
 use Rattle.intake_bytes.proofs.feed_value.Goals as goal
 

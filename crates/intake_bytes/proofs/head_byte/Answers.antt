@@ -1,10 +1,9 @@
 use native.Mathlib.Omega.{arith}
 use Prim.Native.Nat.{ℕ, ◌+◌}
 use lib.ListN.{length, set, length-set}
-use mathlib.Core.Path.{◌≡◌, sym, ap, ◌∙◌}
+use mathlib.Core.Path.{◌≡◌, ap, ◌∙◌}
 use Rattle.intake_bytes.specs.Lent.{want_of, base_of}
 use Rattle.intake_bytes.proofs.HoldLaws.{head_step, full_step, want_fits}
-use borrow.Author.Rules.{rules}
 use Rattle.intake_bytes.proofs.head_byte.Goals as goal
 
 pub returns-then-seen-lt-HEAD_LAST : goal.returns-then-seen-lt-HEAD_LAST

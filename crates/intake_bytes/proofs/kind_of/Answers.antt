@@ -1,9 +1,7 @@
 use native.Mathlib.Omega.{arith}
-use borrow.Author.Tests.{not-true, not-false}
-use mathlib.Core.Path.{◌≡◌, sym, ◌∙◌}
+use mathlib.Core.Path.{sym, ◌∙◌}
 use Rattle.intake.specs.Says.{trusted_word, lov_word, fid_word, lma_word}
 use Rattle.intake_bytes.proofs.WordLaws.{starts_long, kind_not, kind_lov, kind_fid, kind_lma, kind_other, part_named}
-use borrow.Author.Rules.{rules}
 use Rattle.intake_bytes.proofs.kind_of.Goals as goal
 
 pub returns-then-not-starts : goal.returns-then-not-starts

@@ -1,7 +1,5 @@
-use mathlib.Core.Path.{◌≡◌, ◌∙◌}
 use mathlib.Core.Path.{refl}
 use Rattle.intake_bytes.proofs.WordLaws.{want_lov, want_fid, want_lma, want_other}
-use borrow.Author.Rules.{rules}
 use Rattle.intake_bytes.proofs.most_of.Goals as goal
 
 pub returns-in-Lov : goal.returns-in-Lov

@@ -1,8 +1,6 @@
-use borrow.Author.Tests.{not-true, not-false}
 use native.Mathlib.Omega.{arith}
-use mathlib.Core.Path.{◌≡◌, sym, ◌∙◌}
+use mathlib.Core.Path.{sym, ◌∙◌}
 use Rattle.intake_bytes.proofs.WordLaws.{named_not, named_end, named_equals, named_longer}
-use borrow.Author.Rules.{rules}
 use Rattle.intake_bytes.proofs.named.Goals as goal
 
 pub returns-then-not-starts : goal.returns-then-not-starts

@@ -1,9 +1,6 @@
 use native.Mathlib.Omega.{arith}
-use Prim.Native.Nat.{◌≤◌, ◌-◌}
-use mathlib.Core.Path.{◌≡◌, sym, ◌∙◌}
-use lib.ListN.{length}
-use Rattle.intake.specs.Says.{starts}
-use Rattle.intake_bytes.proofs.StartsLaws.{from, starts_short, starts_begin, starts_next, starts_not, starts_end}
+use mathlib.Core.Path.{sym, ◌∙◌}
+use Rattle.intake_bytes.proofs.StartsLaws.{starts_short, starts_begin, starts_next, starts_not, starts_end}
 use Rattle.intake_bytes.proofs.starts.Goals as goal
 
 pub returns-then-s-w : goal.returns-then-s-w

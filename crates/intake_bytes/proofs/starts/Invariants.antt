@@ -1,9 +1,8 @@
-use native.Mathlib.Omega.{arith}
 use Prim.Native.Nat.{◌≤◌, ◌-◌}
-use mathlib.Core.Path.{◌≡◌, sym, ◌∙◌}
+use mathlib.Core.Path.{◌≡◌}
 use lib.ListN.{length}
 use Rattle.intake.specs.Says.{starts}
-use Rattle.intake_bytes.proofs.StartsLaws.{from, starts_short, starts_begin, starts_next, starts_not, starts_end}
+use Rattle.intake_bytes.proofs.StartsLaws.{from}
 use Rattle.intake_bytes.proofs.starts.Given as goal
 
 abbrev pub invariant-loop-i : goal.invariant-loop-i

@@ -1,9 +1,7 @@
 use Rattle.layout.proofs.LayoutLaws.{area_long}
 use native.Mathlib.Omega.{arith}
 use mathlib.Core.Path.{sym, ◌∙◌}
-use borrow.Author.Tests.{not-true, not-false}
 use Rattle.layout.proofs.LayoutLaws.{accepted_length, accepted_header, accepted_many, accepted_slots, exact_long, exact_size}
-use borrow.Author.Rules.{rules}
 use Rattle.layout.proofs.accepted.Goals as goal
 
 pub returns-then-not-exact_length : goal.returns-then-not-exact_length

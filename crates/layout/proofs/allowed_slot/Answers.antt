@@ -1,8 +1,6 @@
 use mathlib.Core.Path.{ap, sym, ◌∙◌}
-use borrow.Author.Tests.{not-true, not-false}
 use Rattle.layout.specs.Slot.{allowed_slot}
 use Rattle.layout.proofs.SlotLaws.{allowed_bad, allowed_index}
-use borrow.Author.Rules.{rules}
 use Rattle.layout.proofs.allowed_slot.Goals as goal
 
 pub returns-then-not-good_object : goal.returns-then-not-good_object

@@ -1,10 +1,5 @@
 use native.Mathlib.Omega.{arith}
-use borrow.Author.Tests.{not-true, not-false}
-use borrow.Author.Rules.{rules}
-use mathlib.Core.Path.{◌≡◌}
-use Prim.Native.Nat.{◌-◌, ◌≤◌}
-use Rattle.layout.specs.Slot.{allowed_slots, decode_slots}
-use Rattle.layout.proofs.SlotLaws.{allowed_from, allowed_start, allowed_stop, allowed_next, allowed_end}
+use Rattle.layout.proofs.SlotLaws.{allowed_start, allowed_stop, allowed_next, allowed_end}
 use Rattle.layout.proofs.allowed_slots.Goals as goal
 
 pub loop-j-init : goal.loop-j-init

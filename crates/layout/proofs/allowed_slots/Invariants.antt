@@ -1,10 +1,7 @@
-use native.Mathlib.Omega.{arith}
-use borrow.Author.Tests.{not-true, not-false}
-use borrow.Author.Rules.{rules}
 use mathlib.Core.Path.{◌≡◌}
 use Prim.Native.Nat.{◌-◌, ◌≤◌}
 use Rattle.layout.specs.Slot.{allowed_slots, decode_slots}
-use Rattle.layout.proofs.SlotLaws.{allowed_from, allowed_start, allowed_stop, allowed_next, allowed_end}
+use Rattle.layout.proofs.SlotLaws.{allowed_from}
 use Rattle.layout.proofs.allowed_slots.Given as goal
 
 abbrev pub invariant-loop-j : goal.invariant-loop-j

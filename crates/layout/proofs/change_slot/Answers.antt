@@ -2,7 +2,6 @@ use mathlib.Core.Path.{sym, ◌∙◌}
 use native.Mathlib.Omega.{arith}
 use Rattle.wire.proofs.NumberLaws.{Bytes}
 use Rattle.layout.proofs.LayoutLaws.{exact_long, place_long, stays_spliced, spliced}
-use borrow.Author.Rules.{rules}
 use Rattle.layout.proofs.change_slot.Goals as goal
 
 pub returns-then-has_slot : goal.returns-then-has_slot

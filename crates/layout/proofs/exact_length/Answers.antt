@@ -1,6 +1,5 @@
 use native.Mathlib.Omega.{arith}
 use Rattle.layout.proofs.LayoutLaws.{exact_short, exact_is, start_most}
-use borrow.Author.Rules.{rules}
 use Rattle.layout.proofs.exact_length.Goals as goal
 
 pub returns-then-layout-lt-PLAIN_HEADER : goal.returns-then-layout-lt-PLAIN_HEADER

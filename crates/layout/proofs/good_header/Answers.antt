@@ -1,7 +1,5 @@
 use mathlib.Core.Path.{sym, ◌∙◌}
-use borrow.Author.Tests.{not-true, not-false}
 use Rattle.layout.proofs.HeaderLaws.{unknown_version, unknown_pattern, then_stripe}
-use borrow.Author.Rules.{rules}
 use Rattle.layout.proofs.good_header.Goals as goal
 
 pub returns-then-not-known_version : goal.returns-then-not-known_version

@@ -1,7 +1,6 @@
 use native.Mathlib.Omega.{arith}
 use mathlib.Core.Path.{refl}
 use Rattle.layout.proofs.LayoutLaws.{exact_size, exact_long, area_long, has_slot_is}
-use borrow.Author.Rules.{rules}
 use Rattle.layout.proofs.has_slot.Goals as goal
 
 pub slot_start-start-requires : goal.slot_start-start-requires

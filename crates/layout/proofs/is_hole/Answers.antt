@@ -2,7 +2,6 @@ use mathlib.Core.Path.{ap, sym}
 use Rattle.layout.specs.Slot.{same_slot}
 use Rattle.layout.specs.declared.Slot.{Slot}
 use Rattle.layout.specs.declared.Slot.TheVariants.{Hole}
-use borrow.Author.Rules.{rules}
 use Rattle.layout.proofs.is_hole.Goals as goal
 
 pub returns-in-Hole : goal.returns-in-Hole

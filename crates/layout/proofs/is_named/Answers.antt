@@ -1,11 +1,9 @@
 use mathlib.Core.Path.{ap, sym, ◌∙◌}
 use native.Mathlib.Omega.{arith}
-use borrow.Author.Tests.{not-true, not-false}
 use Rattle.layout.specs.Slot.{same_slot}
 use Rattle.layout.specs.declared.Slot.{Slot}
 use Rattle.layout.specs.declared.Slot.TheVariants.{Names}
 use Rattle.layout.proofs.StripeLaws.{named_fid, named_generation, named_index}
-use borrow.Author.Rules.{rules}
 use Rattle.layout.proofs.is_named.Goals as goal
 
 pub returns-then-not-same_ost : goal.returns-then-not-same_ost

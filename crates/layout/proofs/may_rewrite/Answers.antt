@@ -1,7 +1,5 @@
 use mathlib.Core.Path.{sym, ◌∙◌}
-use borrow.Author.Tests.{not-true, not-false}
 use Rattle.layout.proofs.LayoutLaws.{may_bad, may_slot, accepted_long}
-use borrow.Author.Rules.{rules}
 use Rattle.layout.proofs.may_rewrite.Goals as goal
 
 pub returns-then-not-accepted : goal.returns-then-not-accepted

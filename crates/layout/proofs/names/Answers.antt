@@ -1,6 +1,5 @@
 use mathlib.Core.Path.{ap, sym, ◌∙◌}
 use Rattle.layout.specs.Slot.{slot_names}
-use borrow.Author.Rules.{rules}
 use Rattle.layout.proofs.names.Goals as goal
 
 pub returns-in-Hole : goal.returns-in-Hole

@@ -1,5 +1,4 @@
 use Rattle.layout.proofs.StripeLaws.{next_last, next_more}
-use borrow.Author.Rules.{rules}
 use Rattle.layout.proofs.next_generation.Goals as goal
 
 pub returns-then-g-eq-LAST_GENERATION : goal.returns-then-g-eq-LAST_GENERATION

@@ -8,7 +8,6 @@ use Rattle.wire.proofs.Splice.{put_sets}
 use Rattle.layout.specs.Slot.{slot_size, encode_slot}
 use Rattle.layout.proofs.SlotLaws.{length_slot}
 use Rattle.layout.proofs.LayoutLaws.{exact_size, exact_long}
-use borrow.Author.Rules.{rules}
 use Rattle.layout.proofs.place_slot.Goals as goal
 
 pub slot_start-start-requires : goal.slot_start-start-requires

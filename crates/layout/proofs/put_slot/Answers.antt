@@ -1,5 +1,4 @@
 use Rattle.layout.proofs.SlotLaws.{put_hole, put_names}
-use borrow.Author.Rules.{rules}
 use Rattle.layout.proofs.put_slot.Goals as goal
 
 pub returns-in-Hole : goal.returns-in-Hole

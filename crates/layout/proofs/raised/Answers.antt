@@ -1,5 +1,4 @@
 use Rattle.layout.proofs.StripeLaws.{raised_is}
-use borrow.Author.Rules.{rules}
 use Rattle.layout.proofs.raised.Goals as goal
 
 pub returns : goal.returns

@@ -1,8 +1,6 @@
 use native.Mathlib.Omega.{arith}
 use mathlib.Core.Path.{sym, ◌∙◌}
-use borrow.Author.Tests.{not-true, not-false}
 use Rattle.layout.proofs.LayoutLaws.{read_refused, read_accepted, accepted_long}
-use borrow.Author.Rules.{rules}
 use Rattle.layout.proofs.read.Goals as goal
 
 pub returns-then-not-accepted : goal.returns-then-not-accepted

@@ -1,5 +1,4 @@
 use Rattle.layout.proofs.HeaderLaws.{header_at}
-use borrow.Author.Rules.{rules}
 use Rattle.layout.proofs.read_header.Goals as goal
 
 pub returns : goal.returns

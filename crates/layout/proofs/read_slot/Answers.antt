@@ -1,8 +1,6 @@
 use native.Mathlib.Omega.{arith}
 use mathlib.Core.Path.{sym, ◌∙◌}
-use borrow.Author.Tests.{not-true, not-false}
 use Rattle.layout.proofs.LayoutLaws.{slot_bad, slot_past, slot_is, accepted_exact, accepted_long, accepted_size, area_long}
-use borrow.Author.Rules.{rules}
 use Rattle.layout.proofs.read_slot.Goals as goal
 
 pub returns-then-not-accepted : goal.returns-then-not-accepted

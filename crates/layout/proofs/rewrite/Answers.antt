@@ -1,8 +1,6 @@
 use native.Mathlib.Omega.{arith}
 use mathlib.Core.Path.{sym, ◌∙◌}
-use borrow.Author.Tests.{not-true, not-false}
 use Rattle.layout.proofs.LayoutLaws.{rewrite_bad, rewrite_past, rewrite_done, may_accepted, accepted_exact, accepted_long}
-use borrow.Author.Rules.{rules}
 use Rattle.layout.proofs.rewrite.Goals as goal
 
 pub returns-then-not-may_rewrite : goal.returns-then-not-may_rewrite

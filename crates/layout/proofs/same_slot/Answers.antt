@@ -1,6 +1,5 @@
 use mathlib.Core.Path.{ap, sym, ◌∙◌}
 use Rattle.layout.specs.Slot.{same_slot}
-use borrow.Author.Rules.{rules}
 use Rattle.layout.proofs.same_slot.Goals as goal
 
 pub returns-in-Hole : goal.returns-in-Hole

@@ -1,6 +1,5 @@
 use mathlib.Core.Path.{sym, ◌∙◌}
 use Rattle.layout.proofs.SlotLaws.{slot_hole, slot_names_lem}
-use borrow.Author.Rules.{rules}
 use Rattle.layout.proofs.slot_at.Goals as goal
 
 pub returns-then-is_zero_slot : goal.returns-then-is_zero_slot

@@ -1,6 +1,5 @@
 use mathlib.Core.Path.{ap, ◌∙◌}
 use Rattle.layout.specs.Layout.{slot_start, header_size}
-use borrow.Author.Rules.{rules}
 use Rattle.layout.proofs.slot_start.Goals as goal
 
 pub returns : goal.returns

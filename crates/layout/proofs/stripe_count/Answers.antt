@@ -1,5 +1,4 @@
 use Rattle.layout.specs.Layout.{stripe_count}
-use borrow.Author.Rules.{rules}
 use Rattle.layout.proofs.stripe_count.Goals as goal
 
 pub returns : goal.returns

@@ -1,5 +1,4 @@
 use Rattle.layout.proofs.HeaderLaws.{header_stores}
-use borrow.Author.Rules.{rules}
 use Rattle.layout.proofs.write_header.Goals as goal
 
 pub returns : goal.returns

@@ -1,5 +1,4 @@
 use Rattle.layout_write.proofs.GivenLaws.{given_none, given_test}
-use borrow.Author.Rules.{rules}
 use Rattle.layout_write.proofs.allowed_given.Goals as goal
 
 pub returns-in-NotSlot : goal.returns-in-NotSlot

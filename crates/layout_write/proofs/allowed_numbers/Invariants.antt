@@ -1,12 +1,9 @@
-use native.Mathlib.Omega.{arith}
-use borrow.Author.Tests.{not-true, not-false}
-use borrow.Author.Rules.{rules}
 use mathlib.Core.Path.{◌≡◌}
 use mathlib.Core.Bool.{◌&&◌}
 use Prim.Native.Nat.{◌-◌, ◌≤◌}
 use Rattle.layout.specs.Slot.{allowed_slots}
 use Rattle.layout_write.specs.Writer.{all_given, given_slots}
-use Rattle.layout_write.proofs.GivenLaws.{given_from_on, given_start, given_stop, given_next, given_end}
+use Rattle.layout_write.proofs.GivenLaws.{given_from_on}
 use Rattle.layout_write.proofs.allowed_numbers.Given as goal
 
 abbrev pub invariant-loop-j : goal.invariant-loop-j

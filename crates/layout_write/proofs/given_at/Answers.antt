@@ -1,5 +1,4 @@
 use Rattle.layout_write.specs.Writer.{given_at}
-use borrow.Author.Rules.{rules}
 use Rattle.layout_write.proofs.given_at.Goals as goal
 
 pub returns : goal.returns

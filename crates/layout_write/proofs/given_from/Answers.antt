@@ -1,7 +1,6 @@
 use native.Mathlib.Omega.{arith}
 use mathlib.Core.Path.{sym, ◌∙◌}
 use Rattle.layout_write.proofs.GivenLaws.{given_hole, not_kind, not_id, not_age, not_index, given_names}
-use borrow.Author.Rules.{rules}
 use Rattle.layout_write.proofs.given_from.Goals as goal
 
 pub returns-then-is_zero_given : goal.returns-then-is_zero_given

@@ -1,9 +1,7 @@
 use native.Mathlib.Omega.{arith}
 use mathlib.Core.Path.{sym, ◌∙◌}
-use borrow.Author.Tests.{not-true, not-false}
 use Rattle.layout.proofs.HeaderLaws.{size_least}
 use Rattle.layout_write.proofs.WriteLaws.{write_many, write_uneven, write_pool, write_header, write_slots}
-use borrow.Author.Rules.{rules}
 use Rattle.layout_write.proofs.may_write.Goals as goal
 
 pub returns-then-count-gt-MAX_SLOTS : goal.returns-then-count-gt-MAX_SLOTS

@@ -1,6 +1,5 @@
 use mathlib.Core.Path.{sym, ◌∙◌}
 use Rattle.layout_write.proofs.GivenLaws.{given_put_none, given_put}
-use borrow.Author.Rules.{rules}
 use Rattle.layout_write.proofs.put_given.Goals as goal
 
 pub returns-in-NotSlot : goal.returns-in-NotSlot

@@ -1,9 +1,7 @@
 use native.Mathlib.Omega.{arith}
 use mathlib.Core.Path.{sym, ◌∙◌}
-use borrow.Author.Tests.{not-true, not-false}
 use Rattle.layout.proofs.HeaderLaws.{size_known}
 use Rattle.layout_write.proofs.WriteLaws.{write_facts, write_bad, write_short, write_done}
-use borrow.Author.Rules.{rules}
 use Rattle.layout_write.proofs.write.Goals as goal
 
 pub returns-then-not-may_write : goal.returns-then-not-may_write

@@ -1,9 +1,7 @@
 use native.Mathlib.Omega.{arith}
 use borrow.Author.Rules.{rules}
-use mathlib.Core.Path.{◌≡◌, refl}
-use Prim.Native.Nat.{◌-◌, ◌≤◌}
-use lib.ListN.{length}
-use Rattle.layout_write.proofs.WriteLaws.{slots_done, slots_start, slots_step, slots_length, slots_end}
+use mathlib.Core.Path.{refl}
+use Rattle.layout_write.proofs.WriteLaws.{slots_start, slots_step, slots_length, slots_end}
 use Rattle.layout_write.proofs.write_slots.Goals as goal
 
 pub loop-j-init : goal.loop-j-init

@@ -1,9 +1,7 @@
-use native.Mathlib.Omega.{arith}
-use borrow.Author.Rules.{rules}
-use mathlib.Core.Path.{◌≡◌, refl}
+use mathlib.Core.Path.{◌≡◌}
 use Prim.Native.Nat.{◌-◌, ◌≤◌}
 use lib.ListN.{length}
-use Rattle.layout_write.proofs.WriteLaws.{slots_done, slots_start, slots_step, slots_length, slots_end}
+use Rattle.layout_write.proofs.WriteLaws.{slots_done}
 use Rattle.layout_write.proofs.write_slots.Given as goal
 
 abbrev pub invariant-loop-j : goal.invariant-loop-j

@@ -1,9 +1,5 @@
 use native.Mathlib.Omega.{arith}
-use borrow.Author.Rules.{rules}
-use mathlib.Core.Path.{◌≡◌, refl, sym, ◌∙◌}
-use Prim.Native.Nat.{◌-◌, ◌≤◌}
-use lib.ListN.{length, drop}
-use Rattle.linkea.specs.Conditions.{some, bad_byte}
+use mathlib.Core.Path.{refl, sym, ◌∙◌}
 use Rattle.linkea.proofs.RecordLaws.{bad_here, bad_next, bad_none}
 use Rattle.linkea.proofs.bad_bytes.Goals as goal
 

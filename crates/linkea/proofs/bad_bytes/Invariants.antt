@@ -1,10 +1,7 @@
-use native.Mathlib.Omega.{arith}
-use borrow.Author.Rules.{rules}
-use mathlib.Core.Path.{◌≡◌, refl, sym, ◌∙◌}
+use mathlib.Core.Path.{◌≡◌}
 use Prim.Native.Nat.{◌-◌, ◌≤◌}
 use lib.ListN.{length, drop}
 use Rattle.linkea.specs.Conditions.{some, bad_byte}
-use Rattle.linkea.proofs.RecordLaws.{bad_here, bad_next, bad_none}
 use Rattle.linkea.proofs.bad_bytes.Given as goal
 
 abbrev pub invariant-loop-i : goal.invariant-loop-i

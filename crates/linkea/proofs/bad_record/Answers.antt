@@ -1,5 +1,4 @@
 use native.Mathlib.Omega.{arith}
-use borrow.Author.Rules.{rules}
 use mathlib.Core.Path.{◌∙◌}
 use Rattle.linkea.proofs.RecordLaws.{length_read, is_cut, is_short, is_past, is_name}
 use Rattle.linkea.proofs.bad_record.Goals as goal

@@ -1,9 +1,8 @@
 use native.Mathlib.Omega.{arith}
-use mathlib.Core.Path.{◌≡◌, sym, ap, subst, ◌∙◌}
+use mathlib.Core.Path.{sym, ap, subst, ◌∙◌}
 use mathlib.Core.List.{List}
-use Prim.Native.Nat.{ℕ, ◌+◌, ◌-◌}
+use Prim.Native.Nat.{ℕ, ◌+◌}
 use lib.Dec.{eqb}
-use Rattle.linkea.specs.Link.{places}
 use Rattle.linkea.specs.Conditions.{some}
 use Rattle.linkea.proofs.PlaceLaws.{from, places_from_lem, no_place, AllGood, GoodRecord, good_record, good_here, good_on, pass_by, arrive}
 use Rattle.linkea.proofs.RecordLaws.{length_read, good_link}

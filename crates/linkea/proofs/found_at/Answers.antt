@@ -1,5 +1,4 @@
 use native.Mathlib.Omega.{arith}
-use borrow.Author.Rules.{rules}
 use Rattle.linkea.proofs.PlaceLaws.{good_record}
 use Rattle.linkea.proofs.RecordLaws.{length_read, found_is}
 use Rattle.linkea.proofs.found_at.Goals as goal

@@ -1,8 +1,6 @@
 use native.Mathlib.Omega.{arith}
-use mathlib.Core.Path.{◌≡◌, refl, sym, ap, ◌∙◌}
-use Prim.Native.Nat.{ℕ, ◌+◌, ◌-◌, ◌≤◌}
-use lib.ListN.{length}
-use Rattle.linkea.specs.Link.{link_header}
+use mathlib.Core.Path.{refl, sym, ap, ◌∙◌}
+use Prim.Native.Nat.{ℕ, ◌+◌}
 use Rattle.linkea.proofs.PlaceLaws.{GoodRecord, good_record, good_from, good_start, good_stop_lem, good_next, good_end}
 use Rattle.linkea.proofs.RecordLaws.{length_read}
 use Rattle.linkea.proofs.good_records.Goals as goal

@@ -1,10 +1,8 @@
-use native.Mathlib.Omega.{arith}
-use mathlib.Core.Path.{◌≡◌, refl, sym, ap, ◌∙◌}
-use Prim.Native.Nat.{ℕ, ◌+◌, ◌-◌, ◌≤◌}
+use mathlib.Core.Path.{◌≡◌}
+use Prim.Native.Nat.{◌-◌, ◌≤◌}
 use lib.ListN.{length}
 use Rattle.linkea.specs.Link.{link_header}
-use Rattle.linkea.proofs.PlaceLaws.{GoodRecord, good_record, good_from, good_start, good_stop_lem, good_next, good_end}
-use Rattle.linkea.proofs.RecordLaws.{length_read}
+use Rattle.linkea.proofs.PlaceLaws.{good_from}
 use Rattle.linkea.proofs.good_records.Given as goal
 
 abbrev pub invariant-loop-at : goal.invariant-loop-at

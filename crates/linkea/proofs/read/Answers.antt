@@ -1,5 +1,4 @@
 use native.Mathlib.Omega.{arith}
-use borrow.Author.Rules.{rules}
 use mathlib.Core.Path.{sym, ap, ◌∙◌}
 use Rattle.linkea.specs.declared.LinkHeader.{LinkHeader}
 use Rattle.linkea.specs.declared.Reading.TheVariants.{Accepted}

@@ -1,4 +1,3 @@
-use borrow.Author.Rules.{rules}
 use Rattle.linkea.specs.Link.{decode_link_header}
 use Rattle.linkea.proofs.read_header.Goals as goal
 

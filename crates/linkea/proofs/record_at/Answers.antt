@@ -1,5 +1,3 @@
-use borrow.Author.Rules.{rules}
-use borrow.Author.Tests.{not-true, not-false}
 use mathlib.Core.Path.{sym, ap, ◌∙◌}
 use Rattle.linkea.specs.declared.Found.{Found}
 use Rattle.linkea.specs.declared.RecordRead.TheVariants.{RecordIs}

@@ -1,5 +1,4 @@
 use native.Mathlib.Omega.{arith}
-use borrow.Author.Rules.{rules}
 use mathlib.Core.Path.{sym, ap, ◌∙◌}
 use Rattle.linkea.proofs.RecordLaws.{step_header, step_end, step_bad, step_record}
 use Rattle.linkea.specs.declared.Found.{Found}

@@ -1,6 +1,5 @@
 use native.Mathlib.Omega.{arith}
 use mathlib.Core.Path.{sym, ◌∙◌}
-use borrow.Author.Rules.{rules}
 use Rattle.linkea_write.proofs.GivenLaws.{bad_parent, bad_empty, bad_long, bad_outside, bad_name_lem}
 use Rattle.linkea_write.proofs.bad_given.Goals as goal
 

@@ -1,9 +1,5 @@
 use native.Mathlib.Omega.{arith}
-use mathlib.Core.Path.{◌≡◌}
-use Prim.Native.Nat.{◌-◌, ◌≤◌}
-use Rattle.linkea.specs.Conditions.{some}
-use Rattle.linkea_write.specs.Writer.{upward, bad_given}
-use Rattle.linkea_write.proofs.GivenLaws.{bad_from, bad_start, bad_stop, bad_next, bad_end}
+use Rattle.linkea_write.proofs.GivenLaws.{bad_start, bad_stop, bad_next, bad_end}
 use Rattle.linkea_write.proofs.good_given.Goals as goal
 
 pub loop-j-init : goal.loop-j-init

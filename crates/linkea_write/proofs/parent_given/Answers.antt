@@ -1,5 +1,4 @@
 use native.Mathlib.Omega.{arith}
-use borrow.Author.Rules.{rules}
 use Rattle.linkea_write.proofs.GivenLaws.{parent_fits, parent_is}
 use Rattle.linkea_write.proofs.parent_given.Goals as goal
 

@@ -1,5 +1,4 @@
 use native.Mathlib.Omega.{arith}
-use borrow.Author.Rules.{rules}
 use Rattle.linkea_write.specs.Writer.{size_given, number_of}
 use Rattle.linkea_write.proofs.GivenLaws.{taken_facts}
 use Rattle.linkea_write.proofs.WriteLaws.{record_stores}

@@ -1,7 +1,6 @@
 use native.Mathlib.Omega.{arith}
 use mathlib.Core.Path.{sym, ◌∙◌}
 use borrow.Author.Tests.{not-true, not-false}
-use borrow.Author.Rules.{rules}
 use Rattle.linkea_write.proofs.GivenLaws.{none_long}
 use Rattle.linkea_write.proofs.WriteLaws.{refused_count, refused_bad, refused_total}
 use Rattle.linkea_write.proofs.refused_given.Goals as goal

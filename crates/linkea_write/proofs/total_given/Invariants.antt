@@ -1,9 +1,7 @@
-use native.Mathlib.Omega.{arith}
 use mathlib.Core.Path.{◌≡◌}
 use Prim.Native.Nat.{◌+◌, ◌*◌, ◌-◌, ◌≤◌}
 use Rattle.linkea.specs.Link.{link_header}
 use Rattle.linkea_write.specs.Writer.{bytes_given, longest_record}
-use Rattle.linkea_write.proofs.GivenLaws.{bytes_start, bytes_step, bytes_end, long_at}
 use Rattle.linkea_write.proofs.total_given.Given as goal
 
 abbrev pub invariant-loop-j : goal.invariant-loop-j

@@ -1,5 +1,4 @@
 use native.Mathlib.Omega.{arith}
-use borrow.Author.Rules.{rules}
 use Rattle.linkea_write.proofs.GivenLaws.{wide_id, wide_version}
 use Rattle.linkea_write.proofs.wide_parent.Goals as goal
 

@@ -1,6 +1,5 @@
 use native.Mathlib.Omega.{arith}
 use mathlib.Core.Path.{sym, ◌∙◌}
-use borrow.Author.Rules.{rules}
 use Rattle.linkea_write.proofs.WriteLaws.{write_facts, write_bad, write_short, write_done}
 use Rattle.linkea_write.proofs.write.Goals as goal
 

@@ -1,5 +1,4 @@
 use Rattle.linkea_write.proofs.LinkLaws.{header_stores}
-use borrow.Author.Rules.{rules}
 use Rattle.linkea_write.proofs.write_header.Goals as goal
 
 pub returns : goal.returns

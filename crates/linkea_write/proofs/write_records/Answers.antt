@@ -1,11 +1,10 @@
 use native.Mathlib.Omega.{arith}
-use mathlib.Core.Path.{◌≡◌, refl}
-use Prim.Native.Nat.{◌+◌, ◌-◌, ◌≤◌}
-use lib.ListN.{length}
-use Rattle.linkea.specs.Link.{link_header, name_at}
-use Rattle.linkea_write.specs.Writer.{bytes_given, size_given, number_of}
+use mathlib.Core.Path.{refl}
+use Prim.Native.Nat.{◌+◌}
+use Rattle.linkea.specs.Link.{name_at}
+use Rattle.linkea_write.specs.Writer.{size_given, number_of}
 use Rattle.linkea_write.proofs.GivenLaws.{size_of, none_of, none_first, bytes_start, bytes_step, bytes_inside}
-use Rattle.linkea_write.proofs.WriteLaws.{records_done, records_start, records_step, records_length, records_end, part_long}
+use Rattle.linkea_write.proofs.WriteLaws.{records_start, records_step, records_length, records_end, part_long}
 use Rattle.linkea_write.proofs.write_records.Goals as goal
 
 pub loop-j-init : goal.loop-j-init

@@ -1,11 +1,9 @@
-use native.Mathlib.Omega.{arith}
-use mathlib.Core.Path.{◌≡◌, refl}
+use mathlib.Core.Path.{◌≡◌}
 use Prim.Native.Nat.{◌+◌, ◌-◌, ◌≤◌}
 use lib.ListN.{length}
-use Rattle.linkea.specs.Link.{link_header, name_at}
-use Rattle.linkea_write.specs.Writer.{bytes_given, size_given, number_of}
-use Rattle.linkea_write.proofs.GivenLaws.{size_of, none_of, none_first, bytes_start, bytes_step, bytes_inside}
-use Rattle.linkea_write.proofs.WriteLaws.{records_done, records_start, records_step, records_length, records_end, part_long}
+use Rattle.linkea.specs.Link.{link_header}
+use Rattle.linkea_write.specs.Writer.{bytes_given}
+use Rattle.linkea_write.proofs.WriteLaws.{records_done}
 use Rattle.linkea_write.proofs.write_records.Given as goal
 
 abbrev pub invariant-loop-j : goal.invariant-loop-j

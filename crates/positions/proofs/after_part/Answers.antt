@@ -3,7 +3,6 @@ use native.Mathlib.Omega.{arith}
 use Rattle.tables.specs.Bytes.{parse}
 use Rattle.tables.specs.Positions.{place}
 use Rattle.tables.proofs.PositionLaws.{part_past, part_next}
-use borrow.Author.Rules.{rules}
 use Rattle.positions.proofs.after_part.Goals as goal
 
 pub returns-then-width-part : goal.returns-then-width-part

@@ -1,7 +1,5 @@
-use native.Mathlib.Omega.{arith}
 use Rattle.tables.proofs.PositionLaws.{count_is}
 use Rattle.tables.proofs.SoundLaws.{sound_facts}
-use borrow.Author.Rules.{rules}
 use Rattle.positions.proofs.count_steps.Goals as goal
 
 pub row_steps-requires : goal.row_steps-requires

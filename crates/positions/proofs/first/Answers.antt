@@ -1,5 +1,4 @@
 use Rattle.tables.specs.Positions.{start}
-use borrow.Author.Rules.{rules}
 use Rattle.positions.proofs.first.Goals as goal
 
 pub returns : goal.returns

@@ -2,7 +2,6 @@ use mathlib.Core.Path.{◌∙◌}
 use native.Mathlib.Omega.{arith}
 use Rattle.tables.specs.Positions.{place}
 use Rattle.tables.proofs.PositionLaws.{object_past, object_is_lem}
-use borrow.Author.Rules.{rules}
 use Rattle.positions.proofs.from_object.Goals as goal
 
 pub returns-then-object_count-o : goal.returns-then-object_count-o

@@ -2,7 +2,6 @@ use mathlib.Core.Path.{◌∙◌}
 use native.Mathlib.Omega.{arith}
 use Rattle.tables.specs.Positions.{place}
 use Rattle.tables.proofs.PositionLaws.{parent_past, parent_is}
-use borrow.Author.Rules.{rules}
 use Rattle.positions.proofs.from_parent.Goals as goal
 
 pub returns-then-parent_count-r : goal.returns-then-parent_count-r

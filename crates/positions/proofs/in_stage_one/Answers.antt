@@ -1,6 +1,5 @@
 use native.Mathlib.Omega.{arith}
 use Rattle.tables.proofs.PositionLaws.{one_past, one_part}
-use borrow.Author.Rules.{rules}
 use Rattle.positions.proofs.in_stage_one.Goals as goal
 
 pub returns-then-parent_count-r : goal.returns-then-parent_count-r

@@ -1,6 +1,5 @@
 use native.Mathlib.Omega.{arith}
 use Rattle.tables.proofs.PositionLaws.{two_past, two_part}
-use borrow.Author.Rules.{rules}
 use Rattle.positions.proofs.in_stage_two.Goals as goal
 
 pub returns-then-object_count-row : goal.returns-then-object_count-row

@@ -3,7 +3,6 @@ use native.Mathlib.Omega.{arith}
 use Rattle.tables.specs.Bytes.{parse}
 use Rattle.tables.proofs.PositionLaws.{position_one, position_two, position_end}
 use Rattle.tables.proofs.SoundLaws.{sound_facts}
-use borrow.Author.Rules.{rules}
 use Rattle.positions.proofs.is_position.Goals as goal
 
 pub in_stage_one-requires : goal.in_stage_one-requires

@@ -3,7 +3,6 @@ use native.Mathlib.Omega.{arith}
 use Rattle.tables.specs.Bytes.{parse}
 use Rattle.tables.proofs.PositionLaws.{one_row, two_row, position_one, position_two, next_one, next_two, next_end}
 use Rattle.tables.proofs.SoundLaws.{sound_facts}
-use borrow.Author.Rules.{rules}
 use Rattle.positions.proofs.next_position.Goals as goal
 
 pub after_part-requires : goal.after_part-requires

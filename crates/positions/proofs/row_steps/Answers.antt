@@ -1,9 +1,5 @@
-use Prim.Native.Nat.{◌+◌, ◌-◌, ◌*◌, ◌≤◌}
-use mathlib.Core.Path.{◌≡◌}
 use native.Mathlib.Omega.{arith}
-use Rattle.tables.specs.Bytes.{parse_parents}
-use Rattle.tables.specs.Positions.{row_steps}
-use Rattle.tables.proofs.PositionLaws.{steps_from, steps_start, steps_end, steps_step}
+use Rattle.tables.proofs.PositionLaws.{steps_start, steps_end, steps_step}
 use Rattle.tables.proofs.SoundLaws.{layout_at_lem}
 use Rattle.positions.proofs.row_steps.Goals as goal
 

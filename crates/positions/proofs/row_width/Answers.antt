@@ -1,10 +1,8 @@
 use mathlib.Core.Path.{sym, ap, ◌∙◌}
 use native.Mathlib.Omega.{arith}
-use borrow.Author.Tests.{not-true, not-false}
 use Rattle.layout.specs.Layout.{stripe_count}
 use Rattle.tables.proofs.PositionLaws.{slots_unused, slots_used}
 use Rattle.tables.proofs.SoundLaws.{LayoutOf, layout_of_row}
-use borrow.Author.Rules.{rules}
 use Rattle.positions.proofs.row_width.Goals as goal
 use Rattle.positions.proofs.row_width.Goals.{Else-not-is_used}
 

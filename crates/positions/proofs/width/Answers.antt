@@ -1,4 +1,3 @@
-use native.Mathlib.Omega.{arith}
 use Rattle.tables.proofs.PositionLaws.{parsed_width}
 use Rattle.tables.proofs.SoundLaws.{layout_at_lem}
 use Rattle.positions.proofs.width.Goals as goal

@@ -1,4 +1,3 @@
-use borrow.Author.Rules.{rules}
 use native.Mathlib.Omega.{arith}
 use Rattle.wire.proofs.OrderLaws.{number_two_halves}
 use Rattle.wire.proofs.be64.Goals as goal

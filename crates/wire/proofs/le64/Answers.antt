@@ -1,4 +1,3 @@
-use borrow.Author.Rules.{rules}
 use native.Mathlib.Omega.{arith}
 use Rattle.wire.proofs.NumberLaws.{le_twice}
 use Rattle.wire.proofs.le64.Goals as goal

@@ -1,4 +1,3 @@
-use borrow.Author.Rules.{rules}
 use Rattle.wire.proofs.OrderLaws.{number_two_stores}
 use Rattle.wire.proofs.put_be32.Goals as goal
 

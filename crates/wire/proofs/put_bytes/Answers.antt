@@ -1,8 +1,7 @@
 use native.Mathlib.Omega.{arith}
-use mathlib.Core.Path.{◌≡◌, refl}
-use Prim.Native.Nat.{◌-◌, ◌≤◌}
-use lib.ListN.{length, length-set}
-use Rattle.wire.proofs.Splice.{stored, stored_none, stored_next, stored_all_lem}
+use mathlib.Core.Path.{refl}
+use lib.ListN.{length-set}
+use Rattle.wire.proofs.Splice.{stored_none, stored_next, stored_all_lem}
 use Rattle.wire.proofs.put_bytes.Goals as goal
 
 pub loop-i-init : goal.loop-i-init

@@ -1,8 +1,7 @@
-use native.Mathlib.Omega.{arith}
-use mathlib.Core.Path.{◌≡◌, refl}
+use mathlib.Core.Path.{◌≡◌}
 use Prim.Native.Nat.{◌-◌, ◌≤◌}
-use lib.ListN.{length, length-set}
-use Rattle.wire.proofs.Splice.{stored, stored_none, stored_next, stored_all_lem}
+use lib.ListN.{length}
+use Rattle.wire.proofs.Splice.{stored}
 use Rattle.wire.proofs.put_bytes.Given as goal
 
 abbrev pub invariant-loop-i : goal.invariant-loop-i

@@ -1,4 +1,3 @@
-use borrow.Author.Rules.{rules}
 use Rattle.wire.proofs.NumberLaws.{put_twice}
 use Rattle.wire.proofs.put_le64.Goals as goal
 

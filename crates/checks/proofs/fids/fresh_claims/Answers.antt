@@ -2,7 +2,6 @@ use mathlib.Core.Path.{ap, ◌∙◌}
 use native.Mathlib.Omega.{arith}
 use mathlib.Core.Bool.{not}
 use Rattle.tables.proofs.TestLaws.{fresh_not, fresh_is}
-use borrow.Author.Rules.{rules}
 use Rattle.checks.proofs.fids.fresh_claims.Goals as goal
 
 pub returns-then-row-ne1 : goal.returns-then-row-ne1

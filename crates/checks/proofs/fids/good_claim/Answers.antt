@@ -1,6 +1,5 @@
 use mathlib.Core.Path.{sym, ◌∙◌}
 use Rattle.tables.proofs.TestLaws.{claim_zero, claim_number}
-use borrow.Author.Rules.{rules}
 use Rattle.checks.proofs.fids.good_claim.Goals as goal
 
 pub returns-then-is_zero : goal.returns-then-is_zero

@@ -1,10 +1,8 @@
 use mathlib.Core.Path.{sym, ap, ◌∙◌}
 use native.Mathlib.Omega.{arith}
-use borrow.Author.Tests.{not-true, not-false}
 use Rattle.tables.proofs.TestLaws.{when_unused, when_used_lem, object_self, object_index, object_claim, object_fresh}
 use Rattle.fid.specs.Fid.{good_fid, good_object as good_object_fid}
 use Rattle.tables.specs.Check.{good_object}
-use borrow.Author.Rules.{rules}
 use Rattle.checks.proofs.fids.good_object.Goals as goal
 
 pub returns-then-not-is_used : goal.returns-then-not-is_used

@@ -1,9 +1,7 @@
 use mathlib.Core.Path.{sym, ap, ◌∙◌}
-use borrow.Author.Tests.{not-true, not-false}
 use Rattle.tables.proofs.TestLaws.{when_unused, when_used_lem}
 use Rattle.fid.specs.Fid.{good_fid, good_file}
 use Rattle.tables.specs.Check.{good_parent}
-use borrow.Author.Rules.{rules}
 use Rattle.checks.proofs.fids.good_parent.Goals as goal
 
 pub returns-then-not-is_used : goal.returns-then-not-is_used

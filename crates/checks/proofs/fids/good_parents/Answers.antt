@@ -1,10 +1,8 @@
-use Prim.Native.Nat.{◌-◌, ◌≤◌}
-use mathlib.Core.Path.{◌≡◌, sym, ◌∙◌}
+use mathlib.Core.Path.{sym, ◌∙◌}
 use native.Mathlib.Omega.{arith}
-use borrow.Author.Tests.{not-true, not-false}
 use Rattle.tables.specs.Bytes.{parent_size, parent_rows}
-use Rattle.tables.specs.Check.{all, when_used, good_parent}
-use Rattle.tables.proofs.AllLaws.{all_from, all_start, all_end, all_pass, all_fail}
+use Rattle.tables.specs.Check.{when_used, good_parent}
+use Rattle.tables.proofs.AllLaws.{all_start, all_end, all_pass, all_fail}
 use Rattle.checks.proofs.fids.good_parents.Goals as goal
 
 pub loop-r-init : goal.loop-r-init

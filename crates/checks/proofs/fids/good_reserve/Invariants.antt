@@ -1,11 +1,8 @@
-use Rattle.fid.specs.Fid.{good_fid, good_reserve}
 use Prim.Native.Nat.{◌-◌, ◌≤◌}
-use mathlib.Core.Path.{◌≡◌, sym, ap, ◌∙◌}
-use native.Mathlib.Omega.{arith}
-use borrow.Author.Tests.{not-true, not-false}
-use Rattle.tables.specs.Bytes.{entry_size, reserve_entries, reserve_fid}
+use mathlib.Core.Path.{◌≡◌}
+use Rattle.tables.specs.Bytes.{entry_size, reserve_entries}
 use Rattle.tables.specs.Check.{all, good_entry}
-use Rattle.tables.proofs.AllLaws.{all_from, all_start, all_end, all_pass, all_fail}
+use Rattle.tables.proofs.AllLaws.{all_from}
 use Rattle.checks.proofs.fids.good_reserve.Given as goal
 
 abbrev pub invariant-loop-r : goal.invariant-loop-r

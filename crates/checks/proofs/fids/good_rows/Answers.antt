@@ -1,9 +1,7 @@
 use mathlib.Core.Path.{sym, ◌∙◌}
-use borrow.Author.Tests.{not-true, not-false}
 use Rattle.tables.proofs.TestLaws.{first_off, first_on}
 use Rattle.tables.specs.Bytes.{parent_rows, object_rows}
 use Rattle.tables.specs.Check.{all, when_used, good_parent, good_object}
-use borrow.Author.Rules.{rules}
 use Rattle.checks.proofs.fids.good_rows.Goals as goal
 
 pub returns-then-not-good_parents : goal.returns-then-not-good_parents

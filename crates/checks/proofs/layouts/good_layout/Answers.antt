@@ -1,10 +1,8 @@
 use mathlib.Core.Path.{sym, ap, ◌∙◌}
 use native.Mathlib.Omega.{arith}
-use borrow.Author.Tests.{not-true, not-false}
 use Rattle.tables.proofs.TestLaws.{when_unused, when_used_lem, layout_long, layout_read}
 use Rattle.layout.specs.Layout.{accepted_layout}
 use Rattle.tables.specs.Check.{good_layout}
-use borrow.Author.Rules.{rules}
 use Rattle.checks.proofs.layouts.good_layout.Goals as goal
 
 pub returns-then-not-is_used : goal.returns-then-not-is_used

@@ -1,10 +1,8 @@
 use Prim.Native.Nat.{◌-◌, ◌≤◌}
-use mathlib.Core.Path.{◌≡◌, sym, ◌∙◌}
-use native.Mathlib.Omega.{arith}
-use borrow.Author.Tests.{not-true, not-false}
-use Rattle.tables.specs.Bytes.{parent_size, parent_rows}
+use mathlib.Core.Path.{◌≡◌}
+use Rattle.tables.specs.Bytes.{parent_size}
 use Rattle.tables.specs.Check.{when_used, good_layout, good_layouts}
-use Rattle.tables.proofs.AllLaws.{all_from, all_start, all_end, all_pass, all_fail}
+use Rattle.tables.proofs.AllLaws.{all_from}
 use Rattle.checks.proofs.layouts.good_layouts.Given as goal
 
 abbrev pub invariant-loop-r : goal.invariant-loop-r

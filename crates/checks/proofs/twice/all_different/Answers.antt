@@ -1,8 +1,6 @@
 use mathlib.Core.Path.{sym, ◌∙◌}
-use borrow.Author.Tests.{not-true, not-false}
 use Rattle.tables.specs.Bytes.{parent_rows, object_rows}
 use Rattle.tables.proofs.TestLaws.{parents_twice, objects_twice}
-use borrow.Author.Rules.{rules}
 use Rattle.checks.proofs.twice.all_different.Goals as goal
 
 pub returns-then-not-none_twice : goal.returns-then-not-none_twice

@@ -1,7 +1,6 @@
 use mathlib.Core.Path.{◌∙◌}
 use native.Mathlib.Omega.{arith}
 use Rattle.tables.proofs.TestLaws.{has_oid, has_seq, has_ver, has_used}
-use borrow.Author.Rules.{rules}
 use Rattle.checks.proofs.twice.has_fid.Goals as goal
 
 pub returns-then-le32-f : goal.returns-then-le32-f

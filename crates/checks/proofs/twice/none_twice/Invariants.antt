@@ -1,13 +1,8 @@
 use Prim.Native.Nat.{◌-◌, ◌≤◌}
-use mathlib.Core.Path.{◌≡◌, sym, ◌∙◌}
-use native.Mathlib.Omega.{arith}
-use native.Mathlib.Nat.{div-le_self}
-use mathlib.Core.Logic.{⊎_elim}
-use lib.ListN.{length}
+use mathlib.Core.Path.{◌≡◌}
 use Rattle.wire.specs.Rows.{rows}
 use Rattle.tables.specs.Check.{none_twice}
-use Rattle.tables.proofs.AllLaws.{row_fits}
-use Rattle.tables.proofs.TwiceLaws.{none_from, none_start, none_end, none_unused, none_pass, none_fail}
+use Rattle.tables.proofs.TwiceLaws.{none_from}
 use Rattle.checks.proofs.twice.none_twice.Given as goal
 
 abbrev pub invariant-loop-r : goal.invariant-loop-r

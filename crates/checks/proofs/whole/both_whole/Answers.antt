@@ -1,8 +1,6 @@
 use mathlib.Core.Path.{sym, ◌∙◌}
-use borrow.Author.Tests.{not-true, not-false}
 use Rattle.tables.proofs.TestLaws.{first_off, first_on}
 use Rattle.tables.specs.Check.{parents_whole, objects_whole}
-use borrow.Author.Rules.{rules}
 use Rattle.checks.proofs.whole.both_whole.Goals as goal
 
 pub returns-then-not-parents_whole : goal.returns-then-not-parents_whole

@@ -1,8 +1,6 @@
 use mathlib.Core.Path.{sym, ◌∙◌}
-use borrow.Author.Tests.{not-true, not-false}
 use Rattle.tables.proofs.TestLaws.{when_unused, when_used_lem}
 use Rattle.tables.specs.Check.{fresh_mark, is_mark}
-use borrow.Author.Rules.{rules}
 use Rattle.checks.proofs.whole.fresh_mark.Goals as goal
 
 pub returns-then-not-is_used : goal.returns-then-not-is_used

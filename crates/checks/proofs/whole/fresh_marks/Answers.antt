@@ -1,10 +1,8 @@
-use Prim.Native.Nat.{◌-◌, ◌≤◌}
-use mathlib.Core.Path.{◌≡◌, sym, ◌∙◌}
+use mathlib.Core.Path.{sym, ◌∙◌}
 use native.Mathlib.Omega.{arith}
-use borrow.Author.Tests.{not-true, not-false}
 use Rattle.tables.specs.Bytes.{object_size, object_rows}
-use Rattle.tables.specs.Check.{all, when_used, fresh_mark}
-use Rattle.tables.proofs.AllLaws.{all_from, all_start, all_end, all_pass, all_fail}
+use Rattle.tables.specs.Check.{when_used, fresh_mark}
+use Rattle.tables.proofs.AllLaws.{all_start, all_end, all_pass, all_fail}
 use Rattle.checks.proofs.whole.fresh_marks.Goals as goal
 
 pub loop-r-init : goal.loop-r-init

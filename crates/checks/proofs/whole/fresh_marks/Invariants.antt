@@ -1,10 +1,8 @@
 use Prim.Native.Nat.{◌-◌, ◌≤◌}
-use mathlib.Core.Path.{◌≡◌, sym, ◌∙◌}
-use native.Mathlib.Omega.{arith}
-use borrow.Author.Tests.{not-true, not-false}
+use mathlib.Core.Path.{◌≡◌}
 use Rattle.tables.specs.Bytes.{object_size, object_rows}
 use Rattle.tables.specs.Check.{all, when_used, fresh_mark}
-use Rattle.tables.proofs.AllLaws.{all_from, all_start, all_end, all_pass, all_fail}
+use Rattle.tables.proofs.AllLaws.{all_from}
 use Rattle.checks.proofs.whole.fresh_marks.Given as goal
 
 abbrev pub invariant-loop-r : goal.invariant-loop-r

@@ -1,8 +1,6 @@
 use mathlib.Core.Path.{sym, ◌∙◌}
-use borrow.Author.Tests.{not-true, not-false}
 use Rattle.tables.specs.Bytes.{parent_rows}
 use Rattle.tables.proofs.TestLaws.{parents_not, parents_marks}
-use borrow.Author.Rules.{rules}
 use Rattle.checks.proofs.whole.parents_whole.Goals as goal
 
 pub returns-then-not-whole_rows : goal.returns-then-not-whole_rows

@@ -1,5 +1,4 @@
 use Rattle.tables.specs.Check.{reserve_whole}
-use borrow.Author.Rules.{rules}
 use Rattle.checks.proofs.whole.reserve_whole.Goals as goal
 
 pub returns : goal.returns

@@ -1,12 +1,8 @@
-use native.Mathlib.Nat.{div-le_self}
 use Prim.Native.Nat.{◌-◌, ◌≤◌}
 use mathlib.Core.Path.{◌≡◌}
-use native.Mathlib.Omega.{arith}
-use lib.ListN.{length}
 use Rattle.wire.specs.Rows.{rows}
 use Rattle.tables.specs.Check.{all, used_mark}
-use Rattle.tables.proofs.TestLaws.{mark_bad, mark_good}
-use Rattle.tables.proofs.AllLaws.{row_fits, all_from, all_start, all_end, all_pass, all_fail}
+use Rattle.tables.proofs.AllLaws.{all_from}
 use Rattle.checks.proofs.whole.used_marks.Given as goal
 
 abbrev pub invariant-loop-r : goal.invariant-loop-r

@@ -2,7 +2,6 @@ use native.Mathlib.Omega.{arith}
 use native.Mathlib.Nat.{mul-div-le}
 use lib.ListN.{length}
 use Rattle.tables.proofs.TestLaws.{whole_not, whole_most}
-use borrow.Author.Rules.{rules}
 use Rattle.checks.proofs.whole.whole_rows.Goals as goal
 
 pub overflow_mul-size : goal.overflow_mul-size

@@ -1,6 +1,5 @@
 use mathlib.Core.Path.{sym, ◌∙◌}
 use Rattle.tables.proofs.RowReads.{claim_none, claim_some}
-use borrow.Author.Rules.{rules}
 use Rattle.tables.proofs.rows.claim_from.Goals as goal
 
 pub returns-then-is_zero : goal.returns-then-is_zero

@@ -1,5 +1,4 @@
 use Rattle.tables.proofs.RowReads.{object_is_lem}
-use borrow.Author.Rules.{rules}
 use Rattle.tables.proofs.rows.decode_object.Goals as goal
 
 pub returns : goal.returns

@@ -1,6 +1,5 @@
 use mathlib.Core.Path.{refl}
 use Rattle.tables.specs.Bytes.{is_used}
-use borrow.Author.Rules.{rules}
 use Rattle.tables.proofs.rows.is_used.Goals as goal
 
 pub returns : goal.returns

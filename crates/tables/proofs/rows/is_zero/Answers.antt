@@ -1,5 +1,4 @@
 use Rattle.fid.specs.Fid.{zero_fid}
-use borrow.Author.Rules.{rules}
 use Rattle.tables.proofs.rows.is_zero.Goals as goal
 
 pub returns : goal.returns

@@ -1,5 +1,4 @@
 use Rattle.tables.specs.Bytes.{layout_length}
-use borrow.Author.Rules.{rules}
 use Rattle.tables.proofs.rows.layout_len.Goals as goal
 
 pub returns : goal.returns

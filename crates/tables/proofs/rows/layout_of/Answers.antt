@@ -3,7 +3,6 @@ use Prim.Native.Nat.{ℕ}
 use mathlib.Core.List.{List}
 use lib.ListN.{length}
 use Rattle.tables.proofs.RowReads.{layout_part, layout_bytes_lem}
-use borrow.Author.Rules.{rules}
 use Rattle.tables.proofs.rows.layout_of.Goals as goal
 
 pub returns : goal.returns

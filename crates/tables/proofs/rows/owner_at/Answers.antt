@@ -1,5 +1,4 @@
 use Rattle.tables.proofs.RowReads.{owner_is}
-use borrow.Author.Rules.{rules}
 use Rattle.tables.proofs.rows.owner_at.Goals as goal
 
 pub returns : goal.returns

@@ -1,5 +1,4 @@
 use Rattle.tables.specs.Bytes.{decode_parent}
-use borrow.Author.Rules.{rules}
 use Rattle.tables.proofs.rows.owner_of.Goals as goal
 
 pub returns : goal.returns

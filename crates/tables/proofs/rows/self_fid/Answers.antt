@@ -1,4 +1,3 @@
-use borrow.Author.Rules.{rules}
 use Rattle.tables.specs.Bytes.{self_fid}
 use Rattle.tables.proofs.rows.self_fid.Goals as goal
 

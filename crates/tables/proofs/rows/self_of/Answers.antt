@@ -1,5 +1,4 @@
 use Rattle.tables.specs.Bytes.{decode_parent, self_fid}
-use borrow.Author.Rules.{rules}
 use Rattle.fid.specs.Fid.{decode_fid}
 use Rattle.tables.proofs.rows.self_of.Goals as goal
 
