@@ -1,0 +1,14 @@
+use native.Mathlib.Omega.{arith}
+use Rattle.intake_close.proofs.FillLaws.{parent_put}
+use borrow.Author.Rules.{rules}
+use Rattle.stores.proofs.pieces.put_byte.Reads as put-byte-reads
+use Rattle.stores.proofs.pieces.put_owner.Reads as put-owner-reads
+use Rattle.wire.proofs.put_bytes.Reads as put-bytes-reads
+use Rattle.wire.proofs.put_le16.Reads as put-le16-reads
+use Rattle.intake_close.proofs.filled.put_parent.Goals as goal
+
+pub returns : goal.returns
+returns c =
+    let p = c in let a = p.args in
+    parent_put a.buf.now a.row.now a.size a.w _ _ _ _ _ (omega arith) (omega arith) (omega arith)
+    c.put_byte.ensures c.put_bytes.ensures c.put_owner.ensures c.put_le16.ensures c.put_bytes-2.ensures

@@ -1,0 +1,41 @@
+use native.Mathlib.Omega.{arith}
+use Prim.Native.Nat.{◌≤◌, ◌-◌}
+use mathlib.Core.Path.{◌≡◌, sym, ◌∙◌}
+use mathlib.Core.Bool.{false}
+use lib.ListN.{length, drop}
+use borrow.Author.Tests.{not-true, not-false}
+use borrow.Author.Rules.{rules}
+use Rattle.wire.specs.Numbers.{max_word}
+use Rattle.intake.specs.Owners.{decimal}
+use Rattle.intake_close.proofs.OwnerLaws.{decimal_least, decimal_most, left, left_start, left_next, told_other, told_wide, told_last}
+use Rattle.intake_close.proofs.owners.number.Goals as goal
+
+pub loop-at-init : goal.loop-at-init
+loop-at-init c = (omega arith, omega arith, omega arith, left_start _ _)
+
+pub told-requires : goal.told-requires
+told-requires c = (omega arith, omega arith)
+
+pub returns-then-not-is_decimal : goal.returns-then-not-is_decimal
+returns-then-not-is_decimal c = told_other _ _ _ _ c.loop-at.invariant.3 _ (omega arith) (sym c.is_decimal.ensures ∙ c.if-not-is_decimal.true) (omega arith) c.told.ensures
+
+pub overflow_sub-n : goal.overflow_sub-n
+overflow_sub-n c = decimal_least _ (sym c.is_decimal.ensures ∙ c.if-not-is_decimal.false)
+
+pub overflow_cast-n : goal.overflow_cast-n
+overflow_cast-n c = omega (arith, decimal_most _ (sym c.is_decimal.ensures ∙ c.if-not-is_decimal.false))
+
+pub overflow_add-n : goal.overflow_add-n
+overflow_add-n c = omega (arith, decimal_most _ (sym c.is_decimal.ensures ∙ c.if-not-is_decimal.false))
+
+pub returns-then-n-gt-MAX_WORD : goal.returns-then-n-gt-MAX_WORD
+returns-then-n-gt-MAX_WORD c = told_wide _ _ _ _ c.loop-at.invariant.3 (omega arith) (sym c.is_decimal.ensures ∙ c.if-not-is_decimal.false) (omega arith)
+
+pub loop-at-preserved : goal.loop-at-preserved
+loop-at-preserved c = (omega arith, omega arith, omega arith, c.loop-at.invariant.3 ∙ left_next _ _ _ _ (omega arith) (omega arith) (sym c.is_decimal.ensures ∙ c.if-not-is_decimal.false))
+
+pub told-requires-2 : goal.told-requires-2
+told-requires-2 c = (omega arith, omega arith)
+
+pub returns : goal.returns
+returns c = told_last _ _ _ _ c.loop-at.invariant.3 _ (omega arith) (omega arith) (omega arith) c.told-2.ensures

@@ -1,0 +1,31 @@
+use native.Mathlib.Omega.{arith}
+use Prim.Native.Nat.{ℕ}
+use mathlib.Core.Path.{◌≡◌, sym, subst, ◌∙◌}
+use Rattle.intake_feed.specs.Feed.{PieceFed, Fed}
+use Rattle.intake_feed.proofs.FedLaws.{passed, fed_refused, fed_stopped, fed_piece, goes_in, answer_fits, long_state}
+use borrow.Author.Rules.{rules}
+use Rattle.intake_feed.proofs.feeding.feed.Goals as goal
+
+pub returns-then-refused-ne0 : goal.returns-then-refused-ne0
+unfolding PieceFed
+returns-then-refused-ne0 c = let a = c.args in subst (λ (n : ℕ). Fed n a.s.now a.piece.now a.file.now a.parents.now a.objects.now a.out.now a.s.now a.parents.now a.objects.now a.out.now c.refusal-refused.result) c.refusal-refused.ensures (fed_refused a.s.now a.piece.now a.file.now a.parents.now a.objects.now a.out.now _ c.if-refused-ne0.true)
+
+pub load-k-requires : goal.load-k-requires
+load-k-requires c = let a = c.args in long_state a.s.now a.piece.now a.file.now a.parents.now a.objects.now _ (passed a.s.now a.piece.now a.file.now a.parents.now a.objects.now _ (sym c.refusal-refused.ensures ∙ c.if-refused-ne0.false))
+
+pub told-requires : goal.told-requires
+told-requires c = let a = c.args in ((passed a.s.now a.piece.now a.file.now a.parents.now a.objects.now _ (sym c.refusal-refused.ensures ∙ c.if-refused-ne0.false)).place, answer_fits a.s.now a.piece.now a.file.now a.parents.now a.objects.now _ _ (passed a.s.now a.piece.now a.file.now a.parents.now a.objects.now _ (sym c.refusal-refused.ensures ∙ c.if-refused-ne0.false)) c.load-k.ensures)
+
+pub returns-then-k-ne0 : goal.returns-then-k-ne0
+unfolding PieceFed
+returns-then-k-ne0 c = let a = c.args in fed_stopped a.s.now a.piece.now a.file.now a.parents.now a.objects.now a.out.now _ _ _ _ (passed a.s.now a.piece.now a.file.now a.parents.now a.objects.now _ (sym c.refusal-refused.ensures ∙ c.if-refused-ne0.false)) (sym c.refusal-refused.ensures ∙ c.if-refused-ne0.false) c.load-k.ensures c.if-k-ne0.true c.told.ensures
+
+pub read_piece-after-requires : goal.read_piece-after-requires
+read_piece-after-requires c = let a = c.args in goes_in a.s.now a.piece.now a.file.now a.parents.now a.objects.now _ _ (passed a.s.now a.piece.now a.file.now a.parents.now a.objects.now _ (sym c.refusal-refused.ensures ∙ c.if-refused-ne0.false)) c.load-k.ensures c.if-k-ne0.false
+
+pub told-requires-2 : goal.told-requires-2
+told-requires-2 c = let a = c.args in ((passed a.s.now a.piece.now a.file.now a.parents.now a.objects.now _ (sym c.refusal-refused.ensures ∙ c.if-refused-ne0.false)).place, c.read_piece-after.ensures.kept.answer)
+
+pub returns : goal.returns
+unfolding PieceFed
+returns c = let a = c.args in fed_piece a.s.now a.piece.now a.file.now a.parents.now a.objects.now a.out.now _ _ _ _ _ _ _ _ _ (passed a.s.now a.piece.now a.file.now a.parents.now a.objects.now _ (sym c.refusal-refused.ensures ∙ c.if-refused-ne0.false)) (sym c.refusal-refused.ensures ∙ c.if-refused-ne0.false) c.load-k.ensures c.if-k-ne0.false c.read_piece-after.ensures c.store.ensures c.told-2.ensures (omega arith) (omega arith)

@@ -1,0 +1,16 @@
+use native.Mathlib.Omega.{arith}
+use mathlib.Core.Path.{◌≡◌, refl, sym, ap, ◌∙◌}
+use borrow.Author.Tests.{not-true, not-false}
+use Rattle.intake_feed.proofs.FedLaws.{stands_not, stands_if}
+use Rattle.intake_state.proofs.TestLaws.{state_long}
+use borrow.Author.Rules.{rules}
+use Rattle.intake_feed.proofs.feeding.state_stands.Goals as goal
+
+pub returns-then-not-good_state : goal.returns-then-not-good_state
+returns-then-not-good_state c = let a = c.args in stands_not a.s.now a.file.now (sym c.good_state.ensures ∙ c.if-not-good_state.true)
+
+pub owners_reach-requires : goal.owners_reach-requires
+owners_reach-requires c = let a = c.args in omega (arith, state_long a.s.now (sym c.good_state.ensures ∙ c.if-not-good_state.false))
+
+pub returns : goal.returns
+returns c = let a = c.args in stands_if a.s.now a.file.now _ (sym c.good_state.ensures ∙ c.if-not-good_state.false) c.owners_reach.ensures

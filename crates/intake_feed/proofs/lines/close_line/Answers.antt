@@ -1,0 +1,15 @@
+use Rattle.intake_feed.proofs.LineLaws.{closed_row, closed_stop}
+use borrow.Author.Rules.{rules}
+use Rattle.intake_close.proofs.closing.close.Reads as close-reads
+use Rattle.intake_close.proofs.owners.next_line.Reads as next-line-reads
+use Rattle.intake_feed.proofs.lines.close_line.Goals as goal
+
+pub returns-in-Filled : goal.returns-in-Filled
+returns-in-Filled c =
+    let p = c in let a = p.args in
+    closed_row a.state.now a.file.now a.k a.parents.now a.objects.now p.requires _ _ _ _ _ c.close.ensures c.in-Filled.is c.next_line.ensures c.closed.ensures
+
+pub returns-in-Refused : goal.returns-in-Refused
+returns-in-Refused c =
+    let p = c in let a = p.args in
+    closed_stop a.state.now a.file.now a.k a.parents.now a.objects.now p.requires _ _ _ _ _ c.close.ensures c.in-Refused.is c.stopped.ensures
