@@ -1,13 +1,12 @@
-use mathlib.Core.Path.{◌≡◌, sym, ap, ◌∙◌}
+use mathlib.Core.Path.{sym, ap, ◌∙◌}
 use mathlib.Core.Bool.{not}
 use native.Mathlib.Omega.{arith}
-use Prim.Native.Nat.{◌-◌, ◌*◌}
-use lib.ListN.{length, take, drop}
+use lib.ListN.{length}
 use native.Mathlib.Nat.{div-le_self}
 use Rattle.tables.proofs.AllLaws.{row_fits}
 use Rattle.tables.specs.Bytes.{is_used}
 use Rattle.search.specs.FirstRow.{free_row}
-use Rattle.search.proofs.RowSearch.{rows_left, row_start, row_none, row_hit, row_pass}
+use Rattle.search.proofs.RowSearch.{row_start, row_none, row_hit, row_pass}
 use Rattle.search.proofs.first.free_row.Goals as goal
 
 pub loop-r-init : goal.loop-r-init

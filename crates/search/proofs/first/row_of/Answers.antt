@@ -1,12 +1,11 @@
-use mathlib.Core.Path.{◌≡◌, sym, ap, ◌∙◌}
+use mathlib.Core.Path.{sym, ap, ◌∙◌}
 use native.Mathlib.Omega.{arith}
-use Prim.Native.Nat.{◌-◌, ◌*◌}
-use lib.ListN.{length, take, drop}
+use lib.ListN.{length}
 use native.Mathlib.Nat.{div-le_self}
 use Rattle.tables.proofs.AllLaws.{row_fits}
 use Rattle.tables.specs.Check.{is_row_of}
 use Rattle.search.specs.FirstRow.{row_of}
-use Rattle.search.proofs.RowSearch.{rows_left, row_start, row_none, row_hit, row_pass}
+use Rattle.search.proofs.RowSearch.{row_start, row_none, row_hit, row_pass}
 use Rattle.search.proofs.first.row_of.Goals as goal
 
 pub loop-r-init : goal.loop-r-init

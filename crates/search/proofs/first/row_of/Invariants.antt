@@ -1,12 +1,9 @@
-use mathlib.Core.Path.{◌≡◌, sym, ap, ◌∙◌}
-use native.Mathlib.Omega.{arith}
+use mathlib.Core.Path.{◌≡◌}
 use Prim.Native.Nat.{◌-◌, ◌*◌}
-use lib.ListN.{length, take, drop}
-use native.Mathlib.Nat.{div-le_self}
-use Rattle.tables.proofs.AllLaws.{row_fits}
+use lib.ListN.{take, drop}
 use Rattle.tables.specs.Check.{is_row_of}
 use Rattle.search.specs.FirstRow.{row_of}
-use Rattle.search.proofs.RowSearch.{rows_left, row_start, row_none, row_hit, row_pass}
+use Rattle.search.proofs.RowSearch.{rows_left}
 use Rattle.search.proofs.first.row_of.Given as goal
 
 abbrev pub invariant-loop-r : goal.invariant-loop-r

@@ -1,5 +1,4 @@
 use mathlib.Core.Path.{refl}
-use native.Mathlib.Omega.{arith}
 use Rattle.search.proofs.keeper.after.Goals as goal
 
 pub returns : goal.returns

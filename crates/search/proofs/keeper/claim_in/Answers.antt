@@ -1,6 +1,5 @@
 use mathlib.Core.Path.{ap, sym}
 use Rattle.rules.specs.Keeper.{claim_in}
-use borrow.Author.Rules.{rules}
 use Rattle.search.proofs.keeper.claim_in.Goals as goal
 
 pub returns-in-Missing : goal.returns-in-Missing

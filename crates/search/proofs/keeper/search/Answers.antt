@@ -4,7 +4,6 @@ use Rattle.rules.specs.Keeper.{keeper_by}
 use Rattle.rules.specs.Compared.{compared_by}
 use Rattle.rules.proofs.Looks.{keeper_unclaimed}
 use Rattle.rules.proofs.ComparedLaws.{compared_unclaimed}
-use borrow.Author.Rules.{rules}
 use Rattle.search.proofs.keeper.search.Goals as goal
 
 pub returns-in-Unclaimed : goal.returns-in-Unclaimed

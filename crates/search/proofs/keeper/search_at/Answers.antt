@@ -6,7 +6,6 @@ use Rattle.rules.proofs.Checked.{checked_parents}
 use Rattle.rules.proofs.ComparedLaws.{compared_absent, compared_in}
 use Rattle.search.proofs.FoundRows.{parent_inside}
 use Rattle.search.proofs.KeeperLaws.{keeper_absent, keeper_in}
-use borrow.Author.Rules.{rules}
 use Rattle.search.proofs.keeper.search_at.Goals as goal
 use Rattle.search.proofs.keeper.search_at.Goals.{After-struct_known-1}
 

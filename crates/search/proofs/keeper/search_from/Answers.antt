@@ -3,7 +3,6 @@ use native.Mathlib.Omega.{arith}
 use Rattle.tables.specs.Bytes.{parse_parents}
 use Rattle.search.proofs.CountLaws.{both_fit, one_fits}
 use Rattle.search.proofs.KeeperLaws.{turn_found, turn_next, hit_there}
-use borrow.Author.Rules.{rules}
 use Rattle.search.proofs.keeper.search_from.Goals as goal
 
 pub returns-then-is_somewhere : goal.returns-then-is_somewhere

@@ -4,7 +4,6 @@ use Rattle.tables.specs.Bytes.{parse_parents}
 use Rattle.rules.proofs.ComparedLaws.{turn_last, hit_row}
 use Rattle.search.proofs.CountLaws.{all_fit_lem, row_fits}
 use Rattle.search.proofs.KeeperLaws.{turn_found, turn_next}
-use borrow.Author.Rules.{rules}
 use Rattle.search.proofs.keeper.search_in.Goals as goal
 
 pub returns-then-is_somewhere : goal.returns-then-is_somewhere

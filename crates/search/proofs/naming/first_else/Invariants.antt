@@ -1,18 +1,11 @@
-use mathlib.Core.Path.{◌≡◌, refl, ◌∙◌}
-use native.Mathlib.Omega.{arith}
-use Prim.Native.Nat.{◌+◌, ◌-◌, ◌/◌}
-use lib.ListN.{length}
-use borrow.Author.Rules.{rules}
-use Rattle.layout.specs.Slot.{decode_slots}
+use mathlib.Core.Path.{◌≡◌}
+use Prim.Native.Nat.{◌+◌, ◌-◌}
 use Rattle.tables.specs.Bytes.{parse_parents}
-use Rattle.tables.specs.Positions.{slots_of, row_at, width}
-use Rattle.tables.proofs.SoundLaws.{layout_at_lem}
+use Rattle.tables.specs.Positions.{width}
 use Rattle.rules.specs.Search.{or_else}
 use Rattle.rules.specs.Rows.{names_else, scan}
 use Rattle.rules.specs.declared.Found.TheVariants.{Nowhere}
-use Rattle.search.proofs.PlaceSearch.{slots_left, places_left, place_none, enter, leave, again, stop}
-use Rattle.search.proofs.SlotArea.{area_width, area_of}
-use Rattle.search.proofs.NamingLaws.{scan_start, area_else}
+use Rattle.search.proofs.PlaceSearch.{slots_left, places_left}
 use Rattle.search.proofs.naming.first_else.Given as goal
 
 abbrev pub invariant-loop-i : goal.invariant-loop-i

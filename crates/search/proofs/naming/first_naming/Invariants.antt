@@ -1,20 +1,14 @@
-use mathlib.Core.Path.{◌≡◌, refl, ◌∙◌}
-use native.Mathlib.Omega.{arith}
-use Prim.Native.Nat.{◌+◌, ◌-◌, ◌/◌}
-use lib.ListN.{length, drop}
-use borrow.Author.Rules.{rules}
-use Rattle.layout.specs.Slot.{decode_slots}
+use mathlib.Core.Path.{◌≡◌}
+use Prim.Native.Nat.{◌+◌, ◌-◌}
+use lib.ListN.{drop}
 use Rattle.tables.specs.Bytes.{parse_parents}
-use Rattle.tables.specs.Positions.{slots_of, row_at, width}
-use Rattle.tables.proofs.SoundLaws.{layout_at_lem}
+use Rattle.tables.specs.Positions.{width}
 use Rattle.rules.specs.Search.{or_else}
 use Rattle.rules.specs.Rows.{names_at, scan}
 use Rattle.rules.specs.Compared.{up_to, all_slots}
 use Rattle.rules.specs.declared.Found.TheVariants.{Nowhere}
-use Rattle.search.proofs.PlaceSearch.{slots_left, places_left, place_none, enter, leave, again, stop}
-use Rattle.search.proofs.SlotArea.{area_width, area_of}
-use Rattle.search.proofs.NamingLaws.{scan_start, area_names}
-use Rattle.search.proofs.CountLaws.{slot_count, row_count, all_fit_lem, slot_fits, slot_counted, slot_passed, row_count_start, row_enters, row_leaves, rows_passed}
+use Rattle.search.proofs.PlaceSearch.{slots_left, places_left}
+use Rattle.search.proofs.CountLaws.{slot_count, row_count}
 use Rattle.search.proofs.naming.first_naming.Given as goal
 
 abbrev pub invariant-loop-j : goal.invariant-loop-j

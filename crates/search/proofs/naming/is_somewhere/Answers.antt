@@ -1,6 +1,5 @@
 use mathlib.Core.Path.{ap, sym}
 use Rattle.rules.specs.Search.{is_somewhere}
-use borrow.Author.Rules.{rules}
 use Rattle.search.proofs.naming.is_somewhere.Goals as goal
 
 pub returns-in-At : goal.returns-in-At

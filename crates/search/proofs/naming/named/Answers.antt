@@ -1,5 +1,4 @@
 use Rattle.search.proofs.NamingLaws.{named_is}
-use borrow.Author.Rules.{rules}
 use Rattle.search.proofs.naming.named.Goals as goal
 
 pub returns : goal.returns

@@ -1,8 +1,6 @@
 use mathlib.Core.Path.{sym, ◌∙◌}
 use native.Mathlib.Omega.{arith}
-use borrow.Author.Tests.{not-true, not-false}
 use Rattle.search.proofs.NamingLaws.{else_unnamed, else_row, else_slot}
-use borrow.Author.Rules.{rules}
 use Rattle.search.proofs.naming.names_else.Goals as goal
 
 pub returns-then-not-names : goal.returns-then-not-names

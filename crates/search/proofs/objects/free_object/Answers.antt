@@ -1,5 +1,4 @@
 use mathlib.Core.Path.{◌∙◌}
-use borrow.Author.Rules.{rules}
 use Rattle.search.proofs.ParsedRows.{free_object_is}
 use Rattle.search.proofs.objects.free_object.Goals as goal
 

@@ -3,7 +3,6 @@ use native.Mathlib.Omega.{arith}
 use Rattle.rules.specs.declared.Lookup.TheVariants.{Present}
 use Rattle.tables.specs.declared.Object.{Object}
 use Rattle.search.proofs.FoundRows.{object_inside, lookup_missing, lookup_present}
-use borrow.Author.Rules.{rules}
 use Rattle.search.proofs.objects.lookup.Goals as goal
 
 pub row_at-row-requires : goal.row_at-row-requires

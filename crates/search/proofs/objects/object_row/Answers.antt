@@ -1,5 +1,4 @@
 use mathlib.Core.Path.{◌∙◌}
-use borrow.Author.Rules.{rules}
 use Rattle.search.proofs.ParsedRows.{object_row_is}
 use Rattle.search.proofs.objects.object_row.Goals as goal
 

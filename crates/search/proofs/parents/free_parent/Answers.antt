@@ -1,5 +1,4 @@
 use mathlib.Core.Path.{◌∙◌}
-use borrow.Author.Rules.{rules}
 use Rattle.search.proofs.ParsedRows.{free_parent_is}
 use Rattle.search.proofs.parents.free_parent.Goals as goal
 

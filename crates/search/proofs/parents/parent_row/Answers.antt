@@ -1,5 +1,4 @@
 use mathlib.Core.Path.{◌∙◌}
-use borrow.Author.Rules.{rules}
 use Rattle.search.proofs.ParsedRows.{parent_row_is}
 use Rattle.search.proofs.parents.parent_row.Goals as goal
 

@@ -1,5 +1,4 @@
 use Rattle.search.proofs.ReserveLaws.{used_row_lem, used_slot}
-use borrow.Author.Rules.{rules}
 use Rattle.search.proofs.reserve.in_use.Goals as goal
 
 pub returns-then-is_row : goal.returns-then-is_row

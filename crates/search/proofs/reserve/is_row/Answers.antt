@@ -1,6 +1,5 @@
 use mathlib.Core.Path.{ap, sym}
 use Rattle.rules.specs.Search.{is_row}
-use borrow.Author.Rules.{rules}
 use Rattle.search.proofs.reserve.is_row.Goals as goal
 
 pub returns-in-RowIs : goal.returns-in-RowIs

@@ -1,10 +1,6 @@
-use mathlib.Core.Path.{◌≡◌, sym, ◌∙◌}
+use mathlib.Core.Path.{sym, ◌∙◌}
 use native.Mathlib.Omega.{arith}
-use Prim.Native.Nat.{◌-◌}
-use borrow.Author.Tests.{not-true, not-false}
-use Rattle.tables.specs.Bytes.{parse, parse_reserve}
-use Rattle.rules.specs.Repairs.{usable}
-use Rattle.search.proofs.ReserveLaws.{usable_from, usable_start, usable_none, usable_takes, usable_skips}
+use Rattle.search.proofs.ReserveLaws.{usable_start, usable_none, usable_takes, usable_skips}
 use Rattle.search.proofs.reserve.usable.Goals as goal
 
 pub loop-k-init : goal.loop-k-init

@@ -1,10 +1,8 @@
-use mathlib.Core.Path.{◌≡◌, sym, ◌∙◌}
-use native.Mathlib.Omega.{arith}
+use mathlib.Core.Path.{◌≡◌}
 use Prim.Native.Nat.{◌-◌}
-use borrow.Author.Tests.{not-true, not-false}
 use Rattle.tables.specs.Bytes.{parse, parse_reserve}
 use Rattle.rules.specs.Repairs.{usable}
-use Rattle.search.proofs.ReserveLaws.{usable_from, usable_start, usable_none, usable_takes, usable_skips}
+use Rattle.search.proofs.ReserveLaws.{usable_from}
 use Rattle.search.proofs.reserve.usable.Given as goal
 
 abbrev pub invariant-loop-k : goal.invariant-loop-k

@@ -9,7 +9,6 @@ use Rattle.tables.proofs.SoundLaws.{layout_at_lem}
 use Rattle.search.proofs.SlotArea.{area_of, area_width}
 use Rattle.search.proofs.NamingLaws.{area_names}
 use Rattle.search.proofs.CountLaws.{claimed_past, claimed_hit, claimed_miss}
-use borrow.Author.Rules.{rules}
 use Rattle.search.proofs.slots.claimed_at.Goals as goal
 use Rattle.search.proofs.slots.claimed_at.Goals.{After-slot_area-area}
 

@@ -1,19 +1,15 @@
 use mathlib.Core.Path.{◌≡◌, ◌∙◌}
 use native.Mathlib.Omega.{arith}
-use Prim.Native.Nat.{◌+◌, ◌-◌, ◌/◌, ◌≤◌}
-use mathlib.Core.List.{[]}
+use Prim.Native.Nat.{◌/◌}
 use lib.ListN.{length}
-use borrow.Author.Rules.{rules}
 use Rattle.layout.specs.Slot.{decode_slots}
 use Rattle.tables.specs.Bytes.{parse_parents}
-use Rattle.tables.specs.Positions.{slots_of, row_at, width}
+use Rattle.tables.specs.Positions.{slots_of, row_at}
 use Rattle.tables.proofs.SoundLaws.{layout_at_lem}
-use Rattle.rules.specs.Search.{slot_from}
 use Rattle.rules.specs.Rows.{names_at}
-use Rattle.rules.specs.Compared.{up_to}
-use Rattle.search.proofs.PlaceSearch.{slots_left, slot_none, slot_hit, slot_pass}
+use Rattle.search.proofs.PlaceSearch.{slot_none, slot_hit, slot_pass}
 use Rattle.search.proofs.SlotArea.{area_of, area_width}
-use Rattle.search.proofs.CountLaws.{slot_count, slot_count_start, slot_counted, slot_passed, row_passed}
+use Rattle.search.proofs.CountLaws.{slot_count_start, slot_counted, slot_passed, row_passed}
 use Rattle.search.proofs.NamingLaws.{row_slots_start, area_names}
 use Rattle.search.proofs.slots.first_in.Goals as goal
 use Rattle.search.proofs.slots.first_in.Goals.{After-names, After-slot_area-area}

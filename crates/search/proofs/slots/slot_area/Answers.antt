@@ -1,12 +1,10 @@
 use mathlib.Core.Bool.{true}
 use mathlib.Core.Path.{◌≡◌, sym, ap, ◌∙◌}
 use native.Mathlib.Omega.{arith}
-use borrow.Author.Tests.{not-true, not-false}
 use Rattle.tables.proofs.SoundLaws.{LayoutOf, layout_of_row}
 use Rattle.layout.specs.Layout.{accepted_layout}
 use Rattle.layout.proofs.LayoutLaws.{LayoutFacts, accepted_facts}
 use Rattle.search.proofs.SlotArea.{area_unused, area_used}
-use borrow.Author.Rules.{rules}
 use Rattle.search.proofs.slots.slot_area.Goals as goal
 use Rattle.search.proofs.slots.slot_area.Goals.{After-layout_of-layout, Else-not-is_used}
 

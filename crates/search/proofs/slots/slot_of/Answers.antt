@@ -7,7 +7,6 @@ use Rattle.tables.specs.Bytes.{parse_parents}
 use Rattle.tables.specs.Positions.{slots_of, row_at}
 use Rattle.tables.proofs.SoundLaws.{layout_at_lem}
 use Rattle.search.proofs.SlotArea.{area_of, area_slot, area_past}
-use borrow.Author.Rules.{rules}
 use Rattle.search.proofs.slots.slot_of.Goals as goal
 use Rattle.search.proofs.slots.slot_of.Goals.{After-slot_area-area}
 

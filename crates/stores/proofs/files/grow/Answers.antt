@@ -1,6 +1,5 @@
 use Rattle.wire.specs.Numbers.{Bytes}
 use Rattle.stores.proofs.FileLaws.{part_used, part_past, grow_part}
-use borrow.Author.Rules.{rules}
 use Rattle.stores.proofs.files.grow.Goals as goal
 
 pub grow-requires : goal.grow-requires

@@ -1,5 +1,4 @@
 use Rattle.stores.proofs.FileLaws.{make_part}
-use borrow.Author.Rules.{rules}
 use Rattle.stores.proofs.files.make.Goals as goal
 
 pub returns : goal.returns

@@ -1,6 +1,5 @@
 use Rattle.wire.specs.Numbers.{Bytes}
 use Rattle.stores.proofs.FileLaws.{part_used, own_part}
-use borrow.Author.Rules.{rules}
 use Rattle.stores.proofs.files.put_own.Goals as goal
 
 pub put_own-requires : goal.put_own-requires

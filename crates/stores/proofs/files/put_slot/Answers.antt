@@ -1,6 +1,5 @@
 use Rattle.wire.specs.Numbers.{Bytes}
 use Rattle.stores.proofs.FileLaws.{part_used, part_inside, slot_part}
-use borrow.Author.Rules.{rules}
 use Rattle.stores.proofs.files.put_slot.Goals as goal
 
 pub put_slot-requires : goal.put_slot-requires

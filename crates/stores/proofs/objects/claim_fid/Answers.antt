@@ -1,5 +1,4 @@
 use Rattle.stores.proofs.ObjectStores.{claim_none, claim_some}
-use borrow.Author.Rules.{rules}
 use Rattle.stores.proofs.objects.claim_fid.Goals as goal
 
 pub returns-in-Unclaimed : goal.returns-in-Unclaimed

@@ -4,7 +4,6 @@ use Rattle.rules.specs.Repairs.{destroyed}
 use Rattle.tables.specs.Bytes.{render_object}
 use Rattle.stores.proofs.StoreLaws.{part_whole}
 use Rattle.stores.proofs.ObjectStores.{length_destroyed}
-use borrow.Author.Rules.{rules}
 use Rattle.stores.proofs.objects.destroy.Goals as goal
 
 pub returns : goal.returns

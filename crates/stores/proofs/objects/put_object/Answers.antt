@@ -4,7 +4,6 @@ use Rattle.tables.specs.Records.{used}
 use Rattle.tables.specs.Bytes.{render_object}
 use Rattle.stores.proofs.StoreLaws.{part_whole}
 use Rattle.stores.proofs.ObjectStores.{length_object}
-use borrow.Author.Rules.{rules}
 use Rattle.stores.proofs.objects.put_object.Goals as goal
 
 pub returns : goal.returns

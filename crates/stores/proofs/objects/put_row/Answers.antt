@@ -1,5 +1,4 @@
 use Rattle.stores.proofs.ObjectStores.{object_stores}
-use borrow.Author.Rules.{rules}
 use Rattle.stores.proofs.objects.put_row.Goals as goal
 
 pub returns : goal.returns

@@ -1,4 +1,3 @@
-use borrow.Author.Rules.{rules}
 use Rattle.stores.proofs.ObjectStores.{zero_stores}
 use Rattle.stores.proofs.objects.zero_row.Goals as goal
 

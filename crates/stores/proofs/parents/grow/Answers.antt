@@ -1,7 +1,6 @@
 use native.Mathlib.Omega.{arith}
 use Rattle.wire.specs.Numbers.{Bytes}
 use Rattle.stores.proofs.RowStores.{used_facts, row_start, row_count, grow_stores}
-use borrow.Author.Rules.{rules}
 use Rattle.stores.proofs.parents.grow.Goals as goal
 
 pub layout_of-l-requires : goal.layout_of-l-requires

@@ -1,6 +1,5 @@
 use mathlib.Core.Path.{refl}
 use Rattle.stores.specs.Made.{made_header}
-use borrow.Author.Rules.{rules}
 use Rattle.stores.proofs.parents.made_header.Goals as goal
 
 pub returns : goal.returns

@@ -1,5 +1,4 @@
 use Rattle.stores.proofs.RowStores.{made_nested}
-use borrow.Author.Rules.{rules}
 use Rattle.stores.proofs.parents.make.Goals as goal
 
 pub returns : goal.returns

@@ -1,6 +1,5 @@
 use mathlib.Core.Path.{refl}
 use Rattle.rules.specs.Repairs.{own_header}
-use borrow.Author.Rules.{rules}
 use Rattle.stores.proofs.parents.own_header.Goals as goal
 
 pub returns : goal.returns

@@ -1,4 +1,3 @@
-use borrow.Author.Rules.{rules}
 use Rattle.stores.proofs.parents.put_front.Goals as goal
 
 pub returns : goal.returns

@@ -1,7 +1,6 @@
 use native.Mathlib.Omega.{arith}
 use Rattle.wire.specs.Numbers.{Bytes}
 use Rattle.stores.proofs.RowStores.{used_facts, own_nested}
-use borrow.Author.Rules.{rules}
 use Rattle.stores.proofs.parents.put_own.Goals as goal
 
 pub self_of-f-requires : goal.self_of-f-requires

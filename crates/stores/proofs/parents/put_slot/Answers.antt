@@ -1,7 +1,6 @@
 use native.Mathlib.Omega.{arith}
 use Rattle.wire.specs.Numbers.{Bytes}
 use Rattle.stores.proofs.RowStores.{used_facts, part_layout, slot_back}
-use borrow.Author.Rules.{rules}
 use Rattle.stores.proofs.parents.put_slot.Goals as goal
 
 pub slice_bounds-change_slot-end : goal.slice_bounds-change_slot-end

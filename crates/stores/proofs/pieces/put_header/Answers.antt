@@ -2,7 +2,6 @@ use native.Mathlib.Omega.{arith}
 use Rattle.layout.specs.Layout.{encode_header}
 use Rattle.layout.proofs.HeaderLaws.{length_header}
 use Rattle.stores.proofs.StoreLaws.{part_over}
-use borrow.Author.Rules.{rules}
 use Rattle.stores.proofs.pieces.put_header.Goals as goal
 
 pub returns : goal.returns

@@ -1,8 +1,6 @@
 use native.Mathlib.Omega.{arith}
-use mathlib.Core.Path.{◌≡◌, refl}
-use Prim.Native.Nat.{◌-◌, ◌≤◌}
-use lib.ListN.{length}
-use Rattle.stores.proofs.StoreLaws.{holes_done, holes_start, holes_step, holes_length, holes_end}
+use mathlib.Core.Path.{refl}
+use Rattle.stores.proofs.StoreLaws.{holes_start, holes_step, holes_length, holes_end}
 use Rattle.stores.proofs.pieces.put_holes.Goals as goal
 
 pub loop-k-init : goal.loop-k-init

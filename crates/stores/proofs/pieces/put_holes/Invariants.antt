@@ -1,8 +1,7 @@
-use native.Mathlib.Omega.{arith}
-use mathlib.Core.Path.{◌≡◌, refl}
+use mathlib.Core.Path.{◌≡◌}
 use Prim.Native.Nat.{◌-◌, ◌≤◌}
 use lib.ListN.{length}
-use Rattle.stores.proofs.StoreLaws.{holes_done, holes_start, holes_step, holes_length, holes_end}
+use Rattle.stores.proofs.StoreLaws.{holes_done}
 use Rattle.stores.proofs.pieces.put_holes.Given as goal
 
 abbrev pub invariant-loop-k : goal.invariant-loop-k

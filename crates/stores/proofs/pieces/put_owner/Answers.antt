@@ -1,5 +1,4 @@
 use Rattle.stores.proofs.StoreLaws.{owner_nested}
-use borrow.Author.Rules.{rules}
 use Rattle.stores.proofs.pieces.put_owner.Goals as goal
 
 pub returns : goal.returns

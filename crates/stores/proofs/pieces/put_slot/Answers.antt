@@ -2,7 +2,6 @@ use native.Mathlib.Omega.{arith}
 use Rattle.layout.specs.Slot.{encode_slot}
 use Rattle.layout.proofs.SlotLaws.{length_slot}
 use Rattle.stores.proofs.StoreLaws.{part_whole}
-use borrow.Author.Rules.{rules}
 use Rattle.stores.proofs.pieces.put_slot.Goals as goal
 
 pub returns : goal.returns
