@@ -1,7 +1,6 @@
 use mathlib.Core.Path.{sym, ◌∙◌}
 use Rattle.tables.specs.Positions.{place}
 use Rattle.capi_class.proofs.ClassLaws.{class_none, class_short, class_done}
-use borrow.Author.Rules.{rules}
 use Rattle.capi_class.proofs.class_at.Goals as goal
 
 pub returns-then-out-lt-CLASS_SIZE : goal.returns-then-out-lt-CLASS_SIZE

@@ -1,6 +1,5 @@
 use mathlib.Core.Path.{sym, ap, ◌∙◌}
 use Rattle.rules.specs.Classes.{class_numbers}
-use borrow.Author.Rules.{rules}
 use Rattle.capi_class.proofs.class_numbers.Goals as goal
 
 pub returns-in-Header : goal.returns-in-Header

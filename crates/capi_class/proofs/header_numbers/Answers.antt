@@ -1,6 +1,5 @@
 use mathlib.Core.Path.{sym, ap, ◌∙◌}
 use Rattle.rules.specs.Classes.{header_numbers}
-use borrow.Author.Rules.{rules}
 use Rattle.capi_class.proofs.header_numbers.Goals as goal
 
 pub returns-in-CLEAN : goal.returns-in-CLEAN

@@ -1,6 +1,5 @@
 use mathlib.Core.Path.{sym, ap, ◌∙◌}
 use Rattle.rules.specs.Classes.{object_numbers}
-use borrow.Author.Rules.{rules}
 use Rattle.capi_class.proofs.object_numbers.Goals as goal
 
 pub returns-in-SPARE : goal.returns-in-SPARE

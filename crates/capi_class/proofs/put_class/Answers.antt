@@ -1,7 +1,6 @@
 use Rattle.capi_class.specs.Classes.{listed}
 use mathlib.Core.Path.{ap, ◌∙◌}
 use lib.Seq.{sets}
-use borrow.Author.Rules.{rules}
 use Rattle.capi_class.proofs.put_class.Goals as goal
 
 pub returns : goal.returns

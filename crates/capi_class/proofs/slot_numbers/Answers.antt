@@ -1,7 +1,6 @@
 use mathlib.Core.Path.{sym, ap, ◌∙◌}
 use Rattle.rules.specs.Classes.{slot_numbers}
 use Rattle.capi_class.specs.Classes.{listed}
-use borrow.Author.Rules.{rules}
 use Rattle.capi_class.proofs.slot_numbers.Goals as goal
 
 pub returns-in-CLEAN : goal.returns-in-CLEAN

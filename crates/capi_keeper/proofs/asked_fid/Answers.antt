@@ -1,6 +1,5 @@
 use mathlib.Core.Path.{refl}
 use Rattle.capi_keeper.specs.Keepers.{asked}
-use borrow.Author.Rules.{rules}
 use Rattle.capi_keeper.proofs.asked_fid.Goals as goal
 
 pub returns : goal.returns

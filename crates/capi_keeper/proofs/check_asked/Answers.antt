@@ -1,7 +1,6 @@
 use mathlib.Core.Path.{sym, ◌∙◌}
 use native.Mathlib.Omega.{arith}
 use Rattle.capi_keeper.proofs.AskedLaws.{number_good, bad_11, bad_13, bad_14}
-use borrow.Author.Rules.{rules}
 use Rattle.capi_keeper.proofs.check_asked.Goals as goal
 
 pub returns-then-good_asked : goal.returns-then-good_asked

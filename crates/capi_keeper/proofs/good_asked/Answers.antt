@@ -2,7 +2,6 @@ use mathlib.Core.Path.{ap, ◌∙◌}
 use native.Mathlib.Omega.{arith}
 use Rattle.fid.specs.Fid.{good_object}
 use Rattle.capi_keeper.proofs.AskedLaws.{asked_wide, asked_fits}
-use borrow.Author.Rules.{rules}
 use Rattle.capi_keeper.proofs.good_asked.Goals as goal
 
 pub returns-then-id-gt-MAX_WORD : goal.returns-then-id-gt-MAX_WORD

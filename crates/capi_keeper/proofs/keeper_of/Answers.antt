@@ -1,7 +1,6 @@
 use mathlib.Core.Path.{sym, ◌∙◌}
 use Rattle.capi_keeper.proofs.AskedLaws.{good_fits, zero_passes}
 use Rattle.capi_keeper.proofs.KeeperNumbers.{told_none, told_short, told_done}
-use borrow.Author.Rules.{rules}
 use Rattle.capi_keeper.proofs.keeper_of.Goals as goal
 
 pub returns-then-number-ne0 : goal.returns-then-number-ne0

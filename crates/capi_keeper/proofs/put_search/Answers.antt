@@ -1,5 +1,4 @@
 use Rattle.capi_keeper.proofs.KeeperNumbers.{put_nowhere, put_place}
-use borrow.Author.Rules.{rules}
 use Rattle.capi_keeper.proofs.put_search.Goals as goal
 
 pub returns-in-Nowhere : goal.returns-in-Nowhere

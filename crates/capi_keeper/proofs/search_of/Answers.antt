@@ -1,6 +1,5 @@
 use Rattle.tables.proofs.SoundLaws.{sound_facts}
 use Rattle.capi_keeper.proofs.KeeperNumbers.{place_is, count_is}
-use borrow.Author.Rules.{rules}
 use Rattle.capi_keeper.proofs.search_of.Goals as goal
 
 pub search-requires : goal.search-requires

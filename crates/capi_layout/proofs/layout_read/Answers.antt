@@ -1,6 +1,5 @@
 use mathlib.Core.Path.{sym, ◌∙◌}
 use Rattle.capi_layout.proofs.LayoutNumbers.{read_bad, read_short, read_done}
-use borrow.Author.Rules.{rules}
 use Rattle.capi_layout.proofs.layout_read.Goals as goal
 
 pub returns-then-fields-lt-HEADER_NUMBERS : goal.returns-then-fields-lt-HEADER_NUMBERS

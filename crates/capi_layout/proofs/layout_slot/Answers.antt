@@ -1,6 +1,5 @@
 use mathlib.Core.Path.{sym, ◌∙◌}
 use Rattle.capi_layout.proofs.LayoutNumbers.{slot_bad, slot_none, slot_short, slot_done}
-use borrow.Author.Rules.{rules}
 use Rattle.capi_layout.proofs.layout_slot.Goals as goal
 
 pub returns-then-out-lt-SLOT_NUMBERS : goal.returns-then-out-lt-SLOT_NUMBERS

@@ -1,5 +1,4 @@
 use Rattle.capi_layout.proofs.LayoutNumbers.{header_put}
-use borrow.Author.Rules.{rules}
 use Rattle.capi_layout.proofs.put_header.Goals as goal
 
 pub returns : goal.returns

@@ -1,5 +1,4 @@
 use Rattle.capi_layout.proofs.LayoutNumbers.{hole_put, names_put}
-use borrow.Author.Rules.{rules}
 use Rattle.capi_layout.proofs.put_slot.Goals as goal
 
 pub returns-in-Hole : goal.returns-in-Hole

@@ -1,6 +1,5 @@
 use native.Mathlib.Omega.{arith}
 use Rattle.capi_layout.proofs.LayoutNumbers.{rewrite_uneven, rewrite_none, rewrite_slot}
-use borrow.Author.Rules.{rules}
 use Rattle.capi_layout.proofs.slot_rewrite.Goals as goal
 
 pub returns-then-slot-ne-SLOT_NUMBERS : goal.returns-then-slot-ne-SLOT_NUMBERS

@@ -1,5 +1,4 @@
 use Rattle.capi_layout.proofs.LayoutNumbers.{version_three, version_one}
-use borrow.Author.Rules.{rules}
 use Rattle.capi_layout.proofs.version_of.Goals as goal
 
 pub returns-then-header_size-eq-POOL_HEADER : goal.returns-then-header_size-eq-POOL_HEADER

@@ -1,6 +1,5 @@
 use native.Mathlib.Omega.{arith}
 use Rattle.capi_link.proofs.LinkNumbers.{fit_length, fit_count, fit_time, fit_padding}
-use borrow.Author.Rules.{rules}
 use Rattle.capi_link.proofs.fields_fit.Goals as goal
 
 pub returns-then-fields-ne-HEADER_NUMBERS : goal.returns-then-fields-ne-HEADER_NUMBERS

@@ -1,8 +1,6 @@
 use native.Mathlib.Omega.{arith}
 use mathlib.Core.Path.{sym, ◌∙◌}
-use borrow.Author.Tests.{not-true, not-false}
 use Rattle.capi_link.proofs.LinkNumbers.{header_none, header_is, fit_fields}
-use borrow.Author.Rules.{rules}
 use Rattle.capi_link.proofs.given_header.Goals as goal
 
 pub returns-then-not-fields_fit : goal.returns-then-not-fields_fit

@@ -1,6 +1,5 @@
 use mathlib.Core.Path.{sym, ◌∙◌}
 use Rattle.capi_link.proofs.LinkNumbers.{read_bad, read_short, read_done}
-use borrow.Author.Rules.{rules}
 use Rattle.capi_link.proofs.link_read.Goals as goal
 
 pub returns-then-out-lt-HEADER_NUMBERS : goal.returns-then-out-lt-HEADER_NUMBERS

@@ -1,6 +1,5 @@
 use mathlib.Core.Path.{sym, ◌∙◌}
 use Rattle.capi_link.proofs.LinkNumbers.{record_bad, record_none, record_short, record_done}
-use borrow.Author.Rules.{rules}
 use Rattle.capi_link.proofs.link_record.Goals as goal
 
 pub returns-then-out-lt-RECORD_NUMBERS : goal.returns-then-out-lt-RECORD_NUMBERS

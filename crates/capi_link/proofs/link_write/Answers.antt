@@ -1,6 +1,5 @@
 use mathlib.Core.Path.{sym, ◌∙◌}
 use Rattle.capi_link.proofs.LinkNumbers.{write_none, write_header}
-use borrow.Author.Rules.{rules}
 use Rattle.capi_link.proofs.link_write.Goals as goal
 
 pub returns-in-NotHeader : goal.returns-in-NotHeader

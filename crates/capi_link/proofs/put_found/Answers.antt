@@ -1,5 +1,4 @@
 use Rattle.capi_link.proofs.LinkNumbers.{found_put}
-use borrow.Author.Rules.{rules}
 use Rattle.capi_link.proofs.put_found.Goals as goal
 
 pub returns : goal.returns

@@ -1,6 +1,5 @@
 use mathlib.Core.Path.{sym, ◌∙◌}
 use Rattle.capi_link.proofs.LinkNumbers.{write_refused, write_unplaced, write_full, write_wrong, write_done}
-use borrow.Author.Rules.{rules}
 use Rattle.capi_link.proofs.write_given.Goals as goal
 
 pub returns-then-refused_given : goal.returns-then-refused_given

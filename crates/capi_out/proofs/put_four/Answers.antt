@@ -1,5 +1,4 @@
 use Rattle.capi_out.proofs.OutLaws.{four}
-use borrow.Author.Rules.{rules}
 use Rattle.capi_out.proofs.put_four.Goals as goal
 
 pub returns : goal.returns

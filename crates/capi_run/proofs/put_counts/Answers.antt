@@ -1,10 +1,7 @@
-use Prim.Native.Nat.{◌+◌, ◌-◌, ◌≤◌}
-use mathlib.Core.Path.{◌≡◌, refl, ◌∙◌}
+use Prim.Native.Nat.{◌+◌, ◌-◌}
+use mathlib.Core.Path.{refl, ◌∙◌}
 use native.Mathlib.Omega.{arith}
-use lib.ListN.{length, get_or, drop, length-set}
-use lib.Seq.{sets}
-use Rattle.rules.specs.Runs.{repair_kinds}
-use Rattle.capi_run.specs.Runs.{report_size}
+use lib.ListN.{get_or, length-set}
 use Rattle.capi_run.proofs.RunNumbers.{put_next, put_all}
 use borrow.Author.Rules.{rules}
 use Rattle.capi_run.proofs.put_counts.Goals as goal

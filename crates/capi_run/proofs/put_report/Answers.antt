@@ -1,5 +1,4 @@
 use Rattle.capi_run.proofs.RunNumbers.{report_put}
-use borrow.Author.Rules.{rules}
 use Rattle.capi_run.proofs.put_report.Goals as goal
 
 pub returns : goal.returns

@@ -4,7 +4,6 @@ use Rattle.tables.specs.Bytes.{parse}
 use Rattle.steps.proofs.Standing.{accepted_ready}
 use Rattle.capi_tables.proofs.TableNumbers.{given_is}
 use Rattle.capi_run.proofs.RunNumbers.{call_refused, call_short, call_done}
-use borrow.Author.Rules.{rules}
 use Rattle.capi_run.proofs.run.Goals as goal
 
 pub returns-then-number-ne0 : goal.returns-then-number-ne0

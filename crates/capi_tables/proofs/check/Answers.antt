@@ -1,5 +1,4 @@
 use Rattle.tables.specs.Positions.{place}
-use borrow.Author.Rules.{rules}
 use Rattle.capi_tables.proofs.check.Goals as goal
 
 pub returns : goal.returns

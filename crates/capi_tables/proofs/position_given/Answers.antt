@@ -1,6 +1,5 @@
 use Rattle.tables.specs.Positions.{place}
 use Rattle.capi_tables.proofs.TableNumbers.{given_other, given_three}
-use borrow.Author.Rules.{rules}
 use Rattle.capi_tables.proofs.position_given.Goals as goal
 
 pub returns-then-position-ne3 : goal.returns-then-position-ne3

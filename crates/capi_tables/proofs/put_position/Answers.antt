@@ -1,5 +1,4 @@
 use Rattle.capi_tables.proofs.TableNumbers.{position_put}
-use borrow.Author.Rules.{rules}
 use Rattle.capi_tables.proofs.put_position.Goals as goal
 
 pub returns : goal.returns

@@ -1,6 +1,5 @@
 use mathlib.Core.Path.{sym, ◌∙◌}
 use Rattle.capi_tables.proofs.TableNumbers.{start_none, start_short, start_done}
-use borrow.Author.Rules.{rules}
 use Rattle.capi_tables.proofs.start.Goals as goal
 
 pub returns-then-position-lt3 : goal.returns-then-position-lt3

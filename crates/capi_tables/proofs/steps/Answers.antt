@@ -1,6 +1,5 @@
 use mathlib.Core.Path.{sym, ◌∙◌}
 use Rattle.capi_tables.proofs.TableNumbers.{steps_none, steps_short, steps_done}
-use borrow.Author.Rules.{rules}
 use Rattle.capi_tables.proofs.steps.Goals as goal
 
 pub returns-then-out-lt1 : goal.returns-then-out-lt1

@@ -1,8 +1,6 @@
 use native.Mathlib.Omega.{arith}
 use mathlib.Core.Path.{sym, ◌∙◌}
-use borrow.Author.Tests.{not-true, not-false}
 use Rattle.capi_write.proofs.WriteNumbers.{fit_length, fit_version, fit_pattern, fit_stripe, fit_generation}
-use borrow.Author.Rules.{rules}
 use Rattle.capi_write.proofs.fields_fit.Goals as goal
 
 pub returns-then-fields-ne-HEADER_NUMBERS : goal.returns-then-fields-ne-HEADER_NUMBERS

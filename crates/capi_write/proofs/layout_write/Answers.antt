@@ -1,7 +1,6 @@
 use mathlib.Core.Path.{sym, ◌∙◌}
 use native.Mathlib.Omega.{arith}
 use Rattle.capi_write.proofs.WriteNumbers.{fit_fields, given_is, count_of, write_none, write_header}
-use borrow.Author.Rules.{rules}
 use Rattle.capi_write.proofs.layout_write.Goals as goal
 
 pub bounds-fields-5 : goal.bounds-fields-5

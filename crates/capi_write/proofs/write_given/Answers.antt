@@ -1,7 +1,5 @@
 use mathlib.Core.Path.{sym, ◌∙◌}
-use borrow.Author.Tests.{not-true, not-false}
 use Rattle.capi_write.proofs.WriteNumbers.{write_refused, write_unplaced, write_full, write_wrong, write_done}
-use borrow.Author.Rules.{rules}
 use Rattle.capi_write.proofs.write_given.Goals as goal
 
 pub returns-then-not-may_write : goal.returns-then-not-may_write

@@ -1,5 +1,4 @@
 use Rattle.capi_writes.proofs.WritesLaws.{none_put}
-use borrow.Author.Rules.{rules}
 use Rattle.capi_writes.proofs.put_none.Goals as goal
 
 pub returns : goal.returns

@@ -3,7 +3,6 @@ use mathlib.Core.Path.{refl}
 use native.Mathlib.Omega.{arith}
 use lib.ListN.{length-set}
 use Rattle.capi_writes.proofs.WritesLaws.{row_put}
-use borrow.Author.Rules.{rules}
 use Rattle.capi_writes.proofs.put_row.Goals as goal
 
 pub bounds-out-at-2 : goal.bounds-out-at-2

@@ -2,7 +2,6 @@ use mathlib.Core.Path.{ap}
 use Rattle.rules.specs.Cuts.{target}
 use Rattle.capi_writes.specs.Writes.{table_of, row_of}
 use Rattle.capi_writes.proofs.WritesLaws.{Put, put_left_out, put_target}
-use borrow.Author.Rules.{rules}
 use Rattle.capi_writes.proofs.put_write.Goals as goal
 
 pub returns-in-Nothing : goal.returns-in-Nothing

@@ -3,7 +3,6 @@ use Rattle.tables.specs.Positions.{place}
 use Rattle.writes.specs.Plan.{Decides}
 use Rattle.repair.specs.StepBytes.{step_of}
 use Rattle.capi_writes.proofs.WritesLaws.{Told, writes_refused, writes_end, writes_short, writes_ready, writes_told}
-use borrow.Author.Rules.{rules}
 use Rattle.capi_writes.proofs.step_writes.Goals as goal
 
 pub returns-then-number-ne0 : goal.returns-then-number-ne0

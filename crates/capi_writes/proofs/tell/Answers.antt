@@ -2,7 +2,6 @@ use mathlib.Core.Path.{sym, ap, ◌∙◌}
 use Rattle.rules.specs.declared.Step.{Step}
 use Rattle.rules.specs.Cuts.{targets}
 use Rattle.capi_writes.specs.Writes.{step_number, told}
-use borrow.Author.Rules.{rules}
 use Rattle.capi_writes.proofs.tell.Goals as goal
 
 pub returns-in-Rests : goal.returns-in-Rests

@@ -1,7 +1,5 @@
 use mathlib.Core.Path.{sym, ◌∙◌}
-use borrow.Author.Tests.{not-true, not-false}
 use Rattle.classify.proofs.AnswerLaws.{sound_is, answer_refused, answer_nowhere, answer_end, answer_class}
-use borrow.Author.Rules.{rules}
 use Rattle.classify.proofs.class_at.Goals as goal
 
 pub returns-then-number-ne0 : goal.returns-then-number-ne0

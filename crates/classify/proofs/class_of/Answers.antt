@@ -2,7 +2,6 @@ use native.Mathlib.Omega.{arith}
 use Prim.Native.Nat.{◌-◌}
 use Rattle.tables.proofs.SoundLaws.{sound_facts}
 use Rattle.classify.proofs.AnswerLaws.{parent_there, object_there, at_object, at_header, at_slot}
-use borrow.Author.Rules.{rules}
 use Rattle.classify.proofs.class_of.Goals as goal
 
 pub object_class-requires : goal.object_class-requires

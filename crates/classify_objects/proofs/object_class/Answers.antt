@@ -1,8 +1,6 @@
 use mathlib.Core.Path.{sym, ◌∙◌}
-use borrow.Author.Tests.{not-true, not-false}
 use Rattle.tables.proofs.SoundLaws.{sound_facts}
 use Rattle.classify_objects.proofs.ObjectLaws.{class_unused, class_kept, class_unnamed}
-use borrow.Author.Rules.{rules}
 use Rattle.classify_objects.proofs.object_class.Goals as goal
 
 pub returns-then-not-is_used : goal.returns-then-not-is_used

@@ -2,7 +2,6 @@ use mathlib.Core.Path.{sym, ap}
 use Rattle.tables.specs.Bytes.{parse}
 use Rattle.rules.specs.Classes.{unnamed_class}
 use Rattle.classify_objects.proofs.ObjectLaws.{class_empty, class_orphan, class_conflict}
-use borrow.Author.Rules.{rules}
 use Rattle.classify_objects.proofs.unnamed_class.Goals as goal
 
 pub returns-then-fresh : goal.returns-then-fresh

@@ -1,8 +1,6 @@
 use mathlib.Core.Path.{sym, ap, ◌∙◌}
-use borrow.Author.Tests.{not-true, not-false}
 use Rattle.rules.specs.Classes.{claim_class}
 use Rattle.classify_places.proofs.ClaimLaws.{class_unmatched, class_claimed}
-use borrow.Author.Rules.{rules}
 use Rattle.rules.specs.Places.{place_at}
 use Rattle.classify_slots.proofs.claim_class.Goals as goal
 

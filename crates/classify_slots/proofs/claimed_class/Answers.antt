@@ -1,4 +1,3 @@
-use borrow.Author.Tests.{not-true, not-false}
 use Rattle.classify_places.proofs.ClaimLaws.{class_wrong_ost, class_owner, class_clean}
 use Rattle.classify_slots.proofs.claimed_class.Goals as goal
 

@@ -1,7 +1,6 @@
 use native.Mathlib.Omega.{arith}
 use Rattle.rules.specs.Keeper.{is_place}
 use Rattle.classify_places.proofs.ClaimLaws.{place_row, place_slot}
-use borrow.Author.Rules.{rules}
 use Rattle.classify_slots.proofs.is_place.Goals as goal
 
 pub returns-then-k-r : goal.returns-then-k-r

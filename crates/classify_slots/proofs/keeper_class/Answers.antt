@@ -1,7 +1,6 @@
 use mathlib.Core.Path.{sym, ap}
 use Rattle.rules.specs.Classes.{keeper_class}
 use Rattle.classify_places.proofs.ClaimLaws.{class_present}
-use borrow.Author.Rules.{rules}
 use Rattle.rules.specs.Places.{place_at}
 use Rattle.classify_slots.proofs.keeper_class.Goals as goal
 

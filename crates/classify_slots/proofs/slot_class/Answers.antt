@@ -1,9 +1,7 @@
 use Rattle.layout.specs.declared.Slot.TheVariants.{Names}
 use mathlib.Core.Path.{◌≡◌}
-use borrow.Author.Tests.{not-true, not-false}
 use Rattle.tables.proofs.SoundLaws.{sound_facts}
 use Rattle.classify_slots.proofs.SlotLaws.{class_hole, class_multiple, class_keeper}
-use borrow.Author.Rules.{rules}
 use Rattle.classify_slots.proofs.slot_class.Goals as goal
 use Rattle.classify_slots.proofs.slot_class.Goals.{In-Names}
 

@@ -2,7 +2,6 @@ use native.Mathlib.Omega.{arith}
 use Rattle.tables.specs.Bytes.{parse}
 use Rattle.writes.proofs.RowLaws.{decides_same}
 use Rattle.decide.proofs.PartLaws.{part_header, part_slot}
-use borrow.Author.Rules.{rules}
 use Rattle.rules.specs.Settings.{settings_of}
 use Rattle.decide.proofs.part.Goals as goal
 

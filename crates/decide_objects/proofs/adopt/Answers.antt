@@ -1,6 +1,5 @@
 use Rattle.writes.proofs.RowLaws.{decides_rest, decides_same}
 use Rattle.decide_objects.proofs.ObjectLaws.{claim_none, claim_some}
-use borrow.Author.Rules.{rules}
 use Rattle.decide_objects.proofs.adopt.Goals as goal
 
 pub returns-in-Unclaimed : goal.returns-in-Unclaimed

@@ -4,7 +4,6 @@ use Rattle.rules.specs.Repairs.{owner_write}
 use Rattle.writes.proofs.RowLaws.{decides_rest, decides_same, row_inside}
 use Rattle.decide_objects.proofs.PlaceLaws.{fill_place, take_place, grow_past, new_few}
 use Rattle.decide_objects.proofs.ObjectLaws.{way_none, way_new, way_fill, way_grow, way_take}
-use borrow.Author.Rules.{rules}
 use Rattle.decide_objects.proofs.adopt_by.Goals as goal
 
 pub way-way-requires : goal.way-way-requires

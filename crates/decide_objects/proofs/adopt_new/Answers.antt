@@ -1,6 +1,5 @@
 use mathlib.Core.Path.{sym, ◌∙◌}
 use Rattle.decide_objects.proofs.ObjectLaws.{new_none, new_row}
-use borrow.Author.Rules.{rules}
 use Rattle.decide_objects.proofs.adopt_new.Goals as goal
 
 pub returns-in-NoRow : goal.returns-in-NoRow

@@ -1,5 +1,4 @@
 use Rattle.decide_objects.proofs.ObjectLaws.{drop_hole, drop_none, drop_row}
-use borrow.Author.Rules.{rules}
 use Rattle.decide_objects.proofs.drop_named.Goals as goal
 
 pub returns-in-Hole : goal.returns-in-Hole

@@ -1,5 +1,4 @@
 use Rattle.decide_objects.proofs.ObjectLaws.{owner_read}
-use borrow.Author.Rules.{rules}
 use Rattle.decide_objects.proofs.file_owner.Goals as goal
 
 pub returns : goal.returns

@@ -1,8 +1,6 @@
 use mathlib.Core.Path.{sym, ◌∙◌}
-use borrow.Author.Tests.{not-true, not-false}
 use Rattle.writes.proofs.RowLaws.{decides_rest, decides_same}
 use Rattle.decide_objects.proofs.ObjectLaws.{object_kept, object_unused_row, object_named, object_spare, object_conflict, object_empty, object_orphan}
-use borrow.Author.Rules.{rules}
 use Rattle.rules.specs.Settings.{settings_of}
 use Rattle.decide_objects.proofs.object.Goals as goal
 

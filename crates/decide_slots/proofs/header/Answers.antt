@@ -1,6 +1,5 @@
 use Rattle.tables.proofs.SoundLaws.{sound_facts}
 use Rattle.decide_slots.proofs.SlotLaws.{header_unused, header_clean, header_self}
-use borrow.Author.Rules.{rules}
 use Rattle.decide_slots.proofs.header.Goals as goal
 
 pub header_class-class-requires : goal.header_class-class-requires

@@ -1,5 +1,4 @@
 use Rattle.decide_slots.proofs.SlotLaws.{index_right, index_wrong}
-use borrow.Author.Rules.{rules}
 use Rattle.decide_slots.proofs.index_write.Goals as goal
 
 pub returns-then-index-ost : goal.returns-then-index-ost

@@ -1,6 +1,5 @@
 use mathlib.Core.Path.{sym, ◌∙◌}
 use Rattle.decide_slots.proofs.SlotLaws.{make_none, make_done}
-use borrow.Author.Rules.{rules}
 use Rattle.decide_slots.proofs.make_object.Goals as goal
 
 pub returns-in-NoRow : goal.returns-in-NoRow

@@ -2,7 +2,6 @@ use mathlib.Core.Path.{sym, ◌∙◌}
 use native.Mathlib.Omega.{arith}
 use Rattle.search.proofs.FoundRows.{object_inside}
 use Rattle.decide_slots.proofs.SlotLaws.{mend_absent, mend_done}
-use borrow.Author.Rules.{rules}
 use Rattle.decide_slots.proofs.mend.Goals as goal
 
 pub row_at-requires : goal.row_at-requires

@@ -2,7 +2,6 @@ use mathlib.Core.Path.{sym, ◌∙◌}
 use mathlib.Core.Logic.{⊎_elim}
 use Rattle.stores.specs.UsedRow.{row_bytes}
 use Rattle.decide_slots.proofs.SlotLaws.{mend_claim, mend_owner, mend_none}
-use borrow.Author.Rules.{rules}
 use Rattle.decide_slots.proofs.mend_write.Goals as goal
 
 pub returns-then-same_owner : goal.returns-then-same_owner

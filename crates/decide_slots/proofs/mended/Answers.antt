@@ -1,6 +1,5 @@
 use Rattle.stores.specs.UsedRow.{row_bytes}
 use Rattle.decide_slots.proofs.SlotLaws.{mended_is}
-use borrow.Author.Rules.{rules}
 use Rattle.decide_slots.proofs.mended.Goals as goal
 
 pub returns : goal.returns

@@ -1,6 +1,4 @@
 use mathlib.Core.Path.{sym, ◌∙◌}
-use borrow.Author.Tests.{not-true, not-false}
-use borrow.Author.Rules.{rules}
 use Rattle.tables.specs.Bytes.{parse_parents}
 use Rattle.tables.proofs.SoundLaws.{sound_facts}
 use Rattle.rules.specs.Settings.{settings_of}

@@ -1,8 +1,6 @@
 use mathlib.Core.Path.{sym, ◌∙◌}
-use borrow.Author.Tests.{not-true, not-false}
 use Rattle.writes.proofs.RowLaws.{decides_rest, decides_same}
 use Rattle.decide_slots.proofs.SlotLaws.{slot_hole, slot_clean, slot_multiple, slot_dangling, slot_dangling_off, slot_blank, slot_unmatched, slot_wrong_ost, slot_owner}
-use borrow.Author.Rules.{rules}
 use Rattle.rules.specs.Settings.{settings_of}
 use Rattle.decide_slots.proofs.named_slot.Goals as goal
 

@@ -1,6 +1,5 @@
 use Rattle.stores.specs.UsedRow.{row_bytes}
 use Rattle.decide_slots.proofs.SlotLaws.{new_is}
-use borrow.Author.Rules.{rules}
 use Rattle.decide_slots.proofs.new_object.Goals as goal
 
 pub returns : goal.returns

@@ -1,7 +1,6 @@
 use Rattle.tables.proofs.SoundLaws.{sound_facts}
 use Rattle.writes.proofs.RowLaws.{decides_same}
 use Rattle.decide_slots.proofs.SlotLaws.{reserve_takes, reserve_empty}
-use borrow.Author.Rules.{rules}
 use Rattle.decide_slots.proofs.redirect.Goals as goal
 
 pub usable-found-requires : goal.usable-found-requires

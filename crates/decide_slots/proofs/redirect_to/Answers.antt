@@ -1,6 +1,5 @@
 use mathlib.Core.Path.{sym, ◌∙◌}
 use Rattle.decide_slots.proofs.SlotLaws.{redirect_none, redirect_done}
-use borrow.Author.Rules.{rules}
 use Rattle.decide_slots.proofs.redirect_to.Goals as goal
 
 pub returns-in-NoRow : goal.returns-in-NoRow

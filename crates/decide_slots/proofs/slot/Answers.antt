@@ -2,7 +2,6 @@ use native.Mathlib.Omega.{arith}
 use Rattle.tables.proofs.SoundLaws.{sound_facts}
 use Rattle.writes.proofs.RowLaws.{decides_rest, decides_same, slot_ready, slot_few}
 use Rattle.decide_slots.proofs.SlotLaws.{step_hole, step_names}
-use borrow.Author.Rules.{rules}
 use Rattle.rules.specs.Settings.{settings_of}
 use Rattle.decide_slots.proofs.slot.Goals as goal
 

@@ -1,5 +1,4 @@
 use mathlib.Core.Path.{sym, ◌∙◌}
-use borrow.Author.Rules.{rules}
 use Rattle.steps.proofs.Standing.{accepted_ready}
 use Rattle.steps.proofs.RunLaws.{clauses}
 use Rattle.engine.proofs.CheckFirst.{run_refused, run_accepted}

@@ -2,7 +2,6 @@ use native.Mathlib.Omega.{arith}
 use Rattle.tables.specs.Bytes.{parse}
 use Rattle.capi_tables.proofs.TableNumbers.{given_is}
 use Rattle.listing.proofs.ListingLaws.{accepted, listing_refused, listing_short, listing_told}
-use borrow.Author.Rules.{rules}
 use Rattle.listing.proofs.classes.Goals as goal
 
 pub returns-then-number-ne0 : goal.returns-then-number-ne0

@@ -1,7 +1,5 @@
 use mathlib.Core.Path.{sym, ◌∙◌}
-use borrow.Author.Tests.{not-true, not-false}
 use Rattle.listing.proofs.ListingLaws.{number_tables, tables_sound, number_nowhere, number_none}
-use borrow.Author.Rules.{rules}
 use Rattle.listing.proofs.number.Goals as goal
 
 pub returns-then-number-ne0 : goal.returns-then-number-ne0

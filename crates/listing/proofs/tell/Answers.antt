@@ -1,14 +1,11 @@
-use Prim.Native.Nat.{◌-◌, ◌≤◌}
-use mathlib.Core.Path.{◌≡◌, refl, sym, ◌∙◌}
+use Prim.Native.Nat.{◌-◌}
+use mathlib.Core.Path.{refl, sym, ◌∙◌}
 use mathlib.Core.Bool.{true}
 use native.Mathlib.Omega.{arith}
-use borrow.Author.Rules.{rules}
-use lib.ListN.{length}
 use Rattle.tables.specs.Bytes.{parse}
-use Rattle.tables.specs.Positions.{is_position}
 use Rattle.listing.specs.Listing.{room, told_positions}
 use Rattle.rules.proofs.Theorem.Runs.Order.{exists_is, next_exists}
-use Rattle.listing.proofs.TellLaws.{Leaves, leaves_start, leaves_next, ends_there, ends_full}
+use Rattle.listing.proofs.TellLaws.{leaves_start, leaves_next, ends_there, ends_full}
 use Rattle.listing.proofs.tell.Goals as goal
 
 pub loop-done-init : goal.loop-done-init

@@ -1,14 +1,10 @@
 use Prim.Native.Nat.{◌-◌, ◌≤◌}
-use mathlib.Core.Path.{◌≡◌, refl, sym, ◌∙◌}
+use mathlib.Core.Path.{◌≡◌}
 use mathlib.Core.Bool.{true}
-use native.Mathlib.Omega.{arith}
-use borrow.Author.Rules.{rules}
 use lib.ListN.{length}
 use Rattle.tables.specs.Bytes.{parse}
 use Rattle.tables.specs.Positions.{is_position}
-use Rattle.listing.specs.Listing.{room, told_positions}
-use Rattle.rules.proofs.Theorem.Runs.Order.{exists_is, next_exists}
-use Rattle.listing.proofs.TellLaws.{Leaves, leaves_start, leaves_next, ends_there, ends_full}
+use Rattle.listing.proofs.TellLaws.{Leaves}
 use Rattle.listing.proofs.tell.Given as goal
 
 abbrev pub invariant-loop-done : goal.invariant-loop-done

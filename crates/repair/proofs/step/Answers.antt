@@ -5,7 +5,6 @@ use Rattle.rules.specs.Runs.{outcome, step_tables}
 use Rattle.writes.specs.Plan.{Possible, Decides}
 use Rattle.decide.proofs.FitLaws.{possible_step}
 use Rattle.repair.specs.StepBytes.{step_of, parents_after, objects_after}
-use borrow.Author.Rules.{rules}
 use Rattle.rules.specs.Settings.{settings_of}
 use Rattle.repair.proofs.step.Goals as goal
 

@@ -1,4 +1,3 @@
-use borrow.Author.Rules.{rules}
 use Rattle.steps.proofs.RunLaws.{last_end, last_used}
 use Rattle.steps.proofs.last_answer.Goals as goal
 

@@ -1,19 +1,9 @@
-use Prim.Native.Nat.{ℕ, ◌-◌, ◌≤◌}
-use mathlib.Core.Path.{◌≡◌, refl, sym, subst, ◌∙◌}
+use Prim.Native.Nat.{◌-◌}
+use mathlib.Core.Path.{refl, sym, ◌∙◌}
 use native.Mathlib.Omega.{arith}
-use borrow.Author.Rules.{rules}
-use lib.ListN.{length}
 use Rattle.wire.specs.Numbers.{Bytes}
-use Rattle.steps.specs.Ready.{steps_bytes}
-use Rattle.rules.specs.contracts.Outcome as T
-use Rattle.rules.specs.declared.Outcome.{Outcome}
-use Rattle.rules.specs.declared.Outcome.TheVariants.{Stopped}
-use Rattle.steps.specs.Tallies.{Within}
-use types.Run.{OneOf, miss}
-use denote.Enum.Declared.{tag_of}
-use mathlib.Core.List.{[], ◌∷◌}
-use Rattle.steps.proofs.Standing.{Stands, stands_sound, ready_stands}
-use Rattle.steps.proofs.RunLaws.{told, none_within, room, within_next, from_here, here_start, here_end, here_used, here_stuck, here_next, stands_still, stands_next}
+use Rattle.steps.proofs.Standing.{stands_sound, ready_stands}
+use Rattle.steps.proofs.RunLaws.{told, none_within, room, within_next, here_start, here_end, here_used, here_stuck, here_next, stands_still, stands_next}
 use Rattle.steps.proofs.steps.Goals as goal
 
 pub loop-done-init : goal.loop-done-init

@@ -1,7 +1,5 @@
 use mathlib.Core.Path.{sym, ◌∙◌}
-use native.Mathlib.Omega.{arith}
 use borrow.Author.Tests.{not-true, not-false}
-use borrow.Author.Rules.{rules}
 use Rattle.taking.proofs.TakingLaws.{not_there, not_fresh, not_claimed, unless_named}
 use Rattle.taking.proofs.is_reusable.Goals as goal
 

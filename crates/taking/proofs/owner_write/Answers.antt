@@ -1,6 +1,5 @@
 use Rattle.rules.specs.Repairs.{with_owner}
 use Rattle.taking.proofs.TakingLaws.{owner_same, owner_other}
-use borrow.Author.Rules.{rules}
 use Rattle.taking.proofs.owner_write.Goals as goal
 
 pub returns-then-same_owner : goal.returns-then-same_owner

@@ -1,11 +1,9 @@
-use mathlib.Core.Path.{◌≡◌, sym, ap, ◌∙◌}
+use mathlib.Core.Path.{sym, ap, ◌∙◌}
 use native.Mathlib.Omega.{arith}
-use Prim.Native.Nat.{◌-◌, ◌*◌}
-use lib.ListN.{take, drop}
-use Rattle.tables.specs.Bytes.{object_size, parse_parents, parse_object, parse_objects}
-use Rattle.rules.specs.Rows.{first_row}
+use Prim.Native.Nat.{◌-◌}
+use Rattle.tables.specs.Bytes.{parse_parents, parse_object}
 use Rattle.rules.specs.Repairs.{is_reusable}
-use Rattle.search.proofs.RowSearch.{rows_left, row_none, row_hit, row_pass}
+use Rattle.search.proofs.RowSearch.{row_none, row_hit, row_pass}
 use Rattle.taking.proofs.TakingLaws.{reusable_start}
 use Rattle.taking.proofs.reusable.Goals as goal
 

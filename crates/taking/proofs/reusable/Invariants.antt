@@ -1,12 +1,10 @@
-use mathlib.Core.Path.{◌≡◌, sym, ap, ◌∙◌}
-use native.Mathlib.Omega.{arith}
+use mathlib.Core.Path.{◌≡◌}
 use Prim.Native.Nat.{◌-◌, ◌*◌}
 use lib.ListN.{take, drop}
 use Rattle.tables.specs.Bytes.{object_size, parse_parents, parse_object, parse_objects}
 use Rattle.rules.specs.Rows.{first_row}
 use Rattle.rules.specs.Repairs.{is_reusable}
-use Rattle.search.proofs.RowSearch.{rows_left, row_none, row_hit, row_pass}
-use Rattle.taking.proofs.TakingLaws.{reusable_start}
+use Rattle.search.proofs.RowSearch.{rows_left}
 use Rattle.taking.proofs.reusable.Given as goal
 
 abbrev pub invariant-loop-o : goal.invariant-loop-o

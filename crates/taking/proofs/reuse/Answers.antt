@@ -1,6 +1,5 @@
 use mathlib.Core.Path.{ap, ◌∙◌}
 use native.Mathlib.Omega.{arith}
-use borrow.Author.Rules.{rules}
 use Rattle.tables.specs.Bytes.{is_used}
 use Rattle.stores.specs.UsedRow.{row_bytes}
 use Rattle.taking.proofs.TakingLaws.{reuse_done}

@@ -1,6 +1,5 @@
 use Rattle.wire.specs.Numbers.{Bytes}
 use Rattle.writes.proofs.ActLaws.{first_fits, second_fits, third_fits, act_rests, act_stops, act_three}
-use borrow.Author.Rules.{rules}
 use Rattle.writes.proofs.act.Goals as goal
 
 pub put-requires : goal.put-requires

@@ -1,5 +1,4 @@
 use Rattle.writes.proofs.PutLaws.{nothing_done, object_fits, object_done, destroy_fits, destroy_done, own_fits, own_done, slot_fits, slot_done, grow_fits, grow_done, make_fits, make_done}
-use borrow.Author.Rules.{rules}
 use Rattle.writes.proofs.put.Goals as goal
 
 pub put_object-requires : goal.put_object-requires

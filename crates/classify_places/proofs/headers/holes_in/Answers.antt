@@ -1,9 +1,7 @@
 use mathlib.Core.Path.{sym, ◌∙◌}
 use native.Mathlib.Omega.{arith}
-use borrow.Author.Tests.{not-true, not-false}
 use Rattle.tables.proofs.SoundLaws.{LayoutOf, layout_at_lem, layout_of_row}
 use Rattle.classify_places.proofs.HeaderLaws.{holes_unused, holes_used}
-use borrow.Author.Rules.{rules}
 use Rattle.classify_places.proofs.headers.holes_in.Goals as goal
 use Rattle.classify_places.proofs.headers.holes_in.Goals.{Else-not-is_used}
 

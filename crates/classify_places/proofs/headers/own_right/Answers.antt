@@ -1,6 +1,5 @@
 use native.Mathlib.Omega.{arith}
 use Rattle.classify_places.proofs.HeaderLaws.{own_id, own_sequence}
-use borrow.Author.Rules.{rules}
 use Rattle.classify_places.proofs.headers.own_right.Goals as goal
 
 pub returns-then-h-own : goal.returns-then-h-own

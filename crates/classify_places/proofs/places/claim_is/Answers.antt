@@ -1,7 +1,5 @@
 use mathlib.Core.Path.{sym, ◌∙◌}
-use borrow.Author.Tests.{not-true, not-false}
 use Rattle.classify_places.proofs.ClaimLaws.{claim_file, claim_index}
-use borrow.Author.Rules.{rules}
 use Rattle.rules.specs.Places.{place_at, claims}
 use Rattle.classify_places.proofs.places.claim_is.Goals as goal
 

@@ -1,6 +1,5 @@
 use mathlib.Core.Path.{ap, sym}
 use Rattle.rules.specs.Places.{is_way}
-use borrow.Author.Rules.{rules}
 use Rattle.classify_places.proofs.places.is_way.Goals as goal
 
 pub returns-in-NoWay : goal.returns-in-NoWay

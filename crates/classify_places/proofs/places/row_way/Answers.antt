@@ -1,6 +1,5 @@
 use native.Mathlib.Omega.{arith}
 use Rattle.classify_places.proofs.PlaceLaws.{row_slot, row_grows, row_full}
-use borrow.Author.Rules.{rules}
 use Rattle.classify_places.proofs.places.row_way.Goals as goal
 
 pub returns-then-j-width : goal.returns-then-j-width

@@ -1,7 +1,6 @@
 use Rattle.tables.specs.Bytes.{parse}
 use Rattle.rules.specs.Places.{slot_way}
 use Rattle.classify_places.proofs.PlaceLaws.{slot_taken, slot_held}
-use borrow.Author.Rules.{rules}
 use Rattle.classify_places.proofs.places.slot_way.Goals as goal
 
 pub returns-in-Hole : goal.returns-in-Hole

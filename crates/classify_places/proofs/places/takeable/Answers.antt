@@ -1,7 +1,6 @@
 use mathlib.Core.Path.{sym, ◌∙◌}
 use borrow.Author.Tests.{not-true, not-false}
 use Rattle.classify_places.proofs.PlaceLaws.{take_missing, take_stale, take_other, take_alone}
-use borrow.Author.Rules.{rules}
 use Rattle.classify_places.proofs.places.takeable.Goals as goal
 
 pub returns-then-not-x : goal.returns-then-not-x

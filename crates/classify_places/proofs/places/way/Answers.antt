@@ -1,7 +1,6 @@
 use mathlib.Core.Path.{sym, ◌∙◌}
 use Rattle.search.proofs.FoundRows.{parent_inside}
 use Rattle.classify_places.proofs.PlaceLaws.{way_far, way_absent, way_row}
-use borrow.Author.Rules.{rules}
 use Rattle.classify_places.proofs.places.way.Goals as goal
 
 pub returns-then-place-ge-MAX_SLOTS : goal.returns-then-place-ge-MAX_SLOTS

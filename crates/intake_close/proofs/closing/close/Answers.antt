@@ -1,5 +1,4 @@
 use Rattle.intake_close.proofs.CloseLaws.{entry_none, entry_owned}
-use borrow.Author.Rules.{rules}
 use Rattle.intake_close.proofs.closing.close.Goals as goal
 
 pub returns-in-NoOwner : goal.returns-in-NoOwner

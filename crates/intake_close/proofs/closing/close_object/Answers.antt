@@ -1,12 +1,10 @@
 use native.Mathlib.Omega.{arith}
-use mathlib.Core.Path.{◌≡◌, sym, ◌∙◌}
+use mathlib.Core.Path.{sym, ◌∙◌}
 use lib.ListN.{length}
 use Rattle.tables.specs.Bytes.{object_size}
 use Rattle.tables.proofs.AllLaws.{row_fits}
 use Rattle.intake_close.proofs.FillLaws.{free_is}
 use Rattle.intake_close.proofs.CloseLaws.{object_none, object_filled}
-use borrow.Author.Rules.{rules}
-use Rattle.search.proofs.first.free_row.Reads as free-row-reads
 use Rattle.intake_close.proofs.closing.close_object.Goals as goal
 
 pub fill_object-requires : goal.fill_object-requires

@@ -1,5 +1,4 @@
 use Rattle.intake_close.proofs.CloseLaws.{owned_bare, owned_neither, owned_both, owned_object, owned_parent}
-use borrow.Author.Rules.{rules}
 use Rattle.intake_close.proofs.closing.close_owned.Goals as goal
 
 pub returns-then-m-eq0 : goal.returns-then-m-eq0

@@ -1,12 +1,10 @@
 use native.Mathlib.Omega.{arith}
-use mathlib.Core.Path.{◌≡◌, sym, ◌∙◌}
+use mathlib.Core.Path.{sym, ◌∙◌}
 use lib.ListN.{length}
 use Rattle.tables.specs.Bytes.{parent_size}
 use Rattle.tables.proofs.AllLaws.{row_fits}
 use Rattle.intake_close.proofs.FillLaws.{free_is}
 use Rattle.intake_close.proofs.CloseLaws.{parent_long, parent_none, parent_filled}
-use borrow.Author.Rules.{rules}
-use Rattle.search.proofs.first.free_row.Reads as free-row-reads
 use Rattle.intake_close.proofs.closing.close_parent.Goals as goal
 
 pub returns-then-size-gt-LAYOUT_ROOM : goal.returns-then-size-gt-LAYOUT_ROOM

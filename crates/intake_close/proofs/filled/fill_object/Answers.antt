@@ -1,6 +1,5 @@
 use native.Mathlib.Omega.{arith}
 use Rattle.intake_close.proofs.FillLaws.{object_in_lem}
-use borrow.Author.Rules.{rules}
 use Rattle.intake_close.proofs.filled.fill_object.Goals as goal
 
 pub returns : goal.returns

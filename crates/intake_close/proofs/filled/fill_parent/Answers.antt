@@ -1,6 +1,5 @@
 use native.Mathlib.Omega.{arith}
 use Rattle.intake_close.proofs.FillLaws.{parent_in}
-use borrow.Author.Rules.{rules}
 use Rattle.intake_close.proofs.filled.fill_parent.Goals as goal
 
 pub returns : goal.returns

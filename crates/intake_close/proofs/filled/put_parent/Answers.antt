@@ -1,10 +1,5 @@
 use native.Mathlib.Omega.{arith}
 use Rattle.intake_close.proofs.FillLaws.{parent_put}
-use borrow.Author.Rules.{rules}
-use Rattle.stores.proofs.pieces.put_byte.Reads as put-byte-reads
-use Rattle.stores.proofs.pieces.put_owner.Reads as put-owner-reads
-use Rattle.wire.proofs.put_bytes.Reads as put-bytes-reads
-use Rattle.wire.proofs.put_le16.Reads as put-le16-reads
 use Rattle.intake_close.proofs.filled.put_parent.Goals as goal
 
 pub returns : goal.returns

@@ -1,5 +1,4 @@
 use Rattle.intake_close.proofs.OwnerLaws.{gid_none, gid_last, gid_more}
-use borrow.Author.Rules.{rules}
 use Rattle.intake_close.proofs.owners.after_gid.Goals as goal
 
 pub returns-then-end-line : goal.returns-then-end-line

@@ -1,5 +1,4 @@
 use Rattle.intake_close.proofs.OwnerLaws.{uid_none, uid_more, ends_within}
-use borrow.Author.Rules.{rules}
 use Rattle.intake_close.proofs.owners.after_uid.Goals as goal
 
 pub after_gid-requires : goal.after_gid-requires

@@ -1,7 +1,6 @@
-use native.Mathlib.Omega.{arith}
 use Prim.Native.Nat.{◌-◌}
 use lib.ListN.{length}
-use Rattle.intake_close.proofs.OwnerLaws.{Passed, pass_start, pass_on, pass_end, pass_last}
+use Rattle.intake_close.proofs.OwnerLaws.{Passed}
 use Rattle.intake_close.proofs.owners.line_stop.Given as goal
 
 abbrev pub invariant-loop-at : goal.invariant-loop-at

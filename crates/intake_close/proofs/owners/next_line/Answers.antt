@@ -1,6 +1,5 @@
 use native.Mathlib.Omega.{arith}
 use Rattle.intake_close.proofs.OwnerLaws.{after_next, after_last}
-use borrow.Author.Rules.{rules}
 use Rattle.intake_close.proofs.owners.next_line.Goals as goal
 
 pub returns-then-end-s : goal.returns-then-end-s

@@ -1,5 +1,4 @@
 use Rattle.intake_close.proofs.OwnerLaws.{owner_none, owner_more, ends_within}
-use borrow.Author.Rules.{rules}
 use Rattle.intake_close.proofs.owners.owner_line.Goals as goal
 
 pub after_uid-requires : goal.after_uid-requires

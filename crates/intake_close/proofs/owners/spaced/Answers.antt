@@ -1,6 +1,5 @@
 use native.Mathlib.Omega.{arith}
 use Rattle.intake_close.proofs.OwnerLaws.{space_none, space_other, space_number}
-use borrow.Author.Rules.{rules}
 use Rattle.intake_close.proofs.owners.spaced.Goals as goal
 
 pub returns-then-line-at : goal.returns-then-line-at

@@ -1,6 +1,5 @@
 use native.Mathlib.Omega.{arith}
 use Rattle.intake_close.proofs.OwnerLaws.{told_none, told_some}
-use borrow.Author.Rules.{rules}
 use Rattle.intake_close.proofs.owners.told.Goals as goal
 
 pub returns-then-at-from : goal.returns-then-at-from

@@ -1,6 +1,5 @@
 use native.Mathlib.Omega.{arith}
 use Rattle.intake_feed.proofs.EndLaws.{end_stopped, end_open, end_line, end_none}
-use borrow.Author.Rules.{rules}
 use Rattle.intake_feed.proofs.feeding.at_end.Goals as goal
 
 pub returns-then-k-ne0 : goal.returns-then-k-ne0

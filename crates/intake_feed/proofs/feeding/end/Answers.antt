@@ -1,10 +1,8 @@
 use native.Mathlib.Omega.{arith}
-use mathlib.Core.Path.{◌≡◌, refl, sym, ◌∙◌}
-use borrow.Author.Tests.{not-true, not-false}
+use mathlib.Core.Path.{sym, ◌∙◌}
 use Rattle.intake_feed.proofs.EndLaws.{ended_bad, ended_short, ended_told, end_requires}
 use Rattle.intake_state.proofs.TestLaws.{state_long}
 use Rattle.intake_feed.specs.End.{DumpEnded}
-use borrow.Author.Rules.{rules}
 use Rattle.intake_feed.proofs.feeding.end.Goals as goal
 
 pub returns-then-not-good_state : goal.returns-then-not-good_state

@@ -1,9 +1,8 @@
 use native.Mathlib.Omega.{arith}
 use Prim.Native.Nat.{ℕ}
-use mathlib.Core.Path.{◌≡◌, sym, subst, ◌∙◌}
+use mathlib.Core.Path.{sym, subst, ◌∙◌}
 use Rattle.intake_feed.specs.Feed.{PieceFed, Fed}
 use Rattle.intake_feed.proofs.FedLaws.{passed, fed_refused, fed_stopped, fed_piece, goes_in, answer_fits, long_state}
-use borrow.Author.Rules.{rules}
 use Rattle.intake_feed.proofs.feeding.feed.Goals as goal
 
 pub returns-then-refused-ne0 : goal.returns-then-refused-ne0

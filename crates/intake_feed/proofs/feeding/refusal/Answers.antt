@@ -1,9 +1,6 @@
 use native.Mathlib.Omega.{arith}
-use mathlib.Core.Path.{◌≡◌, refl, sym, ap, ◌∙◌}
-use borrow.Author.Tests.{not-true, not-false}
+use mathlib.Core.Path.{sym, ◌∙◌}
 use Rattle.intake_feed.proofs.FedLaws.{refuse_piece, refuse_tables, refuse_state, refuse_place, refuse_none}
-use borrow.Author.Rules.{rules}
-use Rattle.checks.proofs.whole.both_whole.Reads as both-whole-reads
 use Rattle.intake_feed.proofs.feeding.refusal.Goals as goal
 
 pub returns-then-piece-gt-MAX_PIECE : goal.returns-then-piece-gt-MAX_PIECE

@@ -1,9 +1,7 @@
 use native.Mathlib.Omega.{arith}
-use mathlib.Core.Path.{◌≡◌, refl, sym, ap, ◌∙◌}
-use borrow.Author.Tests.{not-true, not-false}
+use mathlib.Core.Path.{sym, ◌∙◌}
 use Rattle.intake_feed.proofs.FedLaws.{stands_not, stands_if}
 use Rattle.intake_state.proofs.TestLaws.{state_long}
-use borrow.Author.Rules.{rules}
 use Rattle.intake_feed.proofs.feeding.state_stands.Goals as goal
 
 pub returns-then-not-good_state : goal.returns-then-not-good_state

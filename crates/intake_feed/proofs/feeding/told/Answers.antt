@@ -1,6 +1,5 @@
-use mathlib.Core.Path.{◌≡◌, refl, sym, ap, ◌∙◌}
+use mathlib.Core.Path.{refl, sym}
 use Rattle.intake_feed.proofs.FedLaws.{out_none, out_set}
-use borrow.Author.Rules.{rules}
 use Rattle.intake_feed.proofs.feeding.told.Goals as goal
 
 pub returns-then-k-eq0 : goal.returns-then-k-eq0

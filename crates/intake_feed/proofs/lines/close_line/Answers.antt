@@ -1,7 +1,4 @@
 use Rattle.intake_feed.proofs.LineLaws.{closed_row, closed_stop}
-use borrow.Author.Rules.{rules}
-use Rattle.intake_close.proofs.closing.close.Reads as close-reads
-use Rattle.intake_close.proofs.owners.next_line.Reads as next-line-reads
 use Rattle.intake_feed.proofs.lines.close_line.Goals as goal
 
 pub returns-in-Filled : goal.returns-in-Filled

@@ -1,6 +1,4 @@
 use Rattle.intake_feed.proofs.LineLaws.{ended_next, ended_stop, ended_close}
-use borrow.Author.Rules.{rules}
-use Rattle.intake_line.proofs.line_end.Reads as line-end-reads
 use Rattle.intake_feed.proofs.lines.end_line.Goals as goal
 
 pub returns-in-Next : goal.returns-in-Next

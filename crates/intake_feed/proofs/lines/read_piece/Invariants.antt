@@ -1,10 +1,7 @@
-use native.Mathlib.Omega.{arith}
-use mathlib.Core.Path.{◌≡◌, refl, sym, ap, ◌∙◌}
+use mathlib.Core.Path.{◌≡◌}
 use Prim.Native.Nat.{◌-◌}
 use lib.ListN.{length}
-use borrow.Author.Rules.{rules}
-use Rattle.intake_feed.proofs.PieceLaws.{Reads, reads_start, reads_line, reads_all, reads_stop, reads_next}
-use Rattle.intake_bytes.proofs.feed_line.Reads as feed-line-reads
+use Rattle.intake_feed.proofs.PieceLaws.{Reads}
 use Rattle.intake_feed.proofs.lines.read_piece.Given as goal
 
 abbrev pub invariant-loop-at : goal.invariant-loop-at

@@ -1,9 +1,7 @@
 use Rattle.intake_feed.specs.Piece.{stopped_at}
-use borrow.Author.Rules.{rules}
 use Prim.Native.Nat.{◌+◌}
 use mathlib.Core.Path.{ap}
 use Rattle.intake_bytes.specs.declared.Unfinished.{Unfinished}
-use Rattle.intake_bytes.proofs.new_line.Reads as new-line-reads
 use Rattle.intake_feed.proofs.lines.stopped.Goals as goal
 
 pub returns : goal.returns

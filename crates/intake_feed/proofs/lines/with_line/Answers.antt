@@ -1,4 +1,4 @@
-use mathlib.Core.Path.{◌≡◌, refl, sym, ap, ◌∙◌}
+use mathlib.Core.Path.{refl}
 use Rattle.intake_feed.specs.Piece.{with_line}
 use Rattle.intake_feed.proofs.lines.with_line.Goals as goal
 

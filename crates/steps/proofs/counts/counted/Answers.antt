@@ -1,7 +1,6 @@
 use native.Mathlib.Omega.{arith}
 use Rattle.rules.proofs.CountLaws.{number_below}
 use Rattle.steps.proofs.RunLaws.{counted_is}
-use borrow.Author.Rules.{rules}
 use Rattle.steps.proofs.counts.counted.Goals as goal
 
 pub offset_bounds-of-n : goal.offset_bounds-of-n

@@ -1,6 +1,5 @@
 use mathlib.Core.Path.{ap, sym}
 use Rattle.rules.specs.Runs.{repair_number}
-use borrow.Author.Rules.{rules}
 use Rattle.steps.proofs.counts.repair_number.Goals as goal
 
 pub returns-in-OfSelf : goal.returns-in-OfSelf

@@ -3,7 +3,6 @@ use Rattle.rules.specs.Runs.{add_counts}
 use Rattle.rules.specs.declared.Outcome.{Outcome}
 use Rattle.steps.specs.Tallies.{tally}
 use Rattle.steps.proofs.RunLaws.{rest_is}
-use borrow.Author.Rules.{rules}
 use Rattle.steps.proofs.counts.tallied.Goals as goal
 
 pub returns-in-Rested : goal.returns-in-Rested
