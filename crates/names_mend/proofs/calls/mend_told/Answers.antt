@@ -1,4 +1,4 @@
-use native.Mathlib.Omega.{arith}
+use borrow.Author.Rules.{rules}
 use mathlib.Core.Path.{ap₂, ◌∙◌}
 use mathlib.Core.List.{List}
 use Prim.Native.Nat.{ℕ}
@@ -17,4 +17,4 @@ returns c =
     let k = c.mend-x in
     ap₂ (λ (n : ℕ) (r : List ℕ). left n k.new.entries k.new.children ms r) c.answer_of.ensures c.put_report.ensures
     ∙ told (seen_by a.marks.now (parse_children a.children.now)) a.entries.now a.children.now k.new.entries k.new.children a.report.now k.result k.ensures.0
-    (λ i. omega (arith, c.slice_known-6-1.given i)) (λ i. omega (arith, c.slice_known-7-1.given i)) k.ensures.1 ms
+    (λ i. search rules) (λ i. search rules) k.ensures.1 ms
