@@ -1,5 +1,6 @@
 // Sweep 3: missing records are appended, in the order of the entries.
 #![tactic(auto)]
+
 ghost use Rattle.std.specs.Prelude.{◌≡◌, Bool, ◌/◌, ◌≤◌, ◌<◌, length, get_or};
 ghost use Rattle.fid.specs.declared.MdtFid.{MdtFid};
 ghost use Rattle.names.specs.Rows.{entry_size, parse_entries, parse_children};

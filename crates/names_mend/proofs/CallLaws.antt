@@ -5,7 +5,7 @@ use mathlib.Core.List.{List, [], ◌∷◌}
 use Prim.Native.Nat.{ℕ, ◌+◌, ◌*◌, ◌/◌, ◌≤◌, ◌<◌}
 use native.Mathlib.Omega.{arith}
 use borrow.Author.Tests.{leb-true, lt-leb, le-leb, ne_eqb}
-use lib.Dec.{leb, eqb}
+use lib.Dec.{leb}
 use lib.ListN.{length, take, length-map}
 use lib.Seq.{sets, take_at}
 use Rattle.wire.specs.Numbers.{Bytes}
@@ -14,15 +14,14 @@ use Rattle.wire.proofs.Splice.{sets_front}
 use Rattle.tables.specs.Check.{Test, test, first_failing}
 use Rattle.index.specs.Entries.{place_size}
 use Rattle.fid.specs.declared.MdtFid.{MdtFid}
-use Rattle.names.specs.Rows.{Entry, Child, entry_size, child_size, child_rows, parse_entries, parse_children, render_entries, render_children}
+use Rattle.names.specs.Rows.{entry_size, child_size, child_rows, parse_entries, parse_children, render_entries, render_children}
 use Rattle.names.specs.Check.{names_whole, children_there, names_good, names_tests, names_number, SoundNames}
 use Rattle.names.specs.Visible.{max_levels, too_long, mark_of, judged, seen_by, good_marks}
 use Rattle.names.specs.Mend.{Mended, mended}
-use Rattle.names.specs.Calls.{Left, roomy, report_size, report_numbers, left, mended_bytes, mend_tests, mend_call, pass_tests, pass_call}
+use Rattle.names.specs.Calls.{roomy, report_size, report_numbers, left, mended_bytes, mend_tests, mend_call, pass_tests, pass_call}
 use Rattle.names.proofs.SoundLaws.{children_many, parsed_children}
 use Rattle.names_check.proofs.CallLaws.{names_refused, names_accepted}
 use Rattle.names_judge.proofs.CallLaws.{room_is}
-use Rattle.names_marks.proofs.MarksKept.{judged_good}
 use Rattle.names_store.proofs.RenderBack.{entries_back, children_back}
 use Rattle.names_mend.specs.declared.Mending.{Mending}
 use Rattle.names_mend.specs.Mending.{answer_of, report_by, mended_by}

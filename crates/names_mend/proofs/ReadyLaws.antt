@@ -1,23 +1,21 @@
 -- What is made ready, part by part, and that it stays as it is while rows keep what it is made of. Assumes nothing.
-use mathlib.Core.Path.{◌≡◌, refl, sym, ap, ap₂, subst, ◌∙◌}
-use mathlib.Core.Bool.{Bool, true, false}
+use mathlib.Core.Path.{◌≡◌, refl, sym, ap, subst, ◌∙◌}
+use mathlib.Core.Bool.{Bool}
 use mathlib.Core.List.{List, [], ◌∷◌, ◌++◌, map, append-nil}
-use Prim.Native.Nat.{ℕ, zero, suc, ◌+◌, ◌-◌, ◌*◌, ◌/◌, ◌≤◌, ◌<◌}
+use Prim.Native.Nat.{ℕ, ◌-◌, ◌≤◌}
 use native.Mathlib.Omega.{arith}
 use borrow.Rule.Slice.PartMut.{put_mid}
-use lib.ListN.{length, take, drop, get_or, length-append, length-drop, drop_of_length-le}
+use lib.ListN.{length, take, drop, length-append, length-drop, drop_of_length-le}
 use lib.Seq.{take_at, drop_at}
 use Rattle.wire.proofs.Splice.{drop_take_all}
 use Rattle.fid.specs.declared.MdtFid.{MdtFid}
-use Rattle.index.specs.Entries.{place_size, sorted}
+use Rattle.index.specs.Entries.{sorted}
 use Rattle.index.specs.Search.{Key, key, key_of, listed}
-use Rattle.names.specs.Rows.{Entry, Child, entry_size, child_size, no_child, parse_entries, parse_children}
+use Rattle.names.specs.Rows.{Entry, Child, parse_entries, parse_children}
 use Rattle.names.specs.Visible.{seen_by}
 use Rattle.names.specs.Sweeps.{one}
-use Rattle.names.proofs.SoundLaws.{parsed_children}
 use Rattle.names_marks.specs.Directories.{IndexedUnder, Keeps}
 use Rattle.names_marks.proofs.KeepLaws.{numbers_same, seen_same}
-use Rattle.names_judge.specs.Listed.{child_numbers}
 use Rattle.names_store.specs.Notes.{note_of, Noted}
 use Rattle.names_prune.specs.ByChild.{entry_key, entry_numbers, ByChild}
 use Rattle.names_mend.specs.Ready.{entries_at, Ready}

@@ -1,5 +1,6 @@
 // The mending under marks, and the pass: judging, then mending under its marks.
 #![tactic(auto)]
+
 pub mod calls;
 pub mod ready;
 pub mod sweeps;

@@ -33,5 +33,5 @@ returns c =
     let a = c.args in
     let q = c.requires in
     let g = c.well_formed.1.0.1.1.0.1.1 in
-    append_done a.row.now _ _ a.parent a.name.now c.header_of-h.result (λ i. (c.slice_known-1.given i).fits) q.0 q.1
+    append_done a.row.now _ _ a.parent a.name.now c.header_of-h.result (λ i. search rules) q.0 q.1
     (record { seq = omega (arith, g); oid = omega (arith, g); ver = omega (arith, g) }) q.2 q.3 q.4 q.5 c.header_of-h.ensures.0 c.put_record.ensures c.close_link.ensures

@@ -1,3 +1,4 @@
+use borrow.Author.Rules.{rules}
 use mathlib.Core.Path.{◌≡◌, refl, ◌∙◌}
 use Prim.Native.Nat.{◌<◌}
 use native.Mathlib.Omega.{arith}
@@ -65,7 +66,7 @@ loop-at-preserved c =
     let v = c.loop-at.invariant in
     let r = c.keep_one-p.ensures in
     going_next a.old.now a.flags.now a.row.now c.loop-at.row c.loop-at.p c.loop-at.at c.loop-at.k v (omega arith) _ _ c.be16.result _
-    (λ i. (c.shared_slice_known-1.given i).fits) (v.long ∙ c.requires.0) c.requires.2 (size (goal.at.loop-at-preserved c).After-be16) refl r.0 r.1 r.2
+    (λ i. search rules) (v.long ∙ c.requires.0) c.requires.2 (size (goal.at.loop-at-preserved c).After-be16) refl r.0 r.1 r.2
 
 pub shape_of-row : goal.shape_of-row
 shape_of-row c = c.loop-at.invariant.long

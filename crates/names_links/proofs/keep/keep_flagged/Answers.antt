@@ -1,3 +1,4 @@
+use borrow.Author.Rules.{rules}
 use mathlib.Core.Path.{◌≡◌, refl, ◌∙◌}
 use Prim.Native.Nat.{◌-◌}
 use native.Mathlib.Omega.{arith}
@@ -47,10 +48,10 @@ pub close_link-requires : goal.close_link-requires
 unfolding Bytes
 close_link-requires c =
     let w = packed (goal.at.close_link-requires c).After-keep_all-p (copy (goal.at.close_link-requires c).After-put_bytes) in
-    (w.long ∙ c.requires.0, packed_room c.args.row.now _ c.args.flags.now _ (λ j. (c.slice_known-1.given j).fits) c.requires.0 c.requires.1 w)
+    (w.long ∙ c.requires.0, packed_room c.args.row.now _ c.args.flags.now _ (λ j. search rules) c.requires.0 c.requires.1 w)
 
 pub returns : goal.returns
 unfolding Bytes
 returns c =
-    keep_done c.args.row.now _ c.args.flags.now _ (λ j. (c.slice_known-1.given j).fits) c.requires.0 c.requires.1 (packed (goal.at.returns c).After-keep_all-p (copy (goal.at.returns c).After-put_bytes)) _
+    keep_done c.args.row.now _ c.args.flags.now _ (λ j. search rules) c.requires.0 c.requires.1 (packed (goal.at.returns c).After-keep_all-p (copy (goal.at.returns c).After-put_bytes)) _
     c.header_of-h.result c.header_of-h.ensures.0 c.close_link.ensures

@@ -1,3 +1,4 @@
+use borrow.Author.Rules.{rules}
 use mathlib.Core.Path.{◌≡◌, sym, ap, subst, ◌∙◌}
 use mathlib.Core.List.{List}
 use Prim.Native.Nat.{ℕ, ◌≤◌}
@@ -23,7 +24,7 @@ unfolding Bytes
 read_header-requires c =
     let e = c.link_len.ensures in
     subst (λ (l : List ℕ). link_header ≤ length l) (sym c.link_of.ensures.0)
-    (old_long c.args.row.now (λ i. (c.shared_slice_known-1.given i).fits) c.requires.0 c.requires.1 (λ z. c.if-link_len-eq0.false (e ∙ z)))
+    (old_long c.args.row.now (λ i. search rules) c.requires.0 c.requires.1 (λ z. c.if-link_len-eq0.false (e ∙ z)))
 
 pub returns : goal.returns
 unfolding Bytes
@@ -31,6 +32,6 @@ returns c =
     let l = c.args.row.now in
     let e = c.link_len.ensures in
     let q = c.read_header.ensures ∙ ap (λ (m : List ℕ). decode_link_header m) c.link_of.ensures.0 in
-    let b : Bytes l = λ i. (c.shared_slice_known-1.given i).fits in
+    let b : Bytes l = λ i. search rules in
     let n : link_length l ≡ 0 → ⊥ = λ z. c.if-link_len-eq0.false (e ∙ z) in
     (q ∙ old_header l b c.requires.0 c.requires.1 n, subst (λ (h : LinkHeader). h.total ≤ link_room) (sym q) (old_room l b c.requires.0 c.requires.1 n))
