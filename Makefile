@@ -15,7 +15,7 @@ bench: $(ARCHIVE)
 	@tests/bench
 
 # The proved library.
-$(ARCHIVE): $(shell find crates crates.txt -type f 2>/dev/null)
+$(ARCHIVE): $(shell find crates crates.txt -name out -prune -o -type f -print 2>/dev/null)
 	@tests/library
 
 clean:

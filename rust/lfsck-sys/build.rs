@@ -1,4 +1,4 @@
-//! Finds the archive of the verified library, built by `rt staticlib capi`.
+//! Finds the archive of the verified library, built by `tests/library`.
 
 use std::path::Path;
 
