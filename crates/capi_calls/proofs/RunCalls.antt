@@ -16,7 +16,7 @@ use Rattle.rules.specs.Runs.{run}
 use Rattle.rules.specs.Settings.{settings_of}
 use Rattle.steps.specs.Ran.{Ran, rendered}
 use Rattle.engine.specs.RunBytes.{refused, run_bytes}
-use Rattle.theorems.specs.Calls.{Lent, call, number, Accepted, ran, left, leaves, after}
+use Rattle.theorems.specs.Calls.{Lent, number, Accepted, ran, left, leaves, after}
 use Rattle.theorems.proofs.EveryRun.{parts}
 use Rattle.capi_tables.specs.Tables.{position_numbers, position_given}
 use Rattle.capi_run.specs.Runs.{Called, unwritten, handed_out, called}

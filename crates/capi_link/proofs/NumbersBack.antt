@@ -25,7 +25,7 @@ use Rattle.linkea.proofs.RecordLaws.{good_link}
 use Rattle.linkea_write.proofs.RoundTrips.{every_link_back}
 use Rattle.capi_out.specs.Out.{out_answer, out_numbers}
 use Rattle.capi_link.specs.Links.{header_fields, found_fields, record_fields, fields_fit, fields_header, given_number, given_values, given_answer, given_dest, given_out, write_answer, write_dest, write_out}
-use Rattle.capi_link.specs.Back.{records_handed, NumbersBack, EveryNumbersBack}
+use Rattle.capi_link.specs.Back.{records_handed, EveryNumbersBack}
 
 -- the five that the writer takes
 five : (x : RecordRead) → take link_numbers (record_fields x) ≡ read_numbers x

@@ -14,10 +14,10 @@ use Rattle.tables.specs.Check.{Sound}
 use Rattle.tables.specs.declared.Owner.{Owner}
 use Rattle.tables.specs.declared.Claim.TheVariants.{Unclaimed, Claims}
 use Rattle.tables.specs.declared.Object.{Object}
-use Rattle.rules.specs.Rows.{owner_of, free_parent, slot_at, object_at, object_row, same_owner}
+use Rattle.rules.specs.Rows.{owner_of, free_parent, slot_at, object_at, object_row}
 use Rattle.rules.specs.Places.{way}
 use Rattle.rules.specs.Classes.{object_class, object_class_of}
-use Rattle.rules.specs.Repairs.{owner_write, slot_for, with_owner, make_parent, destroy_at, destroy_named, adopt_by, adopt, repair_object}
+use Rattle.rules.specs.Repairs.{owner_write, slot_for, make_parent, destroy_at, destroy_named, adopt_by, adopt, repair_object}
 use Rattle.rules.specs.Steps.{object_step}
 use Rattle.rules.specs.declared.Row.{Row}
 use Rattle.rules.specs.declared.Row.TheVariants.{RowIs, NoRow}
@@ -30,7 +30,7 @@ use Rattle.search.proofs.ParsedRows.{parsed_object, object_used, object_unused, 
 use Rattle.stores.specs.UsedRow.{row_bytes, UsedAt}
 use Rattle.writes.specs.Plan.{Decides}
 use Rattle.rules.specs.declared.Write.{Write}
-use Rattle.rules.specs.declared.Write.TheVariants.{Nothing, Object as PutObject, Destroy, Slot as PutSlot, Grow as GrowSlot, Make}
+use Rattle.rules.specs.declared.Write.TheVariants.{Nothing, Destroy, Slot as PutSlot, Grow as GrowSlot, Make}
 use Rattle.rules.specs.declared.Step.TheVariants.{Rests, Repairs, Stops}
 use Rattle.decide_objects.specs.Parts.{row_object}
 use Rattle.writes.proofs.RowLaws.{decides_stop, row_is, row_inside}

@@ -14,7 +14,7 @@ use Rattle.layout.proofs.LayoutLaws.{accepted_facts}
 use Rattle.tables.specs.Bytes.{parent_size, layout_length, layout_bytes, layout_room}
 use Rattle.tables.specs.Check.{max_parents, whole_rows, parents_whole, tables_whole, first_failing, tables_tests, tables_number, input_tests, check_number, good_layout, good_layouts}
 use Rattle.tables.proofs.SoundLaws.{used_passes, layout_at_lem}
-use Rattle.examples.specs.Earlier.{narrow_size, Narrow, RefusedWithEleven, EveryNarrow, Impossible, RefusedWithThirteen, EveryImpossible}
+use Rattle.examples.specs.Earlier.{narrow_size, Narrow, EveryNarrow, Impossible, EveryImpossible}
 
 -- ## At most 160 slots
 

@@ -1,25 +1,24 @@
 -- The closing line, case by case. Assumes nothing.
-use Prim.Native.Nat.{ℕ, suc, ◌+◌, ◌-◌, ◌*◌, ◌/◌, ◌≤◌, ◌<◌}
+use Prim.Native.Nat.{ℕ, ◌+◌, ◌-◌, ◌*◌, ◌/◌, ◌≤◌, ◌<◌}
 use mathlib.Core.Path.{◌≡◌, refl, sym, ap, subst, ◌∙◌}
-use mathlib.Core.List.{List, []}
-use mathlib.Core.Bool.{Bool, true, false, cond, ◌&&◌, ◌||◌}
+use mathlib.Core.List.{List}
+use mathlib.Core.Bool.{Bool, true, false, ◌||◌}
 use native.Mathlib.Omega.{arith}
-use lib.ListN.{length, take, drop, set, get_or, length-take, length-drop}
+use lib.ListN.{length, take, drop, length-take}
 use lib.Seq.{sets, take-take, take_all, drop-drop}
-use lib.Dec.{eqb, leb, ltb}
-use borrow.Author.Tests.{eq-eqb, ne_eqb, eqb-true, le-leb, lt-leb, lt-ltb, le-ltb}
+use lib.Dec.{eqb}
+use borrow.Author.Tests.{ne_eqb, eqb-true, le-leb, lt-leb, lt-ltb, le-ltb}
 use Rattle.wire.specs.Rows.{rows}
 use Rattle.wire.proofs.RowLaws.{rows_at, rows_length}
 use Rattle.tables.specs.Bytes.{parent_size, object_size, layout_room, parent_rows, object_rows}
 use Rattle.tables.specs.declared.Owner.{Owner}
 use Rattle.tables.proofs.AllLaws.{row_fits, part_length}
-use Rattle.rules.specs.declared.Row.{Row}
 use Rattle.rules.specs.declared.Row.TheVariants.{RowIs, NoRow}
 use Rattle.search.specs.FirstRow.{free_row}
 use Rattle.intake.specs.declared.Kind.TheVariants.{Lov, Fid, Lma}
 use Rattle.intake.specs.Says.{good_size, wanted}
-use Rattle.intake.specs.Owners.{Owning, no_owner, owning, next_owner, after_line, until_line, first, decimal}
-use Rattle.intake.specs.Reading.{Attribute, none, had, Entry, Reading, stops_at, filled, fills, with_self, closes_entry, first_unused, parent_from, object_from}
+use Rattle.intake.specs.Owners.{owning, next_owner, after_line, first, decimal}
+use Rattle.intake.specs.Reading.{none, had, Reading, filled, fills, with_self, closes_entry, first_unused, parent_from, object_from}
 use Rattle.intake.proofs.HeadLaws.{drop_take}
 use Rattle.intake_bytes.specs.declared.Marks.{Marks}
 use Rattle.intake_bytes.specs.Lent.{mark_of, base_of, part_of}

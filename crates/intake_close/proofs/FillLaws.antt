@@ -3,9 +3,9 @@ use Prim.Native.Nat.{ℕ, zero, suc, ◌+◌, ◌-◌, ◌*◌, ◌/◌, ◌≤�
 use mathlib.Core.Path.{◌≡◌, refl, sym, ap, subst, ◌∙◌}
 use mathlib.Core.List.{List, [], ◌∷◌, ◌++◌, append_assoc}
 use mathlib.Core.Bool.{Bool, true, false, cond, not}
-use native.Mathlib.Nat.{mul-div-le, mul-zero, mul-suc, sub-zero}
+use native.Mathlib.Nat.{mul-div-le, mul-zero, mul-suc}
 use native.Mathlib.Omega.{arith}
-use lib.ListN.{length, take, drop, set, get_or, length-append, length-drop, length-take}
+use lib.ListN.{length, take, drop, set, get_or, length-append, length-drop}
 use lib.Seq.{sets, length-sets, drop-drop, length-take-le}
 use borrow.Rule.Slice.PartMut.{put_mid}
 use Rattle.wire.specs.Numbers.{bytes}
@@ -13,7 +13,7 @@ use Rattle.wire.specs.Rows.{rows}
 use Rattle.wire.proofs.NumberLaws.{length_bytes}
 use Rattle.wire.proofs.Splice.{sets_at, sets_whole, sets_front}
 use Rattle.wire.proofs.RowLaws.{rows_at, rows_inside}
-use Rattle.tables.specs.Bytes.{parent_size, object_size, layout_room, is_used, encode_owner, parent_rows, object_rows}
+use Rattle.tables.specs.Bytes.{parent_size, object_size, layout_room, is_used, encode_owner}
 use Rattle.tables.specs.declared.Owner.{Owner}
 use Rattle.tables.proofs.AllLaws.{row_fits, part_length, part_is}
 use Rattle.rules.specs.Search.{row_from}

@@ -1,5 +1,5 @@
 -- The owners file byte by byte: its numbers, its line and where the next one begins. Assumes nothing.
-use Prim.Native.Nat.{ℕ, zero, suc, ◌+◌, ◌-◌, ◌*◌, ◌≤◌, ◌<◌}
+use Prim.Native.Nat.{ℕ, suc, ◌+◌, ◌-◌, ◌*◌, ◌≤◌, ◌<◌}
 use mathlib.Core.Path.{◌≡◌, refl, sym, ap, ◌∙◌}
 use mathlib.Core.List.{List, [], ◌∷◌, ◌++◌, append-nil, append_assoc}
 use mathlib.Core.Bool.{Bool, true, false, cond, ◌&&◌}
@@ -7,11 +7,11 @@ use native.Mathlib.Numerals.{add-one}
 use native.Mathlib.Omega.{arith}
 use lib.ListN.{length, take, drop, get_or, length-drop, drop_of_length-le}
 use lib.Seq.{drop-cons, drop-length, take-suc, get_or-drop}
-use lib.Dec.{eqb, leb, ltb}
+use lib.Dec.{leb, ltb}
 use Rattle.wire.proofs.Both.{and_first, and_second}
 use borrow.Author.Tests.{eq-eqb, ne_eqb, leb-true, le-leb, lt-leb, lt-ltb, le-ltb}
 use Rattle.wire.specs.Numbers.{max_word}
-use Rattle.intake.specs.Owners.{Owning, no_owner, owning, Number, no_number, number, is_decimal, told, decimal, after_space, third, second, first, until_line, after_line}
+use Rattle.intake.specs.Owners.{Number, no_number, number, is_decimal, told, decimal, after_space, third, second, first, until_line, after_line}
 use Rattle.intake_close.specs.declared.NumberRead.{NumberRead}
 use Rattle.intake_close.specs.declared.NumberRead.TheVariants.{NotNumber, NumberIs}
 use Rattle.intake_close.specs.declared.OwnerRead.{OwnerRead}

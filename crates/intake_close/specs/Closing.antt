@@ -6,7 +6,7 @@ use Rattle.tables.specs.Bytes.{layout_room, parent_rows, object_rows}
 use Rattle.tables.specs.declared.Owner.{Owner}
 use Rattle.intake.specs.Says.{lma_self_at}
 use Rattle.intake.specs.Owners.{owning, after_line}
-use Rattle.intake.specs.Reading.{bad_dump, no_fit, none, had, Entry, Reading, stops_at, filled, fills, with_self, closes_entry}
+use Rattle.intake.specs.Reading.{bad_dump, no_fit, none, had, Reading, stops_at, filled, fills, with_self, closes_entry}
 use Rattle.intake_bytes.specs.declared.Marks.{Marks}
 use Rattle.intake_bytes.specs.Lent.{fid_at, lma_at, layout_at}
 use Rattle.intake_line.specs.Entry.{entry_in}

@@ -6,20 +6,19 @@ use mathlib.Core.Bool.{Bool, true, false, cond}
 use native.Mathlib.Numerals.{add-one}
 use native.Mathlib.Omega.{arith}
 use lib.ListN.{length, take, drop, length-drop}
-use lib.Seq.{length-take-le}
-use lib.Dec.{eqb, leb}
-use borrow.Author.Tests.{eq-eqb, ne_eqb, eqb-true, eqb-false, le-leb, lt-leb}
-use Rattle.tables.specs.Check.{test, first_failing}
+use lib.Dec.{eqb}
+use borrow.Author.Tests.{ne_eqb, le-leb, lt-leb}
+use Rattle.tables.specs.Check.{first_failing}
 use Rattle.intake.specs.Says.{is_empty}
-use Rattle.intake.specs.Reading.{Entry, Open, outside, inside, Stop, going, stopped, is_going, at_end, ended}
+use Rattle.intake.specs.Reading.{Entry, outside, inside, Stop, going, stopped, is_going, at_end, ended}
 use Rattle.intake.specs.Machine.{finish}
 use Rattle.intake_bytes.specs.declared.Marks.{Marks}
 use Rattle.intake_bytes.specs.Lent.{max_count, partial_in}
 use Rattle.intake_line.specs.Entry.{entry_in, open_in}
 use Rattle.intake_state.specs.declared.Kept.{Kept}
-use Rattle.intake_state.specs.State.{state_size, stop_is, machine_of, KeptHeld, kept_of, good_state, machine_in}
+use Rattle.intake_state.specs.State.{stop_is, machine_of, kept_of, good_state, machine_in}
 use Rattle.intake_feed.specs.Feed.{stop_number, out_line, stop_line}
-use Rattle.intake_feed.specs.End.{unclosed_at, end_is, EndTold, end_refusal, end_stop, Ended, DumpEnded}
+use Rattle.intake_feed.specs.End.{unclosed_at, end_is, EndTold, end_refusal, end_stop, Ended}
 use Rattle.intake_state.proofs.TestLaws.{state_long, state_end}
 use Rattle.intake_feed.proofs.FedLaws.{stop_number_lem, stop_line_lem}
 

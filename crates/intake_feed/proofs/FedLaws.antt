@@ -6,18 +6,18 @@ use mathlib.Core.Bool.{Bool, true, false, cond, ◌&&◌}
 use native.Mathlib.Omega.{arith}
 use lib.ListN.{length, set}
 use lib.Dec.{eqb, leb}
-use borrow.Author.Tests.{eq-eqb, ne_eqb, eqb-true, le-leb, lt-leb, leb-true}
-use Rattle.wire.proofs.Both.{and_first, and_second, and_both}
+use borrow.Author.Tests.{ne_eqb, eqb-true, le-leb, lt-leb, leb-true}
+use Rattle.wire.proofs.Both.{and_first, and_second}
 use Rattle.tables.specs.Bytes.{parent_size, object_size, layout_room, join, parent_rows, object_rows}
 use Rattle.tables.specs.Check.{whole_rows, parents_whole, objects_whole, all, used_mark, fresh_mark, when_used, test, first_failing}
 use Rattle.stores.proofs.TableLaws.{join_rows}
-use Rattle.intake.specs.Reading.{Stop, going, stopped, is_going}
+use Rattle.intake.specs.Reading.{Stop, going, stopped}
 use Rattle.intake.specs.Machine.{State, byte, feed}
 use Rattle.intake_bytes.specs.Lent.{max_count}
 use Rattle.intake_state.specs.declared.Kept.{Kept}
 use Rattle.intake_feed.specs.Piece.{Going, PieceRead}
-use Rattle.intake_state.specs.State.{stop_is, machine_of, KeptHeld, kept_of, max_read, good_kept, good_state, machine_in, Stored, state_stands}
-use Rattle.intake_feed.specs.Feed.{max_piece, feed_refusal, stop_number, out_line, stop_line, fed_machine, fed_answer, fed_line, fed_table, Fed, PieceFed}
+use Rattle.intake_state.specs.State.{stop_is, machine_of, kept_of, max_read, good_state, machine_in, Stored, state_stands}
+use Rattle.intake_feed.specs.Feed.{max_piece, feed_refusal, stop_number, out_line, stop_line, fed_machine, fed_answer, fed_line, fed_table, Fed}
 use Rattle.intake_feed.proofs.PieceLaws.{stays, stopped_is}
 use Rattle.intake_state.proofs.TestLaws.{state_holds, state_bounds, state_long}
 use Rattle.intake_state.proofs.ReloadLaws.{reload}

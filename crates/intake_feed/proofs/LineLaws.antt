@@ -1,37 +1,30 @@
 -- The end of a line, and the lines of a piece, over the lent bytes. Assumes nothing.
-use Prim.Native.Nat.{ℕ, suc, ◌+◌, ◌-◌, ◌≤◌, ◌<◌}
+use Prim.Native.Nat.{ℕ, suc, ◌+◌, ◌≤◌, ◌<◌}
 use mathlib.Core.Path.{◌≡◌, refl, sym, ap, subst, ◌∙◌}
-use mathlib.Core.List.{List, [], ◌∷◌, foldl}
-use mathlib.Core.Bool.{Bool, true, false, cond}
+use mathlib.Core.List.{List}
 use native.Mathlib.Numerals.{add-one}
 use native.Mathlib.Omega.{arith}
-use lib.ListN.{length, drop, get_or, drop_of_length-le}
-use lib.Seq.{drop-cons}
-use lib.Dec.{eqb}
-use borrow.Author.Tests.{eq-eqb, ne_eqb}
+use lib.ListN.{length, drop}
+use borrow.Author.Tests.{ne_eqb}
 use Rattle.tables.specs.Bytes.{layout_room, parent_rows, object_rows}
-use Rattle.intake.specs.declared.Kind.{Kind}
-use Rattle.intake.specs.Reading.{Reading, Stop, going, stopped, is_going, outside, inside, stops_at, filled, closes_entry}
+use Rattle.intake.specs.Reading.{Reading, going, stopped, stops_at, filled, closes_entry}
 use Rattle.intake.specs.Owners.{after_line}
-use Rattle.intake.specs.Machine.{State, byte, no_line, want_in}
+use Rattle.intake.specs.Machine.{State, byte, no_line}
 use Rattle.intake_bytes.specs.declared.Marks.{Marks}
-use Rattle.intake_bytes.specs.declared.Unfinished.{Unfinished}
 use Rattle.intake_line.specs.declared.Reader.{Reader}
-use Rattle.intake_bytes.specs.declared.Reached.{Reached}
 use Rattle.intake_line.specs.declared.Turn.{Turn}
 use Rattle.intake_line.specs.declared.Turn.TheVariants.{Next, Stop as Halt, Close}
-use Rattle.intake_bytes.specs.Lent.{layout_at, max_count, new_line, partial_in, want_of, Held, Others, Feeding, LineFed}
-use Rattle.intake_line.specs.Entry.{no_marks, entry_in, open_in, GoodMarks, MarksHeld, ReaderHeld, NextHeld, TurnHeld, state_in, turn_is, TurnTaken}
+use Rattle.intake_bytes.specs.Lent.{max_count, new_line, want_of}
+use Rattle.intake_line.specs.Entry.{no_marks, entry_in, open_in, MarksHeld, ReaderHeld, NextHeld, TurnHeld, state_in, turn_is, TurnTaken}
 use Rattle.intake_line.proofs.EntryLaws.{no_entry_lem}
-use Rattle.intake_line.proofs.GlueLaws.{want_open, open_stays}
 use Rattle.intake_line.proofs.TurnLaws.{new_is, new_held}
 use Rattle.intake_close.specs.declared.Closed.{Closed}
 use Rattle.intake_close.specs.declared.Closed.TheVariants.{Filled, Refused}
 use Rattle.intake_close.specs.OwnerLine.{LineAfter}
 use Rattle.intake_close.specs.Closing.{with_tables, closed_as, stop_of, EntryClosed}
 use Rattle.intake_state.specs.declared.Kept.{Kept}
-use Rattle.intake_feed.specs.Piece.{stopped_at, closed_at, with_line, Going, closing_of, LineClosed, LineEnded, PieceRead}
-use Rattle.intake_state.specs.State.{state_size, stop_is, machine_of, KeptHeld}
+use Rattle.intake_feed.specs.Piece.{stopped_at, closed_at, Going, closing_of, LineClosed, LineEnded}
+use Rattle.intake_state.specs.State.{stop_is, machine_of, KeptHeld}
 
 -- the reading of a state that goes on
 goes_on_lem : (n : ℕ) → stop_is 0 n ≡ going

@@ -2,28 +2,22 @@
 use Prim.Native.Nat.{ℕ, suc, ◌+◌, ◌-◌, ◌≤◌, ◌<◌}
 use mathlib.Core.Path.{◌≡◌, refl, sym, ap, subst, ◌∙◌}
 use mathlib.Core.List.{List, [], ◌∷◌, foldl}
-use mathlib.Core.Bool.{Bool, true, false, cond}
+use mathlib.Core.Bool.{true, false}
 use native.Mathlib.Numerals.{add-one}
 use native.Mathlib.Omega.{arith}
 use lib.ListN.{length, drop, get_or, drop_of_length-le}
 use lib.Seq.{drop-cons}
-use lib.Dec.{eqb}
 use borrow.Author.Tests.{ne_eqb}
 use Rattle.tables.specs.Bytes.{layout_room, parent_rows, object_rows}
-use Rattle.intake.specs.declared.Kind.{Kind}
-use Rattle.intake.specs.Reading.{Reading, Open, going, stopped, is_going}
-use Rattle.intake.specs.Machine.{State, Partial, byte, going_byte, want_in}
-use Rattle.intake_bytes.specs.declared.Marks.{Marks}
-use Rattle.intake_bytes.specs.declared.Unfinished.{Unfinished}
-use Rattle.intake_line.specs.declared.Reader.{Reader}
+use Rattle.intake.specs.Reading.{Open, is_going}
+use Rattle.intake.specs.Machine.{State, byte}
 use Rattle.intake_bytes.specs.declared.Reached.{Reached}
-use Rattle.intake_bytes.specs.Lent.{max_count, partial_in, want_of, Held, Others, Feeding, LineFed}
-use Rattle.intake_line.specs.Entry.{open_in, ReaderHeld}
+use Rattle.intake_bytes.specs.Lent.{max_count, partial_in, want_of, LineFed}
 use Rattle.intake_bytes.proofs.FeedLaws.{held_at}
 use Rattle.intake_line.proofs.GlueLaws.{want_open, open_stays}
 use Rattle.intake_state.specs.declared.Kept.{Kept}
 use Rattle.intake_feed.specs.Piece.{with_line, Going, LineEnded, PieceRead}
-use Rattle.intake_state.specs.State.{state_size, stop_is, machine_of, KeptHeld}
+use Rattle.intake_state.specs.State.{stop_is, machine_of, KeptHeld}
 
 -- a machine that has stopped stays as it is
 pub stays : (S : State) (l : List ℕ) → is_going S.reading.stop ≡ false → foldl (byte layout_room) S l ≡ S

@@ -7,7 +7,7 @@ use native.Mathlib.Omega.{arith}
 use lib.ListN.{length, take, drop}
 use Rattle.layout.specs.declared.Slot.{Slot}
 use Rattle.tables.specs.Records.{ParentRow, used}
-use Rattle.tables.specs.Bytes.{object_size, is_used, decode_parent, decode_object, parse_parents, parse_object, parse_objects}
+use Rattle.tables.specs.Bytes.{object_size, is_used, decode_parent, decode_object, parse_object, parse_objects}
 use Rattle.tables.specs.declared.Object.{Object}
 use Rattle.tables.specs.declared.Owner.{Owner}
 use Rattle.tables.specs.declared.Place.{Place}

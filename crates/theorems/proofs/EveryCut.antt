@@ -20,7 +20,6 @@ use Rattle.rules.specs.Cuts.{Target, targets, cut_tables, CutMended as CutMended
 use Rattle.steps.specs.Ran.{Ran, rendered}
 use Rattle.steps.proofs.Standing.{Good, reserve_fits}
 use Rattle.theorems.specs.Calls.{Lent, tables_of, Accepted, ran, left, leaves, AtEnd, from_start, uncut}
-use Rattle.theorems.specs.Promises.{Begins}
 use Rattle.theorems.specs.Cuts.{stored_all, step_targets, next_targets, cut_at, CutMended, EveryCut, Cut, cuts_at, EveryCuts}
 use Rattle.theorems.proofs.FromRules.{a_then_b, run_makes, exists_is, start_exists, FitReserve, writes_ordered, cuts_mended, cut_fits}
 use Rattle.theorems.proofs.Written.{written, good_read, good_run, Parts}

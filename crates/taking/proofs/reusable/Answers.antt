@@ -1,6 +1,5 @@
 use mathlib.Core.Path.{sym, ap, ◌∙◌}
 use native.Mathlib.Omega.{arith}
-use Prim.Native.Nat.{◌-◌}
 use Rattle.tables.specs.Bytes.{parse_parents, parse_object}
 use Rattle.rules.specs.Repairs.{is_reusable}
 use Rattle.search.proofs.RowSearch.{row_none, row_hit, row_pass}

@@ -1,5 +1,4 @@
 use native.Mathlib.Omega.{arith}
-use Prim.Native.Nat.{◌-◌}
 use Rattle.intake_close.proofs.OwnerLaws.{pass_start, pass_on, pass_end, pass_last}
 use Rattle.intake_close.proofs.owners.line_stop.Goals as goal
 

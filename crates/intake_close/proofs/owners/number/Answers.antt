@@ -1,7 +1,5 @@
 use native.Mathlib.Omega.{arith}
-use Prim.Native.Nat.{◌-◌}
 use mathlib.Core.Path.{sym, ◌∙◌}
-use mathlib.Core.Bool.{false}
 use Rattle.intake_close.proofs.OwnerLaws.{decimal_least, decimal_most, left_start, left_next, told_other, told_wide, told_last}
 use Rattle.intake_close.proofs.owners.number.Goals as goal
 

@@ -1,6 +1,5 @@
 use native.Mathlib.Omega.{arith}
 use mathlib.Core.Path.{refl}
-use Prim.Native.Nat.{◌-◌}
 use Rattle.intake_feed.proofs.PieceLaws.{reads_start, reads_line, reads_all, reads_stop, reads_next}
 use Rattle.intake_feed.proofs.lines.read_piece.Goals as goal
 
