@@ -14,7 +14,7 @@ import re
 import sys
 
 WORD = re.compile(r'[^\s(){}.;,@"«»]+')
-DECLARED = re.compile(r'^(\s*)((?:(?:pattern|unfoldable|abbrev|pub|axiom)\s+)*)([^\s(){}.;,@"«»:|↦]+)\s*(?:\{[^}]*\}\s*)?:(?=\s)')
+DECLARED = re.compile(r'^(\s*)((?:(?:pattern|unfoldable|abbrev|pub|axiom)\s+)*)([^\s(){}.;,@"«»:|↦]+)\s*(?:\{[^}]*\}\s*)?:(?=\s|$)')
 IMPORT = re.compile(r"(?:ghost )?use\s+([^\s{;]+)\.\{([^}]*)\}")
 ALIAS = re.compile(r"(?m)^\s*(?:pub )?(?:mod )?use\s+(\S+?)(?:\s+as\s+(\S+?))?;?$")
 QUOTED = re.compile(r'"(?:[^"\\\n]|\\.)*"')

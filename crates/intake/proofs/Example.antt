@@ -58,7 +58,7 @@ object_row = 1 ∷ 100 ∷ 101 ∷ 102 ∷ 103 ∷ 104 ∷ 105 ∷ 106 ∷ 107 �
 
 -- both rows go in; an unclosed entry names its first line; a third entry is 33 at its closing line, where no owner is left; two files are one row too many,
 -- and a layout of 8 bytes doesn't fit in 7; of two lma lines the second is 34; 35 without an lma, 36 with both kinds, and 33 before them without an owner
-by-computation :
+by_computation :
     (dump_reading 12 small (file ++ object) ≡ record { parents = file_row ∷ []; objects = used_row ∷ object_row ∷ []; owners = []; count = 9; entry = outside; stop = going })
     × (dump_ends 12 small (file ++ object) ≡ going)
     × (dump_ends 12 small (file ++ take 30 object) ≡ stopped 33 6)
@@ -70,7 +70,7 @@ by-computation :
     × (dump_ends 12 small (file_head ++ drop 10 object) ≡ stopped 36 6)
     × (dump_ends 12 (record { parents = []; objects = []; owners = []; count = 0; entry = outside; stop = going }) (file_head ++ 10 ∷ []) ≡ stopped 33 4)
 unfolding file_head file_lma file object used_row owners_file small file_row object_row feed_all join lines onto starts named digit is_digit more hex_bytes keep kind_of good_size sized attribute is_empty judge wanted saying line_says is_decimal told decimal after_space third second first until_line after_line next_owner stops_at goes_on has attribute_of with_attribute first_unused parent_from object_from filled fills with_self closes_entry on_line is_going take_line read_line read_all at_end ended dump_reading dump_ends store digit_byte value_of no_line line_byte line_end going_byte byte feed begin finish is_used bytes
-by-computation = (refl, refl, refl, refl, refl, refl, refl, refl, refl, refl)
+by_computation = (refl, refl, refl, refl, refl, refl, refl, refl, refl, refl)
 
 -- cut within a word, within a byte's two digits and at a line's end
 in_pieces : (feed_all 12 (begin small) (take 3 file ∷ drop 3 (take 52 file) ∷ drop 52 file ∷ object ∷ [])).reading ≡ dump_reading 12 small (file ++ object)
