@@ -1,5 +1,6 @@
 -- One row of a table that passes: it passes too, and says of its object what the table says; so the answer for that object is the same. Assumes nothing.
 use mathlib.Core.Path.{◌≡◌, refl, sym, ap, ◌∙◌}
+use Rattle.std.specs.Prelude.{Option, Some, None}
 use mathlib.Core.List.{List, [], ◌∷◌}
 use mathlib.Core.Bool.{Bool, true, false, cond, ◌&&◌}
 use Prim.Native.Nat.{ℕ, ◌*◌, ◌/◌, ◌<◌}
@@ -17,10 +18,8 @@ use Rattle.tables.proofs.CheckLaws.{sound_pass, pass_sound}
 use Rattle.tables.proofs.SoundLaws.{sound_facts}
 use Rattle.rules.specs.Rows.{object_row, object_of, object_in_row, is_object, first_row}
 use Rattle.rules.specs.Search.{row_from}
-use Rattle.rules.specs.declared.Row.TheVariants.{RowIs, NoRow}
 use Rattle.rules.specs.Keeper.{keeper}
 use Rattle.rules.specs.Compared.{compared}
-use Rattle.rules.specs.declared.Row.{Row}
 use Rattle.search.proofs.ParsedRows.{parsed_object}
 use Rattle.search.proofs.FoundRows.{object_inside, object_found, lookup_missing, lookup_present}
 use Rattle.capi_keeper.specs.Keepers.{asked, good_asked, keeper_number, keeper_numbers}
@@ -86,20 +85,20 @@ module _ (p o : List ℕ) (sound : Sound p o) where
 
 -- ## What it says of its object
 
-first_one : (x : ObjectRow) (f : OstFid) → is_object f x ≡ true → object_row (x ∷ []) f ≡ RowIs 0
+first_one : (x : ObjectRow) (f : OstFid) → is_object f x ≡ true → object_row (x ∷ []) f ≡ Some 0
 unfolding object_row first_row row_from
-first_one x f t = ap (λ (b : Bool). elim b [ true ↦ RowIs 0 | false ↦ NoRow ]) t
+first_one x f t = ap (λ (b : Bool). elim b [ true ↦ Some 0 | false ↦ None ]) t
 
-first_is : (row : List ℕ) (f : OstFid) → length row ≡ object_size → is_object f (parse_object row) ≡ true → object_row (parse_objects row) f ≡ RowIs 0
+first_is : (row : List ℕ) (f : OstFid) → length row ≡ object_size → is_object f (parse_object row) ≡ true → object_row (parse_objects row) f ≡ Some 0
 unfolding parse_objects
 first_is row f n t = rw (one_row row n) (first_one (parse_object row) f t)
 
 module _ (o : List ℕ) (f : OstFid) where
-  none_says : object_row (parse_objects o) f ≡ NoRow → object_of (parse_objects []) f ≡ object_of (parse_objects o) f
+  none_says : object_row (parse_objects o) f ≡ None → object_of (parse_objects []) f ≡ object_of (parse_objects o) f
   unfolding object_of object_in_row object_row first_row row_from parse_objects object_rows rows
   none_says e = lookup_missing o f e
 
-  row_says : (r : ℕ) → object_row (parse_objects o) f ≡ RowIs r → object_of (parse_objects (take object_size (drop (object_size * r) o))) f ≡ object_of (parse_objects o) f
+  row_says : (r : ℕ) → object_row (parse_objects o) f ≡ Some r → object_of (parse_objects (take object_size (drop (object_size * r) o))) f ≡ object_of (parse_objects o) f
   row_says r e =
       let row = take object_size (drop (object_size * r) o) in
       let h = object_inside o f r e in
@@ -128,9 +127,9 @@ pub own_row_alone : OwnRowAlone
 unfolding OwnRowAlone own_row row_alone
 own_row_alone p o s i sound = go (object_row (parse_objects o) (asked s i)) refl
   where
-    go : (a : Row) → object_row (parse_objects o) (asked s i) ≡ a →
+    go : (a : Option ℕ) → object_row (parse_objects o) (asked s i) ≡ a →
         (keeper_number p (row_alone o a) s i ≡ keeper_number p o s i) × (keeper_numbers p (row_alone o a) s i ≡ keeper_numbers p o s i)
-    go NoRow e = (number_alike p o [] s i sound (none_sound p o sound), numbers_alike p o [] s i (none_says o (asked s i) e))
-    go (RowIs r) e =
+    go None e = (number_alike p o [] s i sound (none_sound p o sound), numbers_alike p o [] s i (none_says o (asked s i) e))
+    go (Some r) e =
         let row = take object_size (drop (object_size * r) o) in
         (number_alike p o row s i sound (row_sound p o sound r (object_inside o (asked s i) r e)), numbers_alike p o row s i (row_says o (asked s i) r e))

@@ -1,5 +1,6 @@
 -- The keeper of an object as numbers: what its export answers and hands out. Document 02, 2026-04.
 use Rattle.std.specs.Prelude.{ℕ, List, [], ◌∷◌, Bool, ◌&&◌, leb}
+use Rattle.std.specs.Prelude.{Option, Some, None}
 use Rattle.wire.specs.Numbers.{max_word}
 use Rattle.fid.specs.Fid.{good_object}
 use Rattle.fid.specs.declared.OstFid.{OstFid}
@@ -7,8 +8,6 @@ use Rattle.tables.specs.Bytes.{parse}
 use Rattle.tables.specs.Check.{Test, test, first_failing, tables_whole, good_layouts, good_fids, all_different}
 use Rattle.rules.specs.Keeper.{keeper}
 use Rattle.rules.specs.Compared.{compared}
-use Rattle.rules.specs.declared.Found.{Found}
-use Rattle.rules.specs.declared.Found.TheVariants.{At, Nowhere}
 
 -- "sequence, id": the FID asked for, whose version is 0
 unfoldable pub asked : ℕ → ℕ → OstFid
@@ -28,9 +27,9 @@ unfoldable pub keeper_number : List ℕ → List ℕ → ℕ → ℕ → ℕ
 keeper_number parents objects sequence id = first_failing (keeper_tests parents objects sequence id)
 
 -- "found 0 or 1, row, slot, slots compared"
-unfoldable pub place_numbers : Found → ℕ → List ℕ
-place_numbers Nowhere n = 0 ∷ 0 ∷ 0 ∷ n ∷ []
-place_numbers (At row slot) n = 1 ∷ row ∷ slot ∷ n ∷ []
+unfoldable pub place_numbers : Option (ℕ × ℕ) → ℕ → List ℕ
+place_numbers None n = 0 ∷ 0 ∷ 0 ∷ n ∷ []
+place_numbers (Some (row, slot)) n = 1 ∷ row ∷ slot ∷ n ∷ []
 
 -- of the keeper, and of "how many slots it compared"
 unfoldable pub keeper_numbers : List ℕ → List ℕ → ℕ → ℕ → List ℕ

@@ -12,7 +12,7 @@ ghost use Rattle.capi_out.specs.Out.{out_answer, out_numbers};
 ghost use Rattle.capi_keeper.specs.Keepers.{asked, good_asked, keeper_number, place_numbers, keeper_numbers};
 
 use fid::{Fid, OstFid};
-use rules::{Found, Search};
+use rules::Search;
 use wire::MAX_WORD;
 
 // The numbers that a keeper is told by.
@@ -76,8 +76,8 @@ fn put_search(out: &mut [u64], found: Search)
     let count = found.compared as u64;
     let place = found.place;
     match place {
-        Found::Nowhere => capi_out::put_four(out, 0, 0, 0, 0, count),
-        Found::At(row, slot) => capi_out::put_four(out, 0, 1, row as u64, slot as u64, count),
+        None => capi_out::put_four(out, 0, 0, 0, 0, count),
+        Some((row, slot)) => capi_out::put_four(out, 0, 1, row as u64, slot as u64, count),
     }
 }
 

@@ -1,5 +1,6 @@
 -- The class of an object row, case by case as the code asks. Assumes nothing.
 use mathlib.Core.Path.{◌≡◌, sym, ap, ◌∙◌}
+use Rattle.std.specs.Prelude.{Option, Some}
 use mathlib.Core.List.{List}
 use mathlib.Core.Bool.{Bool, true, false}
 use Prim.Native.Nat.{ℕ, ◌*◌, ◌/◌, ◌<◌}
@@ -7,14 +8,11 @@ use lib.ListN.{length, take, drop}
 use Rattle.tables.specs.Records.{ObjectRow, unused, used, Tables}
 use Rattle.tables.specs.Bytes.{object_size, is_used, decode_object, parse_object, parse, parse_parents, parse_objects}
 use Rattle.tables.specs.declared.Object.{Object}
-use Rattle.tables.specs.declared.Claim.{Claim}
-use Rattle.tables.specs.declared.Claim.TheVariants.{Claims}
 use Rattle.rules.specs.Search.{is_somewhere}
 use Rattle.rules.specs.Rows.{object_at, named}
 use Rattle.rules.specs.Keeper.{keeper_by}
 use Rattle.rules.specs.Places.{way, is_way}
 use Rattle.rules.specs.Classes.{unnamed_class, object_class_of, object_class}
-use Rattle.rules.specs.declared.Found.{Found}
 use Rattle.rules.specs.declared.Way.{Way}
 use Rattle.rules.specs.declared.ObjectClass.{ObjectClass}
 use Rattle.rules.specs.declared.ObjectClass.TheVariants.{UNUSED, KEPT, EMPTY, ORPHAN, CONFLICT}
@@ -24,7 +22,7 @@ use Rattle.tables.specs.declared.Place.{Place}
 
 -- ## Named by no slot
 
-module _ (T : Tables) (fresh : Bool) (claim : Claim) (home : Place) (e : claim ≡ Claims home) where
+module _ (T : Tables) (fresh : Bool) (claim : Option Place) (home : Place) (e : claim ≡ Some home) where
   pub class_empty : fresh ≡ true → EMPTY ≡ unnamed_class T fresh claim
   unfolding unnamed_class
   class_empty h = rw (e, h)
@@ -51,7 +49,7 @@ module _ (p o : List ℕ) (i : ℕ) (row : List ℕ) (h : i < length o / object_
   unfolding object_class object_class_of
   class_unused u = rw (row_is (unused (drop 1 row)) (object_unused row u))
 
-  module _ (u : is_used row ≡ true) (x : Object) (q : x ≡ decode_object row) (k : Found) (t : k ≡ keeper_by (parse_parents p) x.fid x.claim)
+  module _ (u : is_used row ≡ true) (x : Object) (q : x ≡ decode_object row) (k : Option (ℕ × ℕ)) (t : k ≡ keeper_by (parse_parents p) x.fid x.claim)
       (b : Bool) (d : b ≡ is_somewhere k) where
     named_is : named (parse_parents p) x.fid ≡ b
     named_is = sym (d ∙ ap is_somewhere t ∙ named_kept (parse_parents p) x.fid x.claim)

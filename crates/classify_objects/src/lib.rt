@@ -10,16 +10,16 @@ use classify_places::places;
 use rules::ObjectClass;
 use search::{keeper, naming};
 use tables::rows::OBJECT_SIZE;
-use tables::{Claim, rows};
+use tables::rows;
 
 // The class of an object that no slot names: SPARE, EMPTY, ORPHAN, CONFLICT.
-fn unnamed_class(parents: &[u8], objects: &[u8], fresh: bool, claim: Claim) -> ObjectClass
+fn unnamed_class(parents: &[u8], objects: &[u8], fresh: bool, claim: Option<Place>) -> ObjectClass
     requires { good_layouts parents.now ≡ true }
     ensures { result ≡ unnamed_class (parse parents.now objects.now) fresh claim }
 {
     match claim {
-        Claim::Unclaimed => ObjectClass::SPARE,
-        Claim::Claims(place) => {
+        None => ObjectClass::SPARE,
+        Some(place) => {
             if fresh {
                 return ObjectClass::EMPTY;
             }

@@ -1,5 +1,6 @@
 -- Claims and owners: the tests, and the class of a keeper, case by case. Assumes nothing.
 use mathlib.Core.Path.{◌≡◌}
+use Rattle.std.specs.Prelude.{Option, Some}
 use mathlib.Core.Bool.{Bool, true, false}
 use Prim.Native.Nat.{ℕ}
 use borrow.Author.Tests.{eq-eqb, ne_eqb}
@@ -7,25 +8,20 @@ use lib.Dec.{eqb}
 use Rattle.fid.specs.Fid.{same_fid}
 use Rattle.tables.specs.declared.Owner.{Owner}
 use Rattle.tables.specs.declared.Object.{Object}
-use Rattle.tables.specs.declared.Claim.{Claim}
-use Rattle.tables.specs.declared.Claim.TheVariants.{Claims}
 use Rattle.rules.specs.Rows.{same_owner}
 use Rattle.rules.specs.Keeper.{is_place}
 use Rattle.rules.specs.Classes.{claimed_class, claim_class, keeper_class}
-use Rattle.rules.specs.declared.Found.TheVariants.{At}
-use Rattle.rules.specs.declared.Lookup.{Lookup}
-use Rattle.rules.specs.declared.Lookup.TheVariants.{Present}
 use Rattle.rules.specs.declared.SlotClass.{SlotClass}
 use Rattle.rules.specs.declared.SlotClass.TheVariants.{UNMATCHED, WRONGOST as WRONG-OST, OWNER, CLEAN}
 use Rattle.tables.specs.declared.Place.{Place}
 use Rattle.rules.specs.Places.{claims, same_place}
 
 module _ (k i r j : ℕ) where
-  pub place_row : (k ≡ r → ⊥) → false ≡ is_place (At k i) r j
+  pub place_row : (k ≡ r → ⊥) → false ≡ is_place (Some (k, i)) r j
   unfolding is_place
   place_row d = rw (ne_eqb k r d)
 
-  pub place_slot : k ≡ r → eqb i j ≡ is_place (At k i) r j
+  pub place_slot : k ≡ r → eqb i j ≡ is_place (Some (k, i)) r j
   unfolding is_place
   place_slot e = rw (eq-eqb k r e)
 
@@ -39,11 +35,11 @@ module _ (a b : Owner) where
   owner_gid e = rw (eq-eqb a.uid b.uid e)
 
 module _ (q home : Place) where
-  pub claim_file : same_fid q.file.0 home.file.0 ≡ false → false ≡ claims (Claims q) home
+  pub claim_file : same_fid q.file.0 home.file.0 ≡ false → false ≡ claims (Some q) home
   unfolding claims same_place
   claim_file h = rw h
 
-  pub claim_index : same_fid q.file.0 home.file.0 ≡ true → eqb q.index home.index ≡ claims (Claims q) home
+  pub claim_index : same_fid q.file.0 home.file.0 ≡ true → eqb q.index home.index ≡ claims (Some q) home
   unfolding claims same_place
   claim_index h = rw h
 
@@ -62,16 +58,16 @@ module _ (there owned : Bool) where
   class_clean t k = rw (t, k)
 
 -- of a keeper at home whose object claims q
-module _ (home : Place) (there owned : Bool) (claim : Claim) (q : Place) (e : claim ≡ Claims q) where
-  pub class_unmatched : claims (Claims q) home ≡ false → UNMATCHED q.file q.index ≡ claim_class home there owned claim
+module _ (home : Place) (there owned : Bool) (claim : Option Place) (q : Place) (e : claim ≡ Some q) where
+  pub class_unmatched : claims (Some q) home ≡ false → UNMATCHED q.file q.index ≡ claim_class home there owned claim
   unfolding claim_class
   class_unmatched t = rw (e, t)
 
-  pub class_claimed : claims (Claims q) home ≡ true → (c : SlotClass) → c ≡ claimed_class there owned → c ≡ claim_class home there owned claim
+  pub class_claimed : claims (Some q) home ≡ true → (c : SlotClass) → c ≡ claimed_class there owned → c ≡ claim_class home there owned claim
   unfolding claim_class
   class_claimed t c h = rw (e, t) h
 
-pub class_present : (home : Place) (ost : ℕ) (owner : Owner) (found : Lookup) (x : Object) (b : Bool) (c : SlotClass) → found ≡ Present x →
+pub class_present : (home : Place) (ost : ℕ) (owner : Owner) (found : Option Object) (x : Object) (b : Bool) (c : SlotClass) → found ≡ Some x →
     b ≡ same_owner x.owner owner → c ≡ claim_class home (eqb x.ost ost) b x.claim → c ≡ keeper_class home ost owner found
 unfolding keeper_class
 class_present home ost owner found x b c e t q = rw (e, ← t) q

@@ -4,22 +4,21 @@ ghost use Rattle.tables.specs.Bytes.{parent_size, parse, parse_parents, parse_ob
 ghost use Rattle.tables.specs.Check.{good_layouts};
 ghost use Rattle.rules.specs.Rows.{object_of};
 ghost use Rattle.rules.specs.Places.{place_at, claims, takeable, slot_way, row_way, way, is_way};
-ghost use Rattle.rules.specs.declared.Row.TheVariants.{RowIs};
 
 use super::headers;
 use fid::{MdtFid, OstFid};
 use layout::{MAX_SLOTS, Slot};
-use rules::{Lookup, Row, Way};
+use rules::Way;
 use search::naming;
-use tables::{Claim, Place};
+use tables::Place;
 
 // Whether a claim is this very slot.
-pub fn claim_is(claim: Claim, f: MdtFid, i: usize) -> bool
+pub fn claim_is(claim: Option<Place>, f: MdtFid, i: usize) -> bool
     ensures { result ≡ claims claim (place_at f i) }
 {
     match claim {
-        Claim::Unclaimed => false,
-        Claim::Claims(place) => {
+        None => false,
+        Some(place) => {
             let file = place.file;
             if !fid::same_mdt(file, f) {
                 return false;
@@ -36,8 +35,8 @@ fn takeable(parents: &[u8], objects: &[u8], place: Place, g: OstFid, r: usize, j
 {
     let found = search::objects::lookup(objects, g);
     match found {
-        Lookup::Missing => false,
-        Lookup::Present(x) => {
+        None => false,
+        Some(x) => {
             if !x.fresh {
                 return false;
             }
@@ -71,7 +70,7 @@ fn slot_way(parents: &[u8], objects: &[u8], place: Place, r: usize, j: usize, s:
 // How a place in row r can be had: past the count only a layout with the hole pattern grows.
 fn row_way(parents: &[u8], objects: &[u8], place: Place, r: usize) -> Way
     requires { (good_layouts parents.now ≡ true) × (r < length parents.now / parent_size) }
-    ensures { result ≡ row_way (parse parents.now objects.now) place (RowIs r) }
+    ensures { result ≡ row_way (parse parents.now objects.now) place (Some r) }
 {
     let j = place.index as usize;
     if j < positions::width(parents, r) as usize {
@@ -96,8 +95,8 @@ pub fn way(parents: &[u8], objects: &[u8], place: Place) -> Way
     let file = place.file;
     let row = search::parents::parent_row(parents, file);
     match row {
-        Row::NoRow => Way::NewParent,
-        Row::RowIs(r) => row_way(parents, objects, place, r),
+        None => Way::NewParent,
+        Some(r) => row_way(parents, objects, place, r),
     }
 }
 

@@ -1,5 +1,8 @@
 -- The class of a slot, case by case as the code asks. Assumes nothing.
 use mathlib.Core.Path.{◌≡◌, refl, sym, ap, ◌∙◌}
+use Rattle.std.specs.Prelude.{Option}
+use Rattle.tables.specs.declared.Object.{Object}
+use Rattle.tables.specs.declared.Place.{Place}
 use mathlib.Core.List.{List}
 use mathlib.Core.Bool.{Bool, true, false}
 use Prim.Native.Nat.{ℕ, ◌*◌, ◌/◌, ◌<◌}
@@ -14,12 +17,9 @@ use Rattle.tables.specs.Bytes.{parent_size, is_used, decode_parent, parse_parent
 use Rattle.tables.specs.Positions.{slots_of, row_at}
 use Rattle.tables.proofs.PositionLaws.{parsed_row}
 use Rattle.tables.specs.declared.Owner.{Owner}
-use Rattle.tables.specs.declared.Claim.{Claim}
 use Rattle.rules.specs.Rows.{self_of, owner_of, slot_at, object_of}
 use Rattle.rules.specs.Keeper.{claim_in, keeper_by, keeper, is_place}
 use Rattle.rules.specs.Classes.{keeper_class, slot_class_of, slot_class}
-use Rattle.rules.specs.declared.Found.{Found}
-use Rattle.rules.specs.declared.Lookup.{Lookup}
 use Rattle.rules.specs.declared.SlotClass.{SlotClass}
 use Rattle.rules.specs.declared.SlotClass.TheVariants.{HOLE, MULTIPLE}
 use Rattle.search.proofs.ParsedRows.{parent_used, parent_unused}
@@ -47,10 +47,10 @@ module _ (p o : List ℕ) (r j : ℕ) (s : Slot) (e : s ≡ slot_at (parse_paren
   unfolding slot_class slot_class_of
   class_hole h = rw (← e, h)
 
-  module _ (f : OstFid) (n i : ℕ) (h : s ≡ Names f n i) (found : Lookup) (q : found ≡ object_of (parse_objects o) f) (c : Claim) (m : c ≡ claim_in found)
-      (k : Found) (t : k ≡ keeper_by (parse_parents p) f c) (b : Bool) (d : b ≡ is_place k r j) where
+  module _ (f : OstFid) (n i : ℕ) (h : s ≡ Names f n i) (found : Option Object) (q : found ≡ object_of (parse_objects o) f) (c : Option Place) (m : c ≡ claim_in found)
+      (k : Option (ℕ × ℕ)) (t : k ≡ keeper_by (parse_parents p) f c) (b : Bool) (d : b ≡ is_place k r j) where
     place_is : is_place (keeper (parse p o) f) r j ≡ b
-    place_is = sym (d ∙ ap (λ (a : Found). is_place a r j) (t ∙ keeper_is (parse p o) f c (m ∙ ap claim_in q)))
+    place_is = sym (d ∙ ap (λ (a : Option (ℕ × ℕ)). is_place a r j) (t ∙ keeper_is (parse p o) f c (m ∙ ap claim_in q)))
 
     pub class_multiple : b ≡ false → MULTIPLE ≡ slot_class (parse p o) r j
     unfolding slot_class slot_class_of

@@ -12,18 +12,18 @@ ghost use Rattle.rules.specs.Places.{place_at};
 use classify_places::places;
 use fid::MdtFid;
 use layout::Slot;
-use rules::{Found, Lookup, SlotClass};
+use rules::SlotClass;
 use search::{keeper, objects};
 use tables::rows::PARENT_SIZE;
-use tables::{Claim, Owner, rows};
+use tables::{Owner, rows};
 
 // Whether what a search found is slot j of row r.
-pub fn is_place(found: Found, r: usize, j: usize) -> bool
+pub fn is_place(found: Option<(usize, usize)>, r: usize, j: usize) -> bool
     ensures { result ≡ is_place found r j }
 {
     match found {
-        Found::Nowhere => false,
-        Found::At(k, i) => {
+        None => false,
+        Some((k, i)) => {
             if k != r {
                 return false;
             }
@@ -57,12 +57,12 @@ fn claimed_class(there: bool, owned: bool) -> SlotClass
 }
 
 // The class of slot j of this file, the keeper of an object with this claim: BLANK, then UNMATCHED, then as `claimed_class` says.
-fn claim_class(file: MdtFid, j: usize, there: bool, owned: bool, claim: Claim) -> SlotClass
+fn claim_class(file: MdtFid, j: usize, there: bool, owned: bool, claim: Option<Place>) -> SlotClass
     ensures { result ≡ claim_class (place_at file j) there owned claim }
 {
     match claim {
-        Claim::Unclaimed => SlotClass::BLANK,
-        Claim::Claims(place) => {
+        None => SlotClass::BLANK,
+        Some(place) => {
             if !places::claim_is(claim, file, j) {
                 let f = place.file;
                 return SlotClass::UNMATCHED(f, place.index);
@@ -74,12 +74,12 @@ fn claim_class(file: MdtFid, j: usize, there: bool, owned: bool, claim: Claim) -
 
 // The class of slot j of this file, with this owner, the keeper of what was found, which it names on this OST: DANGLING where
 // it is absent.
-fn keeper_class(file: MdtFid, owner: Owner, j: usize, ost: u32, found: Lookup) -> SlotClass
+fn keeper_class(file: MdtFid, owner: Owner, j: usize, ost: u32, found: Option<Object>) -> SlotClass
     ensures { result ≡ keeper_class (place_at file j) ost owner found }
 {
     match found {
-        Lookup::Missing => SlotClass::DANGLING,
-        Lookup::Present(x) => {
+        None => SlotClass::DANGLING,
+        Some(x) => {
             let theirs = x.owner;
             let claim = x.claim;
             claim_class(file, j, x.ost == ost, same_owner(theirs, owner), claim)

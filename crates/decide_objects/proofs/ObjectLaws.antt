@@ -1,5 +1,6 @@
 -- Object rows decided, case by case as the code does it. Assumes nothing.
 use mathlib.Core.Path.{◌≡◌, refl, sym, ap, ◌∙◌}
+use Rattle.std.specs.Prelude.{Option, Some, None}
 use mathlib.Core.List.{List}
 use mathlib.Core.Bool.{Bool, true, false}
 use Prim.Native.Nat.{ℕ, ◌*◌, ◌/◌, ◌<◌}
@@ -12,15 +13,12 @@ use Rattle.tables.specs.Records.{ObjectRow, unused, used}
 use Rattle.tables.specs.Bytes.{parent_size, object_size, is_used, decode_parent, decode_object, parse_parent, parse, parse_parents, parse_objects}
 use Rattle.tables.specs.Check.{Sound}
 use Rattle.tables.specs.declared.Owner.{Owner}
-use Rattle.tables.specs.declared.Claim.TheVariants.{Unclaimed, Claims}
 use Rattle.tables.specs.declared.Object.{Object}
 use Rattle.rules.specs.Rows.{owner_of, free_parent, slot_at, object_at, object_row}
 use Rattle.rules.specs.Places.{way}
 use Rattle.rules.specs.Classes.{object_class, object_class_of}
 use Rattle.rules.specs.Repairs.{owner_write, slot_for, make_parent, destroy_at, destroy_named, adopt_by, adopt, repair_object}
 use Rattle.rules.specs.Steps.{object_step}
-use Rattle.rules.specs.declared.Row.{Row}
-use Rattle.rules.specs.declared.Row.TheVariants.{RowIs, NoRow}
 use Rattle.rules.specs.declared.Way.{Way}
 use Rattle.rules.specs.declared.Way.TheVariants.{NoWay, NewParent, Fill, Grow, Take}
 use Rattle.rules.specs.declared.ObjectClass.{ObjectClass}
@@ -44,12 +42,12 @@ pub drop_hole : (os : List ObjectRow) (s : Slot) → s ≡ Hole → Nothing ≡ 
 unfolding destroy_named
 drop_hole os s e = rw e
 
-module _ (os : List ObjectRow) (s : Slot) (g : OstFid) (n i : ℕ) (e : s ≡ Names g n i) (d : Row) (q : d ≡ object_row os g) where
-  pub drop_none : d ≡ NoRow → Nothing ≡ destroy_named os s
+module _ (os : List ObjectRow) (s : Slot) (g : OstFid) (n i : ℕ) (e : s ≡ Names g n i) (d : Option ℕ) (q : d ≡ object_row os g) where
+  pub drop_none : d ≡ None → Nothing ≡ destroy_named os s
   unfolding destroy_named destroy_at
   drop_none t = rw (e, ← q, t)
 
-  pub drop_row : (m : ℕ) → d ≡ RowIs m → Destroy m ≡ destroy_named os s
+  pub drop_row : (m : ℕ) → d ≡ Some m → Destroy m ≡ destroy_named os s
   unfolding destroy_named destroy_at
   drop_row m t = rw (e, ← q, t)
 
@@ -62,7 +60,7 @@ owner_read p r u row e w q = q ∙ ap (λ (l : List ℕ). (decode_parent l).owne
 -- ## Adoptions
 
 module _ (p o : List ℕ) (h : Sound p o) (k : ℕ) (x : Object) (home : Place) (s : Slot) (se : s ≡ slot_for x) where
-  pub new_row : (r : ℕ) → free_parent (parse_parents p) ≡ RowIs r →
+  pub new_row : (r : ℕ) → free_parent (parse_parents p) ≡ Some r →
       Decides p o (Repairs OfOrphan (Make r home.file x.owner home.index s) Nothing Nothing) (λ T. make_parent x home (free_parent T.parents))
   unfolding Decides make_parent
   new_row r e = rw (e, se)
@@ -83,7 +81,7 @@ module _ (p o : List ℕ) (h : Sound p o) (k : ℕ) (x : Object) (home : Place) 
         let a = take_place p o h home w r e q in
         rw (← e, q, se, ue, d, ← g, row_is p r (row_inside p r a.used))
 
-pub new_none : (p o : List ℕ) (k : ℕ) (x : Object) (home : Place) → free_parent (parse_parents p) ≡ NoRow → Decides p o (Stops 23) (λ T. make_parent x home (free_parent T.parents))
+pub new_none : (p o : List ℕ) (k : ℕ) (x : Object) (home : Place) → free_parent (parse_parents p) ≡ None → Decides p o (Stops 23) (λ T. make_parent x home (free_parent T.parents))
 unfolding make_parent
 new_none p o k x home e = decides_stop p o _ 23 (rw e)
 
@@ -103,11 +101,11 @@ module _ (p o : List ℕ) (k : ℕ) (row : List ℕ) (at : row ≡ take object_s
   unfolding row_object
   row_object_lem = q ∙ ap decode_object at
 
-  pub claim_none : x.claim ≡ Unclaimed → adopt (parse p o) k (row_object o k) (row_object o k).claim ≡ Rests
+  pub claim_none : x.claim ≡ None → adopt (parse p o) k (row_object o k) (row_object o k).claim ≡ Rests
   unfolding adopt
   claim_none e = rw (← row_object_lem, e)
 
-  pub claim_some : (home : Place) → x.claim ≡ Claims home → adopt_by (parse p o) k x home (way (parse p o) home) ≡ adopt (parse p o) k (row_object o k) (row_object o k).claim
+  pub claim_some : (home : Place) → x.claim ≡ Some home → adopt_by (parse p o) k x home (way (parse p o) home) ≡ adopt (parse p o) k (row_object o k) (row_object o k).claim
   unfolding adopt
   claim_some home e = rw (← row_object_lem, e)
 

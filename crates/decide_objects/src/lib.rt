@@ -16,10 +16,10 @@ ghost use Rattle.rules.specs.Settings.{settings_of, adopts};
 
 use classify_places::places;
 use layout::Slot;
-use rules::{ObjectClass, Repair, Row, Step, Way, Write};
+use rules::{ObjectClass, Repair, Step, Way, Write};
 use search::slots;
 use tables::rows::{OBJECT_SIZE, PARENT_SIZE};
-use tables::{Claim, Object, Owner, Place, rows};
+use tables::{Object, Owner, Place, rows};
 
 // Whether the policy adopts.
 fn may_adopt(policy: u64) -> bool
@@ -45,8 +45,8 @@ fn drop_named(objects: &[u8], s: Slot) -> Write
         Slot::Names(g, _, _) => {
             let found = search::objects::object_row(objects, g);
             match found {
-                Row::NoRow => Write::Nothing,
-                Row::RowIs(o) => Write::Destroy(o),
+                None => Write::Nothing,
+                Some(o) => Write::Destroy(o),
             }
         }
     }
@@ -59,8 +59,8 @@ fn adopt_new(parents: &[u8], objects: &[u8], x: Object, place: Place) -> Step
 {
     let free = search::parents::free_parent(parents);
     match free {
-        Row::NoRow => Step::Stops(23),
-        Row::RowIs(r) => {
+        None => Step::Stops(23),
+        Some(r) => {
             let w = x.owner;
             let s = taking::slot_for(x);
             let f = place.file;
@@ -111,8 +111,8 @@ fn adopt(parents: &[u8], objects: &[u8], k: usize) -> Step
     let x = rows::decode_object(rows::row_at(objects, OBJECT_SIZE, k));
     let claim = x.claim;
     match claim {
-        Claim::Unclaimed => Step::Rests,
-        Claim::Claims(place) => adopt_by(parents, objects, k, x, place),
+        None => Step::Rests,
+        Some(place) => adopt_by(parents, objects, k, x, place),
     }
 }
 

@@ -1,5 +1,6 @@
 -- Headers and slots decided, case by case as the code does it. Assumes nothing.
 use mathlib.Core.Path.{◌≡◌, sym, ap, ◌∙◌}
+use Rattle.std.specs.Prelude.{Option, Some, None}
 use mathlib.Core.List.{List}
 use mathlib.Core.Bool.{true, false, cond}
 use Prim.Native.Nat.{ℕ, ◌*◌, ◌/◌, ◌<◌}
@@ -15,7 +16,6 @@ use Rattle.tables.specs.Positions.{row_at}
 use Rattle.tables.specs.Check.{Sound}
 use Rattle.tables.specs.declared.Object.{Object}
 use Rattle.tables.specs.declared.Owner.{Owner}
-use Rattle.tables.specs.declared.Claim.TheVariants.{Claims}
 use Rattle.rules.specs.Rows.{self_of, owner_of, slot_at, first_row, object_row, object_at, free_object, same_owner}
 use Rattle.rules.specs.Classes.{header_class, slot_class}
 use Rattle.rules.specs.Repairs.{repair_header, new_object, with_claim, usable, redirect, redirect_to, is_reusable, reusable, reuse, redirect_by, make_object, repair_slot, mend_at, mended, mend_write, index_write, mend_object}
@@ -26,10 +26,6 @@ use Rattle.rules.specs.declared.SlotClass.{SlotClass}
 use Rattle.rules.specs.declared.SlotClass.TheVariants.{HOLE, MULTIPLE, DANGLING, BLANK, UNMATCHED, WRONGOST as WRONG-OST, OWNER, CLEAN}
 use Rattle.rules.specs.declared.Repair.{Repair}
 use Rattle.rules.specs.declared.Repair.TheVariants.{OfSelf, OfMultiple, OfDangling, OfBlank, OfUnmatched, OfOwner, OfWrongOst}
-use Rattle.rules.specs.declared.Row.{Row}
-use Rattle.rules.specs.declared.Row.TheVariants.{RowIs, NoRow}
-use Rattle.rules.specs.declared.Usable.{Usable}
-use Rattle.rules.specs.declared.Usable.TheVariants.{Takes, UsedUp}
 use Rattle.search.proofs.ParsedRows.{object_used, parsed_object}
 use Rattle.search.proofs.FoundRows.{object_inside, found_used}
 use Rattle.stores.specs.UsedRow.{row_bytes, UsedAt}
@@ -59,15 +55,15 @@ module _ (p o : List ℕ) (r : ℕ) (h : Sound p o) (k : r < length p / parent_s
 -- ## MULTIPLE and DANGLING
 
 module _ (p o : List ℕ) (r j ost : ℕ) (f : OstFid) where
-  pub redirect_none : free_object (parse_objects o) ≡ NoRow → Decides p o (Stops 22) (λ T. redirect_to T.parents r j ost f (free_object T.objects))
+  pub redirect_none : free_object (parse_objects o) ≡ None → Decides p o (Stops 22) (λ T. redirect_to T.parents r j ost f (free_object T.objects))
   unfolding redirect_to
   redirect_none e = decides_stop p o _ 22 (rw e)
 
-  pub make_none : free_object (parse_objects o) ≡ NoRow → Decides p o (Stops 22) (λ T. make_object (new_object T.parents f r j ost) (free_object T.objects))
+  pub make_none : free_object (parse_objects o) ≡ None → Decides p o (Stops 22) (λ T. make_object (new_object T.parents f r j ost) (free_object T.objects))
   unfolding make_object
   make_none e = decides_stop p o _ 22 (rw e)
 
-  module _ (i : ℕ) (e : free_object (parse_objects o) ≡ RowIs i) (x : Object) (q : x ≡ new_object (parse_parents p) f r j ost) where
+  module _ (i : ℕ) (e : free_object (parse_objects o) ≡ Some i) (x : Object) (q : x ≡ new_object (parse_parents p) f r j ost) where
     pub redirect_done : Decides p o (Repairs OfMultiple (PutObject i x) (PutSlot r j (Names f 0 ost)) Nothing) (λ T. redirect_to T.parents r j ost f (free_object T.objects))
     unfolding Decides redirect_to
     redirect_done = rw (e, ← q)
@@ -76,12 +72,12 @@ module _ (p o : List ℕ) (r j ost : ℕ) (f : OstFid) where
     unfolding Decides make_object
     make_done = rw (e, ← q)
 
-module _ (p o res : List ℕ) (r j ost : ℕ) (v : Usable) (e : v ≡ usable (parse p o) (parse_reserve res)) where
-  pub reserve_takes : (f : OstFid) → v ≡ Takes f → redirect_to (parse_parents p) r j ost f (free_object (parse_objects o)) ≡ redirect (parse p o) r j ost (usable (parse p o) (parse_reserve res))
+module _ (p o res : List ℕ) (r j ost : ℕ) (v : Option OstFid) (e : v ≡ usable (parse p o) (parse_reserve res)) where
+  pub reserve_takes : (f : OstFid) → v ≡ Some f → redirect_to (parse_parents p) r j ost f (free_object (parse_objects o)) ≡ redirect (parse p o) r j ost (usable (parse p o) (parse_reserve res))
   unfolding redirect
   reserve_takes f q = rw (← e, q)
 
-  pub reserve_empty : v ≡ UsedUp → Decides p o (Stops 21) (λ T. redirect T r j ost (usable T (parse_reserve res)))
+  pub reserve_empty : v ≡ None → Decides p o (Stops 21) (λ T. redirect T r j ost (usable T (parse_reserve res)))
   unfolding redirect
   reserve_empty q = decides_stop p o _ 21 (rw (← e, q))
 
@@ -91,20 +87,20 @@ module _ (p o : List ℕ) (settings : Settings) (r j ost : ℕ) where
       cond (creates settings.policy) (redirect_by settings (parse p o) r j ost (reusable (parse p o) r j)) Rests ≡ Rests
   multiple_off t = rw t
 
-  module _ (u : UsedAt p r) (row : List ℕ) (e : row ≡ row_bytes p r) (m : MdtFid) (k : m ≡ (decode_parent row).self) (found : Row)
+  module _ (u : UsedAt p r) (row : List ℕ) (e : row ≡ row_bytes p r) (m : MdtFid) (k : m ≡ (decode_parent row).self) (found : Option ℕ)
       (q : found ≡ first_row (parse_objects o) (is_reusable (parse_parents p) (place_at m j))) where
     found_is : found ≡ reusable (parse p o) r j
     unfolding reusable self_of
     found_is = rw (row_says p r u row e, ← k) q
 
     module _ (t : creates settings.policy ≡ true) where
-      pub multiple_none : found ≡ NoRow →
+      pub multiple_none : found ≡ None →
           redirect (parse p o) r j ost (usable (parse p o) settings.reserve)
           ≡ cond (creates settings.policy) (redirect_by settings (parse p o) r j ost (reusable (parse p o) r j)) Rests
       unfolding redirect_by
       multiple_none z = rw (t, ← found_is, z)
 
-      pub multiple_some : (i : ℕ) → found ≡ RowIs i →
+      pub multiple_some : (i : ℕ) → found ≡ Some i →
           reuse (parse_parents p) r j i (object_at (parse_objects o) i)
           ≡ cond (creates settings.policy) (redirect_by settings (parse p o) r j ost (reusable (parse p o) r j)) Rests
       unfolding redirect_by
@@ -113,11 +109,11 @@ module _ (p o : List ℕ) (settings : Settings) (r j ost : ℕ) where
 -- ## BLANK, UNMATCHED, WRONG-OST and OWNER
 
 module _ (p o : List ℕ) (f : OstFid) (class : Repair) (r j n ost : ℕ) where
-  pub mend_absent : object_row (parse_objects o) f ≡ NoRow → Decides p o Rests (λ T. mend_at T class r j f n ost (object_row T.objects f))
+  pub mend_absent : object_row (parse_objects o) f ≡ None → Decides p o Rests (λ T. mend_at T class r j f n ost (object_row T.objects f))
   unfolding mend_at
   mend_absent e = decides_rest p o _ (rw e)
 
-  module _ (i : ℕ) (e : object_row (parse_objects o) f ≡ RowIs i) (row : List ℕ) (at : row ≡ take object_size (drop (object_size * i) o)) (x : Object) (q : x ≡ decode_object row) where
+  module _ (i : ℕ) (e : object_row (parse_objects o) f ≡ Some i) (row : List ℕ) (at : row ≡ take object_size (drop (object_size * i) o)) (x : Object) (q : x ≡ decode_object row) where
     object_is_lem : object_at (parse_objects o) i ≡ used x
     object_is_lem =
         parsed_object o i (object_inside o f i e) ∙ ap parse_object (sym at) ∙ object_used row (found_used o f i row e at) ∙ ap (λ (v : Object). used v) (sym q)
@@ -156,12 +152,12 @@ module _ (p : List ℕ) (r : ℕ) (u : UsedAt p r) (row : List ℕ) (e : row ≡
 module _ (p : List ℕ) (r : ℕ) (u : UsedAt p r) (row : List ℕ) (e : row ≡ row_bytes p r) (w : Owner) (g : w ≡ (decode_parent row).owner) (m : MdtFid)
     (k : m ≡ (decode_parent row).self) where
   pub mended_is : (j : ℕ) (x : Object) →
-      ◌≡◌ {A = Object} (record { fid = x.fid; ost = x.ost; owner = w; claim = Claims (place_at m j); fresh = x.fresh }) (mended (parse_parents p) r j x)
+      ◌≡◌ {A = Object} (record { fid = x.fid; ost = x.ost; owner = w; claim = Some (place_at m j); fresh = x.fresh }) (mended (parse_parents p) r j x)
   unfolding mended with_claim owner_of self_of
   mended_is j x = rw (row_says p r u row e, ← g, ← k)
 
   pub new_is : (f : OstFid) (j ost : ℕ) →
-      ◌≡◌ {A = Object} (record { fid = f; ost = ost; owner = w; claim = Claims (place_at m j); fresh = true }) (new_object (parse_parents p) f r j ost)
+      ◌≡◌ {A = Object} (record { fid = f; ost = ost; owner = w; claim = Some (place_at m j); fresh = true }) (new_object (parse_parents p) f r j ost)
   unfolding new_object owner_of self_of
   new_is f j ost = rw (row_says p r u row e, ← g, ← k)
 

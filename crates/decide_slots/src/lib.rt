@@ -18,9 +18,9 @@ ghost use Rattle.rules.specs.Settings.{settings_of, creates};
 use classify_places::{headers, places};
 use fid::OstFid;
 use layout::Slot;
-use rules::{HeaderClass, Repair, Row, SlotClass, Step, Usable, Write};
+use rules::{HeaderClass, Repair, SlotClass, Step, Write};
 use tables::rows::{OBJECT_SIZE, PARENT_SIZE};
-use tables::{Claim, Object, Place, rows};
+use tables::{Object, Place, rows};
 
 // The header of parent row r: SELF is mended.
 pub fn header(parents: &[u8], objects: &[u8], r: usize) -> Step
@@ -58,7 +58,7 @@ fn new_object(parents: &[u8], r: usize, j: u32, f: OstFid, ost: u32) -> Object
         fid: f,
         ost: ost,
         owner: owner,
-        claim: Claim::Claims(place),
+        claim: Some(place),
         fresh: true,
     }
 }
@@ -70,8 +70,8 @@ fn redirect_to(parents: &[u8], objects: &[u8], r: usize, j: u32, ost: u32, f: Os
 {
     let free = search::objects::free_object(objects);
     match free {
-        Row::NoRow => Step::Stops(22),
-        Row::RowIs(o) => {
+        None => Step::Stops(22),
+        Some(o) => {
             let x = new_object(parents, r, j, f, ost);
             let s = Slot::Names(f, 0, ost);
             Step::Repairs(
@@ -91,8 +91,8 @@ fn redirect(parents: &[u8], objects: &[u8], reserve: &[u8], r: usize, j: u32, os
 {
     let found = search::reserve::usable(parents, objects, reserve);
     match found {
-        Usable::UsedUp => Step::Stops(21),
-        Usable::Takes(f) => redirect_to(parents, objects, r, j, ost, f),
+        None => Step::Stops(21),
+        Some(f) => redirect_to(parents, objects, r, j, ost, f),
     }
 }
 
@@ -120,8 +120,8 @@ fn multiple(
     };
     let found = taking::reusable(parents, objects, place);
     match found {
-        Row::NoRow => redirect(parents, objects, reserve, r, j, ost),
-        Row::RowIs(o) => taking::reuse(parents, objects, r, j, o),
+        None => redirect(parents, objects, reserve, r, j, ost),
+        Some(o) => taking::reuse(parents, objects, r, j, o),
     }
 }
 
@@ -132,8 +132,8 @@ fn make_object(parents: &[u8], objects: &[u8], r: usize, j: u32, ost: u32, f: Os
 {
     let free = search::objects::free_object(objects);
     match free {
-        Row::NoRow => Step::Stops(22),
-        Row::RowIs(o) => {
+        None => Step::Stops(22),
+        Some(o) => {
             let x = new_object(parents, r, j, f, ost);
             let object = Write::Object(o, x);
             Step::Repairs(Repair::OfDangling, object, Write::Nothing, Write::Nothing)
@@ -158,7 +158,7 @@ fn mended(parents: &[u8], r: usize, j: u32, x: Object) -> Object
         fid: name,
         ost: x.ost,
         owner: owner,
-        claim: Claim::Claims(place),
+        claim: Some(place),
         fresh: x.fresh,
     }
 }
@@ -205,8 +205,8 @@ fn mend(
 {
     let found = search::objects::object_row(objects, f);
     match found {
-        Row::NoRow => Step::Rests,
-        Row::RowIs(o) => {
+        None => Step::Rests,
+        Some(o) => {
             let x = rows::decode_object(rows::row_at(objects, OBJECT_SIZE, o));
             let index = x.ost;
             let object = mend_write(parents, r, j, o, x);

@@ -1,5 +1,6 @@
 -- The closing line, case by case. Assumes nothing.
 use Prim.Native.Nat.{ℕ, ◌+◌, ◌-◌, ◌*◌, ◌/◌, ◌≤◌, ◌<◌}
+use Rattle.std.specs.Prelude.{Some, None}
 use mathlib.Core.Path.{◌≡◌, refl, sym, ap, subst, ◌∙◌}
 use mathlib.Core.List.{List}
 use mathlib.Core.Bool.{Bool, true, false, ◌||◌}
@@ -13,7 +14,6 @@ use Rattle.wire.proofs.RowLaws.{rows_at, rows_length}
 use Rattle.tables.specs.Bytes.{parent_size, object_size, layout_room, parent_rows, object_rows}
 use Rattle.tables.specs.declared.Owner.{Owner}
 use Rattle.tables.proofs.AllLaws.{row_fits, part_length}
-use Rattle.rules.specs.declared.Row.TheVariants.{RowIs, NoRow}
 use Rattle.search.specs.FirstRow.{free_row}
 use Rattle.intake.specs.declared.Kind.TheVariants.{Lov, Fid, Lma}
 use Rattle.intake.specs.Says.{good_size, wanted}
@@ -50,7 +50,7 @@ module _ (buf : List ℕ) (size : ℕ) (w : Owner) (p : List ℕ) where
   }
 
   module _ (h : size ≤ layout_room) where
-    pub parent_none : free_row p parent_size ≡ NoRow → ParentClosed buf size w p p (Refused 37)
+    pub parent_none : free_row p parent_size ≡ None → ParentClosed buf size w p p (Refused 37)
     unfolding fills closed_as with_tables parent_rows
     parent_none e = record {
       closes = λ R o line index after v q.
@@ -59,7 +59,7 @@ module _ (buf : List ℕ) (size : ℕ) (w : Owner) (p : List ℕ) where
       number = refuses 37 (omega arith) (omega arith);
     }
 
-    pub parent_filled : (r : ℕ) (p' : List ℕ) → length buf ≡ 208 + layout_room → free_row p parent_size ≡ RowIs r
+    pub parent_filled : (r : ℕ) (p' : List ℕ) → length buf ≡ 208 + layout_room → free_row p parent_size ≡ Some r
         → p' ≡ sets p (parent_size * r) (parent_from (self_in buf) (layout_in buf size) w.uid w.gid (take parent_size (drop (parent_size * r) p)))
         → ParentClosed buf size w p p' Filled
     unfolding fills filled closed_as with_tables parent_rows
@@ -80,7 +80,7 @@ module _ (buf : List ℕ) (size : ℕ) (w : Owner) (p : List ℕ) where
 -- ## An object
 
 module _ (buf : List ℕ) (w : Owner) (index : ℕ) (o : List ℕ) where
-  pub object_none : free_row o object_size ≡ NoRow → ObjectClosed buf w index o o (Refused 37)
+  pub object_none : free_row o object_size ≡ None → ObjectClosed buf w index o o (Refused 37)
   unfolding fills closed_as with_tables object_rows
   object_none e = record {
     closes = λ R p line size after.
@@ -89,7 +89,7 @@ module _ (buf : List ℕ) (w : Owner) (index : ℕ) (o : List ℕ) where
     number = refuses 37 (omega arith) (omega arith);
   }
 
-  pub object_filled : (r : ℕ) (o' : List ℕ) → 208 ≤ length buf → free_row o object_size ≡ RowIs r
+  pub object_filled : (r : ℕ) (o' : List ℕ) → 208 ≤ length buf → free_row o object_size ≡ Some r
       → o' ≡ sets o (object_size * r) (object_from (self_in buf) (claim_in buf) w.uid w.gid index) → ObjectClosed buf w index o o' Filled
   unfolding fills filled closed_as with_tables object_rows
   object_filled r o' n e s =

@@ -1,5 +1,6 @@
 -- The stores of a row that is filled, and the first unused row. Assumes nothing.
 use Prim.Native.Nat.{ℕ, zero, suc, ◌+◌, ◌-◌, ◌*◌, ◌/◌, ◌≤◌, ◌<◌}
+use Rattle.std.specs.Prelude.{Option, Some, None}
 use mathlib.Core.Path.{◌≡◌, refl, sym, ap, subst, ◌∙◌}
 use mathlib.Core.List.{List, [], ◌∷◌, ◌++◌, append_assoc}
 use mathlib.Core.Bool.{Bool, true, false, cond, not}
@@ -17,8 +18,6 @@ use Rattle.tables.specs.Bytes.{parent_size, object_size, layout_room, is_used, e
 use Rattle.tables.specs.declared.Owner.{Owner}
 use Rattle.tables.proofs.AllLaws.{row_fits, part_length, part_is}
 use Rattle.rules.specs.Search.{row_from}
-use Rattle.rules.specs.declared.Row.{Row}
-use Rattle.rules.specs.declared.Row.TheVariants.{RowIs, NoRow}
 use Rattle.search.specs.FirstRow.{free_row}
 use Rattle.stores.proofs.StoreLaws.{length_owner, part_whole}
 use Rattle.intake.specs.Reading.{first_unused, parent_from, object_from}
@@ -142,20 +141,20 @@ row_changed size r l e h k n =
 -- ## The first unused row
 
 -- what a search from row i on over n rows finds, where the first unused of them is k
-Agrees : Row → ℕ → ℕ → ℕ → Type 0
-Agrees NoRow i n k = n ≤ k
-Agrees (RowIs r) i n k = (r ≡ i + k) × (k < n)
+Agrees : Option ℕ → ℕ → ℕ → ℕ → Type 0
+Agrees None i n k = n ≤ k
+Agrees (Some r) i n k = (r ≡ i + k) × (k < n)
 
-later : (x : Row) (i n k : ℕ) → Agrees x (suc i) n k → Agrees x i (suc n) (suc k)
+later : (x : Option ℕ) (i n k : ℕ) → Agrees x (suc i) n k → Agrees x i (suc n) (suc k)
 unfolding Agrees
-later NoRow i n k h = omega arith
-later (RowIs r) i n k h = (omega (arith, h.0), omega (arith, h.1))
+later None i n k h = omega arith
+later (Some r) i n k h = (omega (arith, h.0), omega (arith, h.1))
 
-absent : (i : ℕ) → Agrees NoRow i 0 0
+absent : (i : ℕ) → Agrees None i 0 0
 unfolding Agrees
 absent i = omega arith
 
-here : (i n : ℕ) → Agrees (RowIs i) i (suc n) 0
+here : (i n : ℕ) → Agrees (Some i) i (suc n) 0
 unfolding Agrees
 here i n = (omega arith, omega arith)
 
@@ -169,7 +168,7 @@ module _ (size : ℕ) (l : List ℕ) where
 
     go : (t : Bool)
         → Agrees (row_from n (suc i) (λ r. not (is_used (take size (drop (size * r) l))))) (suc i) n (first_unused (rows size n (drop (size * suc i) l)))
-        → Agrees (elim (not t) [ true ↦ RowIs i | false ↦ row_from n (suc i) (λ r. not (is_used (take size (drop (size * r) l)))) ]) i (suc n)
+        → Agrees (elim (not t) [ true ↦ Some i | false ↦ row_from n (suc i) (λ r. not (is_used (take size (drop (size * r) l)))) ]) i (suc n)
         (cond t (suc (first_unused (rows size n (drop size (drop (size * i) l))))) 0)
     go true h = rw on (later _ i n _ h)
     go false h = here i n
@@ -180,13 +179,13 @@ module _ (size : ℕ) (l : List ℕ) where
       let z : drop (size * 0) l ≡ l = rw mul-zero in
       subst (λ (m : List ℕ). Agrees (free_row l size) 0 (length l / size) (first_unused (rows size (length l / size) m))) z (agrees (length l / size) 0)
 
-  pub free_none : free_row l size ≡ NoRow → length l / size ≤ first_unused (rows size (length l / size) l)
+  pub free_none : free_row l size ≡ None → length l / size ≤ first_unused (rows size (length l / size) l)
   unfolding Agrees
-  free_none e = subst (λ (x : Row). Agrees x 0 (length l / size) (first_unused (rows size (length l / size) l))) e all_rows
+  free_none e = subst (λ (x : Option ℕ). Agrees x 0 (length l / size) (first_unused (rows size (length l / size) l))) e all_rows
 
-  pub free_is : (r : ℕ) → free_row l size ≡ RowIs r → (first_unused (rows size (length l / size) l) ≡ r) × (r < length l / size)
+  pub free_is : (r : ℕ) → free_row l size ≡ Some r → (first_unused (rows size (length l / size) l) ≡ r) × (r < length l / size)
   unfolding Agrees
   free_is r e =
       let h : (r ≡ 0 + first_unused (rows size (length l / size) l)) × (first_unused (rows size (length l / size) l) < length l / size) =
-      subst (λ (x : Row). Agrees x 0 (length l / size) (first_unused (rows size (length l / size) l))) e all_rows in
+      subst (λ (x : Option ℕ). Agrees x 0 (length l / size) (first_unused (rows size (length l / size) l))) e all_rows in
       (omega (arith, h.0), omega (arith, h.0, h.1))

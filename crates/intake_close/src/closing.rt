@@ -8,7 +8,6 @@ ghost use Rattle.intake_close.specs.Closing.{ParentClosed, ObjectClosed, EntryCl
 use super::{Closed, OwnerRead, filled, owners};
 use intake::{BAD_DUMP, NO_FIT, NO_KIND, NO_SELF};
 use intake_bytes::Marks;
-use rules::Row;
 use search::first;
 use tables::Owner;
 use tables::rows::{LAYOUT_ROOM, OBJECT_SIZE, PARENT_SIZE};
@@ -22,8 +21,8 @@ fn close_parent(buf: &[u8], size: usize, w: Owner, parents: &mut [u8]) -> Closed
         return Closed::Refused(NO_FIT);
     }
     match first::free_row(parents, PARENT_SIZE) {
-        Row::NoRow => Closed::Refused(NO_FIT),
-        Row::RowIs(r) => {
+        None => Closed::Refused(NO_FIT),
+        Some(r) => {
             filled::fill_parent(parents, r, buf, size, w);
             Closed::Filled
         }
@@ -36,8 +35,8 @@ fn close_object(buf: &[u8], w: Owner, index: u32, objects: &mut [u8]) -> Closed
     ensures { ObjectClosed buf.now w index objects.old objects.new result }
 {
     match first::free_row(objects, OBJECT_SIZE) {
-        Row::NoRow => Closed::Refused(NO_FIT),
-        Row::RowIs(r) => {
+        None => Closed::Refused(NO_FIT),
+        Some(r) => {
             filled::fill_object(objects, r, buf, index, w);
             Closed::Filled
         }

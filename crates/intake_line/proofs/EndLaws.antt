@@ -1,5 +1,6 @@
 -- What the machine says at a line's end, read off the lent bytes. Assumes nothing.
 use Prim.Native.Nat.{ℕ, ◌+◌, ◌-◌, ◌≤◌, ◌<◌}
+use Rattle.std.specs.Prelude.{Some}
 use mathlib.Core.Path.{◌≡◌, refl, sym, ap, subst, ◌∙◌}
 use mathlib.Core.List.{List, [], ◌∷◌}
 use mathlib.Core.Bool.{Bool, true, false, cond}
@@ -10,7 +11,7 @@ use borrow.Author.Tests.{eq-eqb, ne_eqb}
 use Rattle.intake.specs.declared.Kind.{Kind}
 use Rattle.intake.specs.declared.Kind.TheVariants.{Lov, Fid, Lma, Other}
 use Rattle.intake_bytes.specs.declared.Unfinished.{Unfinished}
-use Rattle.intake_line.specs.declared.Said.TheVariants.{Opens, Closes, Skipped, Bad, Takes}
+use Rattle.intake_line.specs.declared.Said.TheVariants.{Opens, Closes, Skipped, Bad}
 use Rattle.intake.specs.Says.{Value, wrong, holds, opens, closes, skipped, bad, takes, starts, file_word, trusted_word, value_word, kind_of, good_size, sized, attribute, is_empty, judge}
 use Rattle.intake.specs.Machine.{broken, even, odd, value_of, line_end}
 use Rattle.intake_bytes.specs.Lent.{kept_in, digits_in, partial_in}
@@ -147,19 +148,19 @@ module _ (k : Kind) (n : ℕ) where
 -- ## Which answers take a value
 
 module _ (k : Kind) where
-  pub opens_not : Opens ≡ Takes k → ⊥
+  pub opens_not : Opens ≡ Some k → ⊥
   opens_not e = let z : ◌≡◌ {A = ℕ} 0 1 = cc in omega arith
 
-  pub closes_not : Closes ≡ Takes k → ⊥
+  pub closes_not : Closes ≡ Some k → ⊥
   closes_not e = let z : ◌≡◌ {A = ℕ} 0 1 = cc in omega arith
 
-  pub skipped_not : Skipped ≡ Takes k → ⊥
+  pub skipped_not : Skipped ≡ Some k → ⊥
   skipped_not e = let z : ◌≡◌ {A = ℕ} 0 1 = cc in omega arith
 
-  pub bad_not : Bad ≡ Takes k → ⊥
+  pub bad_not : Bad ≡ Some k → ⊥
   bad_not e = let z : ◌≡◌ {A = ℕ} 0 1 = cc in omega arith
 
-  pub takes_same : (j : Kind) → Takes j ≡ Takes k → k ≡ j
+  pub takes_same : (j : Kind) → Some j ≡ Some k → k ≡ j
   takes_same j e = cc
 
 pub ends_whole : (buf : List ℕ) (x : Unfinished) (k : Kind)

@@ -1,5 +1,6 @@
 -- What each line does to the open entry in the lent bytes. Assumes nothing.
 use Prim.Native.Nat.{ℕ, suc, ◌+◌, ◌-◌, ◌<◌}
+use Rattle.std.specs.Prelude.{Some}
 use mathlib.Core.Path.{◌≡◌, refl, sym, ap, subst}
 use mathlib.Core.List.{List}
 use mathlib.Core.Bool.{Bool, true, false, cond}
@@ -11,7 +12,7 @@ use Rattle.intake.specs.declared.Kind.{Kind}
 use Rattle.intake.specs.declared.Kind.TheVariants.{Lov, Fid, Lma, Other}
 use Rattle.intake_bytes.specs.declared.Marks.{Marks}
 use Rattle.intake_line.specs.declared.Said.{Said}
-use Rattle.intake_line.specs.declared.Said.TheVariants.{Opens, Closes, Skipped, Bad, Takes}
+use Rattle.intake_line.specs.declared.Said.TheVariants.{Opens, Closes, Skipped, Bad}
 use Rattle.intake_line.specs.declared.After.TheVariants.{Goes, Stops, Closing}
 use Rattle.intake.specs.Says.{good_size}
 use Rattle.intake.specs.Reading.{Attribute, had, outside, inside, Reading, stops_at, has, attribute_of, with_attribute, on_line}
@@ -124,7 +125,7 @@ module _ (from : ℕ) (m : Marks) (s : Said) (size line : ℕ) where
     unfolding line_of on_line after_is AfterHeld
     step_skip_out q = record { step = λ room R buf v h. rw (q, open_out buf from m e); marked = λ g h. (omega arith, omega arith) }
 
-    pub step_take_out : (k : Kind) → s ≡ Takes k → EntryStep from m s size line (Stops 33)
+    pub step_take_out : (k : Kind) → s ≡ Some k → EntryStep from m s size line (Stops 33)
     unfolding line_of on_line after_is AfterHeld
     step_take_out k q = record { step = λ room R buf v h. rw (q, open_out buf from m e); marked = λ g h. (omega arith, omega arith) }
 
@@ -141,11 +142,11 @@ module _ (from : ℕ) (m : Marks) (s : Said) (size line : ℕ) where
     unfolding line_of on_line after_is AfterHeld
     step_skip q = record { step = λ room R buf v h. rw (q, open_in_lem buf from m e); marked = λ g h. h }
 
-    pub step_twice : (k : Kind) → s ≡ Takes k → (mark_of m k ≡ 0 → ⊥) → EntryStep from m s size line (Stops 34)
+    pub step_twice : (k : Kind) → s ≡ Some k → (mark_of m k ≡ 0 → ⊥) → EntryStep from m s size line (Stops 34)
     unfolding line_of on_line after_is AfterHeld
     step_twice k q z = record { step = λ room R buf v h. rw (q, open_in_lem buf from m e, kind_in buf from m k, has_one buf k (mark_of m k) z); marked = λ g h. (omega arith, omega arith) }
 
-    pub step_take : (k : Kind) (n : Marks) → s ≡ Takes k → mark_of m k ≡ 0 → n ≡ marks_with k (size + 1) m → EntryStep from m s size line (Goes from n)
+    pub step_take : (k : Kind) (n : Marks) → s ≡ Some k → mark_of m k ≡ 0 → n ≡ marks_with k (size + 1) m → EntryStep from m s size line (Goes from n)
     unfolding line_of on_line after_is Standing AfterHeld
     step_take k n q z w = record {
       step = λ room R buf v h.

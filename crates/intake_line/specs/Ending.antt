@@ -1,5 +1,6 @@
 -- What a line says where it ends, from its head and its digits. Document 02, 2026-03: "A bad line, hex .. or length".
 use Rattle.std.specs.Prelude.{ℕ, ◌≤◌, ◌≡◌, List, Bool, true, false, cond, length, take, drop, eqb}
+use Rattle.std.specs.Prelude.{Some}
 use Rattle.intake.specs.declared.Kind.{Kind}
 use Rattle.intake.specs.declared.Kind.TheVariants.{Lov, Fid, Lma, Other}
 use Rattle.intake.specs.Says.{head_size, kind_of, good_size, Line, opens, closes, skipped, bad, takes, Value, holds, wrong, judge}
@@ -7,7 +8,7 @@ use Rattle.intake.specs.Machine.{line_end}
 use Rattle.intake_bytes.specs.declared.Unfinished.{Unfinished}
 use Rattle.intake_bytes.specs.Lent.{head_at, kept_in, partial_in}
 use Rattle.intake_line.specs.declared.Said.{Said}
-use Rattle.intake_line.specs.declared.Said.TheVariants.{Opens, Closes, Skipped, Bad, Takes}
+use Rattle.intake_line.specs.declared.Said.TheVariants.{Opens, Closes, Skipped, Bad}
 
 unfoldable pub is_other : Kind → Bool
 is_other Lov = false
@@ -21,7 +22,7 @@ line_of Opens n v = opens
 line_of Closes n v = closes
 line_of Skipped n v = skipped
 line_of Bad n v = bad
-line_of (Takes k) n v = takes k n v
+line_of (Some k) n v = takes k n v
 
 -- the value of digits that ended so: whole bytes, or none
 unfoldable pub value_is : ℕ → ℕ → List ℕ → Value
@@ -30,8 +31,8 @@ value_is half size v = cond (eqb half 0) (holds size v) wrong
 -- what the code says of a head is what the head says, whatever the value's bytes; and a value is taken only of a whole head, by its kind, and of a good length
 pub record HeadSaid (h : List ℕ) (half size : ℕ) (r : Said) : Type 0 where
   pub says : (v : List ℕ) → line_of r size v ≡ judge h (value_is half size v)
-  pub whole : (k : Kind) → r ≡ Takes k → (head_size ≤ length h) × (k ≡ kind_of h) × (good_size k size ≡ true)
+  pub whole : (k : Kind) → r ≡ Some k → (head_size ≤ length h) × (k ≡ kind_of h) × (good_size k size ≡ true)
 
 pub record LineSaid (buf : List ℕ) (x : Unfinished) (r : Said) : Type 0 where
   pub says : line_of r x.size (kept_in buf x) ≡ line_end (partial_in buf x)
-  pub whole : (k : Kind) → r ≡ Takes k → (head_size ≤ x.seen) × (k ≡ kind_of (take x.seen (drop head_at buf))) × (good_size k x.size ≡ true)
+  pub whole : (k : Kind) → r ≡ Some k → (head_size ≤ x.seen) × (k ≡ kind_of (take x.seen (drop head_at buf))) × (good_size k x.size ≡ true)

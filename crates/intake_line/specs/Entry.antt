@@ -1,12 +1,12 @@
 -- The open entry in lent bytes: its first line (0 outside), its marks, and the parts in which its attributes are kept.
 use Rattle.std.specs.Prelude.{ℕ, suc, ◌+◌, ◌-◌, ◌≤◌, ◌<◌, ◌≡◌, List, Bool, true, cond, ◌||◌, length, take, eqb}
+use Rattle.std.specs.Prelude.{Some}
 use Rattle.intake.specs.Lines.{newline}
 use Rattle.intake.specs.Says.{good_size}
 use Rattle.intake.specs.declared.Kind.{Kind}
 use Rattle.intake.specs.declared.Kind.TheVariants.{Lov, Fid, Lma, Other}
 use Rattle.intake_bytes.specs.declared.Marks.{Marks}
 use Rattle.intake_line.specs.declared.Said.{Said}
-use Rattle.intake_line.specs.declared.Said.TheVariants.{Takes}
 use Rattle.intake_line.specs.declared.After.{After}
 use Rattle.intake_line.specs.declared.After.TheVariants.{Goes, Stops, Closing}
 use Rattle.intake.specs.Reading.{bad_dump, attribute_twice, Attribute, none, had, Entry, Open, outside, inside, Reading, goes_on, stops_at, closes_entry, on_line, going}
@@ -63,12 +63,12 @@ after_is room R line buf from m Closing = closes_entry room R line (entry_in buf
 
 -- the value of a taken line stands in its part, unless the entry has that attribute
 unfoldable pub Standing : Marks → Said → ℕ → List ℕ → List ℕ → Type 0
-Standing m s size buf v = (k : Kind) → s ≡ Takes k → mark_of m k ≡ 0 → v ≡ take size (part_of (length buf) k buf)
+Standing m s size buf v = (k : Kind) → s ≡ Some k → mark_of m k ≡ 0 → v ≡ take size (part_of (length buf) k buf)
 
 pub record EntryStep (from : ℕ) (m : Marks) (s : Said) (size line : ℕ) (r : After) : Type 0 where
   pub step : (room : ℕ) (R : Reading) (buf v : List ℕ) → Standing m s size buf v
       → on_line room R line (open_in buf from m) (line_of s size v) ≡ after_is room R line buf from m r
-  pub marked : ((k : Kind) → s ≡ Takes k → good_size k size ≡ true) → MarksHeld from m → AfterHeld from r
+  pub marked : ((k : Kind) → s ≡ Some k → good_size k size ≡ true) → MarksHeld from m → AfterHeld from r
 
 -- ## The reader
 

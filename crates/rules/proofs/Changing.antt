@@ -1,5 +1,6 @@
 -- MULTIPLE, WRONG-OST and ORPHAN change a slot or the slot count whenever they are made. Assumes nothing.
 use Prim.Native.Nat.{ℕ, zero, suc, ◌-◌, ◌≤◌, ◌<◌}
+use Rattle.std.specs.Prelude.{Option, Some, None}
 use native.Mathlib.Omega.{arith}
 use mathlib.Core.Path.{◌≡◌, refl, sym, ap, subst, ◌∙◌}
 use mathlib.Core.Bool.{Bool, true, false, cond, ◌&&◌, true≢false}
@@ -20,8 +21,6 @@ use Rattle.tables.specs.Records.{ParentRow, ObjectRow, unused, used, Tables}
 use Rattle.tables.specs.Positions.{slots_of, row_at, width}
 use Rattle.tables.specs.declared.Owner.{Owner}
 use Rattle.tables.specs.declared.Place.{Place}
-use Rattle.tables.specs.declared.Claim.{Claim}
-use Rattle.tables.specs.declared.Claim.TheVariants.{Unclaimed, Claims}
 use Rattle.tables.specs.declared.Object.{Object}
 use Rattle.tables.specs.declared.Position.{Position}
 use Rattle.rules.specs.Rows.{owner_of, has_fid, is_parent, free_parent, slot_at, names_at, named, object_at, object_row, object_in, object_in_row, object_of, free_object, same_owner}
@@ -32,10 +31,6 @@ use Rattle.rules.specs.Settings.{Settings, creates, adopts}
 use Rattle.rules.specs.Repairs.{with_slots, grown, made, put_parent, put_object, apply_write, apply_writes, repair_header, new_object, usable, redirect_to, redirect, is_reusable, reusable, reuse, redirect_by, make_object, mended, mend_write, index_write, mend_object, mend_at, repair_slot, slot_for, owner_write, with_owner, make_parent, adopt_by, adopt, repair_object}
 use Rattle.rules.specs.Steps.{slot_step, part_step, object_step, step_at}
 use Rattle.rules.specs.Generations.{restripes, changes_slots, ChangedStep}
-use Rattle.rules.specs.declared.Row.{Row}
-use Rattle.rules.specs.declared.Row.TheVariants.{RowIs, NoRow}
-use Rattle.rules.specs.declared.Usable.{Usable}
-use Rattle.rules.specs.declared.Usable.TheVariants.{Takes, UsedUp}
 use Rattle.rules.specs.declared.Way.{Way}
 use Rattle.rules.specs.declared.HeaderClass.{HeaderClass}
 use Rattle.rules.specs.declared.HeaderClass.TheVariants.{UNUSED as UNUSED-PARENT, SELF, CLEAN as CLEAN-HEADER}
@@ -122,15 +117,15 @@ changes_header T r UNUSED-PARENT = tt
 changes_header T r CLEAN-HEADER = tt
 changes_header T r SELF = λ l. absurd (true≢false (sym l))
 
-changes_redirect : (T : Tables) (r j : ℕ) (f : OstFid) (n ost : ℕ) (gs : List OstFid) → slot_at T.parents r j ≡ Names f n ost → (u : Usable) → usable T gs ≡ u →
+changes_redirect : (T : Tables) (r j : ℕ) (f : OstFid) (n ost : ℕ) (gs : List OstFid) → slot_at T.parents r j ≡ Names f n ost → (u : Option OstFid) → usable T gs ≡ u →
     Changes T (redirect T r j ost u)
 unfolding Changes redirect redirect_to apply_writes apply_write put_object put_slot put_parent
-changes_redirect T r j f n ost gs at UsedUp e = tt
-changes_redirect T r j f n ost gs at (Takes g) e = go (free_object T.objects)
+changes_redirect T r j f n ost gs at None e = tt
+changes_redirect T r j f n ost gs at (Some g) e = go (free_object T.objects)
   where
-    go : (a : Row) → Changes T (redirect_to T.parents r j ost g a)
-    go NoRow = tt
-    go (RowIs o) = λ l.
+    go : (a : Option ℕ) → Changes T (redirect_to T.parents r j ost g a)
+    go None = tt
+    go (Some o) = λ l.
         let in_rows = named_there T r j f n ost at in
         slot_differs T r j (Names g 0 ost) (Names f n ost) in_rows.0 in_rows.1 at (other_object T r j f g n ost 0 ost at (usable_free T gs g e).1)
 
@@ -154,32 +149,32 @@ changes_reuse T r j f n ost o at (used x) e = λ l.
     owner : Owner
     owner = owner_of (row_at T.parents r)
 
-changes_by : (settings : Settings) (T : Tables) (r j : ℕ) (f : OstFid) (n ost : ℕ) → slot_at T.parents r j ≡ Names f n ost → (a : Row) → reusable T r j ≡ a →
+changes_by : (settings : Settings) (T : Tables) (r j : ℕ) (f : OstFid) (n ost : ℕ) → slot_at T.parents r j ≡ Names f n ost → (a : Option ℕ) → reusable T r j ≡ a →
     Changes T (redirect_by settings T r j ost a)
 unfolding redirect_by
-changes_by settings T r j f n ost at NoRow e = changes_redirect T r j f n ost settings.reserve at (usable T settings.reserve) refl
-changes_by settings T r j f n ost at (RowIs o) e = changes_reuse T r j f n ost o at (object_at T.objects o) (reusable_passes T r j o e)
+changes_by settings T r j f n ost at None e = changes_redirect T r j f n ost settings.reserve at (usable T settings.reserve) refl
+changes_by settings T r j f n ost at (Some o) e = changes_reuse T r j f n ost o at (object_at T.objects o) (reusable_passes T r j o e)
 
-changes_make : (T : Tables) (x : Object) (a : Row) → Changes T (make_object x a)
+changes_make : (T : Tables) (x : Object) (a : Option ℕ) → Changes T (make_object x a)
 unfolding Changes changes_slots make_object
-changes_make T x NoRow = tt
-changes_make T x (RowIs o) = λ l. absurd (true≢false (sym l))
+changes_make T x None = tt
+changes_make T x (Some o) = λ l. absurd (true≢false (sym l))
 
 -- BLANK, UNMATCHED and OWNER are none of them
-changes_mend : (T : Tables) (c : Repair) → changes_slots c ≡ false → (r j : ℕ) (f : OstFid) (n ost : ℕ) (a : Row) → Changes T (mend_at T c r j f n ost a)
+changes_mend : (T : Tables) (c : Repair) → changes_slots c ≡ false → (r j : ℕ) (f : OstFid) (n ost : ℕ) (a : Option ℕ) → Changes T (mend_at T c r j f n ost a)
 unfolding Changes mend_at mend_object
-changes_mend T c other r j f n ost NoRow = tt
-changes_mend T c other r j f n ost (RowIs o) = go (object_at T.objects o)
+changes_mend T c other r j f n ost None = tt
+changes_mend T c other r j f n ost (Some o) = go (object_at T.objects o)
   where
     go : (y : ObjectRow) → Changes T (mend_object T.parents c r j f n ost o y)
     go (unused b) = tt
     go (used x) = λ l. absurd (true≢false (sym l ∙ other))
 
 -- WRONG-OST: the index differs
-wrong_there : (p : Place) (there owned : Bool) (k : Claim) → claim_class p there owned k ≡ WRONG-OST → there ≡ false
+wrong_there : (p : Place) (there owned : Bool) (k : Option Place) → claim_class p there owned k ≡ WRONG-OST → there ≡ false
 unfolding claim_class claimed_class
-wrong_there p there owned Unclaimed e = let z : ◌≡◌ {A = ℕ} 0 1 = cc in absurd (omega arith)
-wrong_there p there owned (Claims q) e = go (claims (Claims q) p) there owned e
+wrong_there p there owned None e = let z : ◌≡◌ {A = ℕ} 0 1 = cc in absurd (omega arith)
+wrong_there p there owned (Some q) e = go (claims (Some q) p) there owned e
   where
     go : (b t o : Bool) → cond b (cond t (cond o CLEAN OWNER) WRONG-OST) (UNMATCHED q.file q.index) ≡ WRONG-OST → t ≡ false
     go false t o d = let z : ◌≡◌ {A = ℕ} 0 1 = cc in absurd (omega arith)
@@ -210,10 +205,10 @@ changes_index T r j f n ost at = go (is_place (keeper T f) r j) (object_row T.ob
         mend_differs T (claims x.claim home && same_owner x.owner owner) (eqb x.ost ost) o (mended T.parents r j x) r j (Names f n x.ost) wrong
         (slot_differs T r j (Names f n x.ost) (Names f n ost) in_rows.0 in_rows.1 at (other_index f n ost x.ost wrong))
 
-    go : (b : Bool) (a : Row) → cond b (keeper_class home ost owner (object_in_row T.objects a)) MULTIPLE ≡ WRONG-OST → Changes T (mend_at T OfWrongOst r j f n ost a)
+    go : (b : Bool) (a : Option ℕ) → cond b (keeper_class home ost owner (object_in_row T.objects a)) MULTIPLE ≡ WRONG-OST → Changes T (mend_at T OfWrongOst r j f n ost a)
     go false a e = let z : ◌≡◌ {A = ℕ} 0 1 = cc in absurd (omega arith)
-    go true NoRow e = tt
-    go true (RowIs o) e = object o (object_at T.objects o) e
+    go true None e = tt
+    go true (Some o) e = object o (object_at T.objects o) e
 
 changes_slot : (settings : Settings) (T : Tables) (r j : ℕ) (f : OstFid) (n ost : ℕ) → slot_at T.parents r j ≡ Names f n ost → (c : SlotClass) →
     slot_class_of T r j (Names f n ost) ≡ c → Changes T (repair_slot settings T r j f n ost c)
@@ -253,10 +248,10 @@ made_differs w b u f i o s l =
     ap (λ (v : ParentRow). same_slots (slots_of v) (set holes i s)) u ∙ slots_longer [] (set holes i s) (rw n (omega arith))
 
 module _ (T : Tables) (o : ℕ) (x : Object) (p : Place) (unnamed : named T.parents x.fid ≡ false) where
-  changes_parent : (a : Row) → free_parent T.parents ≡ a → Changes T (make_parent x p a)
+  changes_parent : (a : Option ℕ) → free_parent T.parents ≡ a → Changes T (make_parent x p a)
   unfolding Changes make_parent apply_write
-  changes_parent NoRow e = tt
-  changes_parent (RowIs r) e = λ l.
+  changes_parent None e = tt
+  changes_parent (Some r) e = λ l.
       let free = free_row_lem T r e in
       first_differs T (Make r p.file x.owner p.index (slot_for x)) Nothing Nothing
       (row_differs T r _ free.1 (made_differs (row_at T.parents r) free.0.0 free.0.1 _ _ _ _ _)) aside_nothing aside_nothing
@@ -292,9 +287,9 @@ changes_object settings T o x SPARE e = tt
 changes_object settings T o x EMPTY e = changes_when T (adopts settings.policy) _ (λ l. absurd (true≢false (sym l)))
 changes_object settings T o x ORPHAN e = changes_when T (adopts settings.policy) _ (go x.claim)
   where
-    go : (k : Claim) → Changes T (adopt T o x k)
-    go Unclaimed = tt
-    go (Claims p) = changes_adopt T o x p (orphan_unnamed T x e) (way_means T p)
+    go : (k : Option Place) → Changes T (adopt T o x k)
+    go None = tt
+    go (Some p) = changes_adopt T o x p (orphan_unnamed T x e) (way_means T p)
 changes_object settings T o x CONFLICT e = tt
 
 -- ## Every step

@@ -1,5 +1,6 @@
 -- The count of slots compared, case by case as the code makes it, and what is promised of it. Assumes nothing.
 use Prim.Native.Nat.{ℕ, zero, suc, ◌+◌, ◌*◌, ◌≤◌, ◌<◌}
+use Rattle.std.specs.Prelude.{Option, Some, None}
 use native.Mathlib.Omega.{arith}
 use native.Mathlib.Decide.{dec_lt}
 use native.Mathlib.Nat.{zero-add}
@@ -14,13 +15,7 @@ use Rattle.layout.specs.declared.Slot.{Slot}
 use Rattle.layout.specs.declared.Slot.TheVariants.{Hole}
 use Rattle.tables.specs.Records.{ParentRow, Tables, unused}
 use Rattle.tables.specs.Positions.{slots_of, row_at, width, row_steps}
-use Rattle.tables.specs.declared.Claim.{Claim}
-use Rattle.tables.specs.declared.Claim.TheVariants.{Unclaimed, Claims}
 use Rattle.tables.specs.declared.Place.{Place}
-use Rattle.rules.specs.declared.Row.{Row}
-use Rattle.rules.specs.declared.Row.TheVariants.{RowIs, NoRow}
-use Rattle.rules.specs.declared.Found.{Found}
-use Rattle.rules.specs.declared.Found.TheVariants.{At, Nowhere}
 use Rattle.rules.specs.Search.{slot_from, place_from, is_somewhere}
 use Rattle.rules.specs.Rows.{parent_row, slot_at, names_at, scan, named, object_of}
 use Rattle.rules.specs.Keeper.{claim_in}
@@ -145,7 +140,7 @@ module _ (ps : List ParentRow) (f : OstFid) (r : ℕ) where
       rw (drop-cons (slots_of (row_at ps r)) j Hole (omega arith)) (go (slot_names f (get_or (slots_of (row_at ps r)) j Hole)) (hit_from n (suc j) (omega arith)))
     where
       go : (b : Bool) → is_somewhere (slot_from r n (suc j) (names_at ps f)) ≡ hit f (drop (suc j) (slots_of (row_at ps r))) →
-          is_somewhere (elim b [ true ↦ At r j | false ↦ slot_from r n (suc j) (names_at ps f) ]) ≡ (b || hit f (drop (suc j) (slots_of (row_at ps r))))
+          is_somewhere (elim b [ true ↦ Some (r, j) | false ↦ slot_from r n (suc j) (names_at ps f) ]) ≡ (b || hit f (drop (suc j) (slots_of (row_at ps r))))
       go true ih = refl
       go false ih = ih
 
@@ -204,10 +199,10 @@ module _ (ps : List ParentRow) (f : OstFid) where
   place_hit (suc n) r e =
       rw (all_row ps r (omega arith), hit_both f, hit_row ps f r) (go (slot_from r (width ps r) 0 (names_at ps f)) (place_hit n (suc r) (omega arith)))
     where
-      go : (a : Found) → is_somewhere (place_from n (suc r) (width ps) (names_at ps f)) ≡ hit f (all_slots (drop (suc r) ps)) →
-          is_somewhere (elim a [ At k j ↦ At k j | Nowhere ↦ place_from n (suc r) (width ps) (names_at ps f) ]) ≡ (is_somewhere a || hit f (all_slots (drop (suc r) ps)))
-      go (At k j) ih = refl
-      go Nowhere ih = ih
+      go : (a : Option (ℕ × ℕ)) → is_somewhere (place_from n (suc r) (width ps) (names_at ps f)) ≡ hit f (all_slots (drop (suc r) ps)) →
+          is_somewhere (elim a [ Some (k, j) ↦ Some (k, j) | None ↦ place_from n (suc r) (width ps) (names_at ps f) ]) ≡ (is_somewhere a || hit f (all_slots (drop (suc r) ps)))
+      go (Some (k, j)) ih = refl
+      go None ih = ih
 
   named_hit : named ps f ≡ hit f (all_slots ps)
   unfolding named scan
@@ -217,21 +212,21 @@ module _ (ps : List ParentRow) (f : OstFid) where
 
 module _ (ps : List ParentRow) (f : OstFid) where
   -- an object without a claim, or an absent one
-  pub compared_unclaimed : up_to f (all_slots ps) ≡ compared_by ps f Unclaimed
+  pub compared_unclaimed : up_to f (all_slots ps) ≡ compared_by ps f None
   unfolding compared_by cases
   compared_unclaimed = turn_last f (all_slots ps)
 
   module _ (p : Place) where
     -- the claimed parent is absent
-    pub compared_absent : parent_row ps p.file ≡ NoRow → up_to f (all_slots ps) ≡ compared_by ps f (Claims p)
+    pub compared_absent : parent_row ps p.file ≡ None → up_to f (all_slots ps) ≡ compared_by ps f (Some p)
     unfolding compared_by cases cases_in
     compared_absent e = rw e (turn_last f (all_slots ps))
 
     -- it is in row r
-    pub compared_in : (r : ℕ) → parent_row ps p.file ≡ RowIs r →
-        in_turn f (take 1 (drop p.index (slots_of (row_at ps r))) ∷ slots_of (row_at ps r) ∷ all_slots ps ∷ []) ≡ compared_by ps f (Claims p)
+    pub compared_in : (r : ℕ) → parent_row ps p.file ≡ Some r →
+        in_turn f (take 1 (drop p.index (slots_of (row_at ps r))) ∷ slots_of (row_at ps r) ∷ all_slots ps ∷ []) ≡ compared_by ps f (Some p)
     unfolding compared_by cases cases_in
-    compared_in r e = ap (λ (a : Row). in_turn f (cases_in ps p a)) (sym e)
+    compared_in r e = ap (λ (a : Option ℕ). in_turn f (cases_in ps p a)) (sym e)
 
 -- ## What is promised
 
@@ -249,30 +244,30 @@ module _ (ps : List ParentRow) (f : OstFid) where
   unfolding in_turn
   all_most = let h = turn_most f (all_slots ps) [] 0 (omega arith) in omega arith
 
-  claims_most : (p : Place) (a : Row) → in_turn f (cases_in ps p a) ≤ 2 * length (all_slots ps) + 1
+  claims_most : (p : Place) (a : Option ℕ) → in_turn f (cases_in ps p a) ≤ 2 * length (all_slots ps) + 1
   unfolding in_turn cases_in
-  claims_most p NoRow = all_most
-  claims_most p (RowIs r) =
+  claims_most p None = all_most
+  claims_most p (Some r) =
       let l = slots_of (row_at ps r) in
       let c = turn_most f (all_slots ps) [] 0 (omega arith) in
       let b = turn_most f l (all_slots ps ∷ []) (length (all_slots ps) + 0) c in
       let a = turn_most f (take 1 (drop p.index l)) (l ∷ all_slots ps ∷ []) (length l + (length (all_slots ps) + 0)) b in
       omega (arith, a, take_one (drop p.index l), within ps r)
 
-  most_by : (c : Claim) → compared_by ps f c ≤ 2 * length (all_slots ps) + 1
+  most_by : (c : Option Place) → compared_by ps f c ≤ 2 * length (all_slots ps) + 1
   unfolding compared_by cases
-  most_by Unclaimed = all_most
-  most_by (Claims p) = claims_most p (parent_row ps p.file)
+  most_by None = all_most
+  most_by (Some p) = claims_most p (parent_row ps p.file)
 
-  once_in : (p : Place) (r : ℕ) → parent_row ps p.file ≡ RowIs r → names_at ps f r p.index ≡ true → compared_by ps f (Claims p) ≡ 1
+  once_in : (p : Place) (r : ℕ) → parent_row ps p.file ≡ Some r → names_at ps f r p.index ≡ true → compared_by ps f (Some p) ≡ 1
   unfolding width
   once_in p r e t =
       let l = slots_of (row_at ps r) in
       sym (compared_in ps f p r e) ∙ sym (turn_hit f (take 1 (drop p.index l)) (l ∷ all_slots ps ∷ []) (hit_claimed ps f r p.index ∙ t))
       ∙ one_there f l p.index (named_inside ps f r p.index t).1
 
-  unnamed_in : (p : Place) (r : ℕ) → parent_row ps p.file ≡ RowIs r → named ps f ≡ false → p.index < width ps r →
-      compared_by ps f (Claims p) ≡ 1 + width ps r + length (all_slots ps)
+  unnamed_in : (p : Place) (r : ℕ) → parent_row ps p.file ≡ Some r → named ps f ≡ false → p.index < width ps r →
+      compared_by ps f (Some p) ≡ 1 + width ps r + length (all_slots ps)
   unfolding width names_at slot_at
   unnamed_in p r e n h =
       let l = slots_of (row_at ps r) in

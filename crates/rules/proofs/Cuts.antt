@@ -1,10 +1,11 @@
 -- The cut between two writes: the theorems that `specs/Cuts.antt` states.
+use Rattle.std.specs.Prelude.{Option, Some, None}
 pub mod Ordered
 unfoldable pub use Ordered.*
 
 -- ## A redirect
 
-reusable_is : (T : Tables) (home : Place) (x : Object) → x.fresh ≡ true → x.claim ≡ Claims home → ((k i : ℕ) → names_at T.parents x.fid k i ≡ false) →
+reusable_is : (T : Tables) (home : Place) (x : Object) → x.fresh ≡ true → x.claim ≡ Some home → ((k i : ℕ) → names_at T.parents x.fid k i ≡ false) →
     is_reusable T.parents home (used x) ≡ true
 unfolding is_reusable
 reusable_is T home x f c u =
@@ -12,7 +13,7 @@ reusable_is T home x f c u =
     (rw (never (named T.parents x.fid) (λ t. let (k, l, y) = named_elim T x.fid t in clash y (u k l))))
 
 -- what is found is the first object that can be used, and what can be used first is found
-reused_found : (T : Tables) (r j o : ℕ) (x : Object) → reusable T r j ≡ RowIs o → object_at T.objects o ≡ used x → Reused T r j o x
+reused_found : (T : Tables) (r j o : ℕ) (x : Object) → reusable T r j ≡ Some o → object_at T.objects o ≡ used x → Reused T r j o x
 unfolding is_reusable
 reused_found T r j o x q holds =
     let home = place_of (row_at T.parents r) j in
@@ -27,7 +28,7 @@ reused_found T r j o x q holds =
           (subst (λ w. is_reusable T.parents home w ≡ false) d (first_below (reusable_first T r j) q k l));
     }
 
-found_reused : (T : Tables) (r j o : ℕ) (x : Object) → Reused T r j o x → reusable T r j ≡ RowIs o
+found_reused : (T : Tables) (r j o : ℕ) (x : Object) → Reused T r j o x → reusable T r j ≡ Some o
 unfolding is_reusable
 found_reused T r j o x h = first_unique (reusable_first T r j) (found passes below)
   where
@@ -54,14 +55,14 @@ redirects settings T r j f n ost at class create =
       taken = λ none. rw (at, class, create) (go none (reusable T r j) refl);
     }
   where
-    row : (o : ℕ) → reusable T r j ≡ RowIs o → (w : ObjectRow) → object_at T.objects o ≡ w → is_reusable T.parents (place_of (row_at T.parents r) j) w ≡ true →
+    row : (o : ℕ) → reusable T r j ≡ Some o → (w : ObjectRow) → object_at T.objects o ≡ w → is_reusable T.parents (place_of (row_at T.parents r) j) w ≡ true →
         ((o : ℕ) (x : Object) → Reused T r j o x → ⊥) → ⊥
     row o q (unused b) d t none = clash t refl
     row o q (used x) d t none = none o x (reused_found T r j o x q d)
 
-    go : ((o : ℕ) (x : Object) → Reused T r j o x → ⊥) → (a : Row) → reusable T r j ≡ a → redirect_by settings T r j ost a ≡ redirect T r j ost (usable T settings.reserve)
-    go none NoRow q = refl
-    go none (RowIs o) q = absurd (row o q (object_at T.objects o) refl (reusable_passes T r j o q) none)
+    go : ((o : ℕ) (x : Object) → Reused T r j o x → ⊥) → (a : Option ℕ) → reusable T r j ≡ a → redirect_by settings T r j ost a ≡ redirect T r j ost (usable T settings.reserve)
+    go none None q = refl
+    go none (Some o) q = absurd (row o q (object_at T.objects o) refl (reusable_passes T r j o q) none)
 
 -- ## The writes of a step
 

@@ -1,5 +1,6 @@
 -- SELF, DANGLING, OWNER and EMPTY leave all slots and generations. Assumes nothing.
 use Prim.Native.Nat.{ℕ, zero, suc}
+use Rattle.std.specs.Prelude.{Option, Some, None}
 use native.Mathlib.Omega.{arith}
 use mathlib.Core.Path.{◌≡◌, refl, sym, ap, subst, ◌∙◌}
 use mathlib.Core.Bool.{Bool, true, false, cond, ◌&&◌, true≢false}
@@ -13,8 +14,6 @@ use Rattle.tables.specs.Records.{ParentRow, ObjectRow, unused, used, Tables}
 use Rattle.tables.specs.Positions.{slots_of, row_at}
 use Rattle.tables.specs.declared.Owner.{Owner}
 use Rattle.tables.specs.declared.Place.{Place}
-use Rattle.tables.specs.declared.Claim.{Claim}
-use Rattle.tables.specs.declared.Claim.TheVariants.{Unclaimed, Claims}
 use Rattle.tables.specs.declared.Object.{Object}
 use Rattle.tables.specs.declared.Position.{Position}
 use Rattle.rules.specs.Rows.{owner_of, generation_in, free_parent, slot_at, object_at, object_row, object_in, object_in_row, object_of, free_object, same_owner}
@@ -25,10 +24,6 @@ use Rattle.rules.specs.Settings.{Settings, creates, adopts}
 use Rattle.rules.specs.Repairs.{put_parent, put_object, apply_write, apply_writes, own_header, with_own, repair_header, new_object, usable, redirect_to, redirect, reusable, reuse, redirect_by, make_object, mended, mend_write, index_write, mend_object, mend_at, repair_slot, make_parent, adopt_by, adopt, repair_object}
 use Rattle.rules.specs.Steps.{slot_step, part_step, object_step, step_at}
 use Rattle.rules.specs.Generations.{leaves_slots, Left, LeftStep}
-use Rattle.rules.specs.declared.Row.{Row}
-use Rattle.rules.specs.declared.Row.TheVariants.{RowIs, NoRow}
-use Rattle.rules.specs.declared.Usable.{Usable}
-use Rattle.rules.specs.declared.Usable.TheVariants.{Takes, UsedUp}
 use Rattle.rules.specs.declared.Way.{Way}
 use Rattle.rules.specs.declared.Way.TheVariants.{NoWay, NewParent, Fill, Grow, Take}
 use Rattle.rules.specs.declared.HeaderClass.{HeaderClass}
@@ -83,44 +78,44 @@ left_header T r SELF = λ l k.
     set_pointwise T.parents r (with_own row) (unused []) (λ v. Left (get_or T.parents k (unused [])) v) k
     (λ e. rw e (left_same row)) (λ e. rw e (own_stays row)) (λ n. left_same (get_or T.parents k (unused [])))
 
-left_redirect : (T : Tables) (r j ost : ℕ) (u : Usable) → Leaves T (redirect T r j ost u)
+left_redirect : (T : Tables) (r j ost : ℕ) (u : Option OstFid) → Leaves T (redirect T r j ost u)
 unfolding Leaves leaves_slots redirect redirect_to
-left_redirect T r j ost UsedUp = tt
-left_redirect T r j ost (Takes f) = go (free_object T.objects)
+left_redirect T r j ost None = tt
+left_redirect T r j ost (Some f) = go (free_object T.objects)
   where
-    go : (a : Row) → Leaves T (redirect_to T.parents r j ost f a)
-    go NoRow = tt
-    go (RowIs o) = λ l. absurd (true≢false (sym l))
+    go : (a : Option ℕ) → Leaves T (redirect_to T.parents r j ost f a)
+    go None = tt
+    go (Some o) = λ l. absurd (true≢false (sym l))
 
-left_by : (settings : Settings) (T : Tables) (r j ost : ℕ) (a : Row) → Leaves T (redirect_by settings T r j ost a)
+left_by : (settings : Settings) (T : Tables) (r j ost : ℕ) (a : Option ℕ) → Leaves T (redirect_by settings T r j ost a)
 unfolding Leaves leaves_slots redirect_by reuse
-left_by settings T r j ost NoRow = left_redirect T r j ost (usable T settings.reserve)
-left_by settings T r j ost (RowIs o) = go (object_at T.objects o)
+left_by settings T r j ost None = left_redirect T r j ost (usable T settings.reserve)
+left_by settings T r j ost (Some o) = go (object_at T.objects o)
   where
     go : (y : ObjectRow) → Leaves T (reuse T.parents r j o y)
     go (unused b) = tt
     go (used x) = λ l. absurd (true≢false (sym l))
 
-left_make : (T : Tables) (x : Object) (a : Row) → Leaves T (make_object x a)
+left_make : (T : Tables) (x : Object) (a : Option ℕ) → Leaves T (make_object x a)
 unfolding Leaves make_object apply_writes apply_write put_object
-left_make T x NoRow = tt
-left_make T x (RowIs o) = λ l k. left_same (row_at T.parents k)
+left_make T x None = tt
+left_make T x (Some o) = λ l k. left_same (row_at T.parents k)
 
 -- BLANK, UNMATCHED and WRONG-OST are none of them
-left_mend : (T : Tables) (c : Repair) → leaves_slots c ≡ false → (r j : ℕ) (f : OstFid) (n ost : ℕ) (a : Row) → Leaves T (mend_at T c r j f n ost a)
+left_mend : (T : Tables) (c : Repair) → leaves_slots c ≡ false → (r j : ℕ) (f : OstFid) (n ost : ℕ) (a : Option ℕ) → Leaves T (mend_at T c r j f n ost a)
 unfolding Leaves mend_at mend_object
-left_mend T c other r j f n ost NoRow = tt
-left_mend T c other r j f n ost (RowIs o) = go (object_at T.objects o)
+left_mend T c other r j f n ost None = tt
+left_mend T c other r j f n ost (Some o) = go (object_at T.objects o)
   where
     go : (y : ObjectRow) → Leaves T (mend_object T.parents c r j f n ost o y)
     go (unused b) = tt
     go (used x) = λ l. absurd (true≢false (sym l ∙ other))
 
 -- OWNER comes after WRONG-OST: the index is right
-owner_there : (p : Place) (there owned : Bool) (k : Claim) → claim_class p there owned k ≡ OWNER → there ≡ true
+owner_there : (p : Place) (there owned : Bool) (k : Option Place) → claim_class p there owned k ≡ OWNER → there ≡ true
 unfolding claim_class claimed_class
-owner_there p there owned Unclaimed e = let z : ◌≡◌ {A = ℕ} 0 1 = cc in absurd (omega arith)
-owner_there p there owned (Claims q) e = go (claims (Claims q) p) there e
+owner_there p there owned None e = let z : ◌≡◌ {A = ℕ} 0 1 = cc in absurd (omega arith)
+owner_there p there owned (Some q) e = go (claims (Some q) p) there e
   where
     go : (b t : Bool) → cond b (cond t (cond owned CLEAN OWNER) WRONG-OST) (UNMATCHED q.file q.index) ≡ OWNER → t ≡ true
     go false t d = let z : ◌≡◌ {A = ℕ} 0 1 = cc in absurd (omega arith)
@@ -151,10 +146,10 @@ left_owner T r j f n ost = go (is_place (keeper T f) r j) (object_row T.objects 
         mend_stays T (claims x.claim home && same_owner x.owner owner) (eqb x.ost ost) o (mended T.parents r j x) (PutSlot r j (Names f n x.ost))
         (owner_there home (eqb x.ost ost) (same_owner x.owner owner) x.claim d)
 
-    go : (b : Bool) (a : Row) → cond b (keeper_class home ost owner (object_in_row T.objects a)) MULTIPLE ≡ OWNER → Leaves T (mend_at T OfOwner r j f n ost a)
+    go : (b : Bool) (a : Option ℕ) → cond b (keeper_class home ost owner (object_in_row T.objects a)) MULTIPLE ≡ OWNER → Leaves T (mend_at T OfOwner r j f n ost a)
     go false a e = let z : ◌≡◌ {A = ℕ} 0 1 = cc in absurd (omega arith)
-    go true NoRow e = tt
-    go true (RowIs o) e = object o (object_at T.objects o) e
+    go true None e = tt
+    go true (Some o) e = object o (object_at T.objects o) e
 
 left_slot : (settings : Settings) (T : Tables) (r j : ℕ) (f : OstFid) (n ost : ℕ) (c : SlotClass) → slot_class_of T r j (Names f n ost) ≡ c →
     Leaves T (repair_slot settings T r j f n ost c)
@@ -175,9 +170,9 @@ unfolding Leaves adopt_by make_parent leaves_slots
 left_adopt T o x p NoWay = tt
 left_adopt T o x p NewParent = go (free_parent T.parents)
   where
-    go : (a : Row) → Leaves T (make_parent x p a)
-    go NoRow = tt
-    go (RowIs r) = λ l. absurd (true≢false (sym l))
+    go : (a : Option ℕ) → Leaves T (make_parent x p a)
+    go None = tt
+    go (Some r) = λ l. absurd (true≢false (sym l))
 left_adopt T o x p (Fill r) = λ l. absurd (true≢false (sym l))
 left_adopt T o x p (Grow r) = λ l. absurd (true≢false (sym l))
 left_adopt T o x p (Take r) = λ l. absurd (true≢false (sym l))
@@ -190,9 +185,9 @@ left_object settings T o x SPARE = tt
 left_object settings T o x EMPTY = left_when T (adopts settings.policy) _ (λ l k. left_same (row_at T.parents k))
 left_object settings T o x ORPHAN = left_when T (adopts settings.policy) _ (go x.claim)
   where
-    go : (k : Claim) → Leaves T (adopt T o x k)
-    go Unclaimed = tt
-    go (Claims p) = left_adopt T o x p (way T p)
+    go : (k : Option Place) → Leaves T (adopt T o x k)
+    go None = tt
+    go (Some p) = left_adopt T o x p (way T p)
 left_object settings T o x CONFLICT = tt
 
 -- ## Every step

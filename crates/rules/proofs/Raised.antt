@@ -1,5 +1,6 @@
 -- A step raises the generation of a layout that exists exactly where it changes the slots or their number; a run, as often. Assumes nothing.
 use Prim.Native.Nat.{ℕ, zero, suc, ◌+◌, ◌%◌, ◌<◌}
+use Rattle.std.specs.Prelude.{Option, Some, None}
 use native.Mathlib.Omega.{arith}
 use mathlib.Core.Path.{◌≡◌, refl, sym, ap, subst, ◌∙◌}
 use mathlib.Core.Bool.{Bool, true, false, cond, ◌&&◌}
@@ -18,8 +19,6 @@ use Rattle.tables.specs.Records.{Parent, ParentRow, ObjectRow, unused, used, Tab
 use Rattle.tables.specs.Positions.{slots_of, row_at, is_end, next}
 use Rattle.tables.specs.declared.Owner.{Owner}
 use Rattle.tables.specs.declared.Place.{Place}
-use Rattle.tables.specs.declared.Claim.{Claim}
-use Rattle.tables.specs.declared.Claim.TheVariants.{Unclaimed, Claims}
 use Rattle.tables.specs.declared.Object.{Object}
 use Rattle.tables.specs.declared.Position.{Position}
 use Rattle.rules.specs.Rows.{owner_of, generation_in, free_parent, slot_at, object_at, object_row, free_object, same_owner}
@@ -30,10 +29,6 @@ use Rattle.rules.specs.Repairs.{put_parent, put_object, apply_write, apply_write
 use Rattle.rules.specs.Steps.{slot_step, part_step, object_step, step_at}
 use Rattle.rules.specs.Runs.{Run, halt, after, on_step, run, step_tables}
 use Rattle.rules.specs.Generations.{GoesOn, Begins, RaisedStep, restripes, restripes_from, restripings, RaisedRun}
-use Rattle.rules.specs.declared.Row.{Row}
-use Rattle.rules.specs.declared.Row.TheVariants.{RowIs, NoRow}
-use Rattle.rules.specs.declared.Usable.{Usable}
-use Rattle.rules.specs.declared.Usable.TheVariants.{Takes, UsedUp}
 use Rattle.rules.specs.declared.Way.{Way}
 use Rattle.rules.specs.declared.Way.TheVariants.{NoWay, NewParent, Fill, Grow, Take}
 use Rattle.rules.specs.declared.HeaderClass.{HeaderClass}
@@ -178,14 +173,14 @@ raises_header T r UNUSED-PARENT = raises_rests T
 raises_header T r CLEAN-HEADER = raises_rests T
 raises_header T r SELF = raises_first T _ (Own r) Nothing Nothing (goes_put T r _ (goes_own (row_at T.parents r))) aside_nothing aside_nothing
 
-raises_redirect : (T : Tables) (r j ost : ℕ) (u : Usable) → Raises T (redirect T r j ost u)
+raises_redirect : (T : Tables) (r j ost : ℕ) (u : Option OstFid) → Raises T (redirect T r j ost u)
 unfolding redirect redirect_to
-raises_redirect T r j ost UsedUp = raises_stops T 21
-raises_redirect T r j ost (Takes f) = go (free_object T.objects)
+raises_redirect T r j ost None = raises_stops T 21
+raises_redirect T r j ost (Some f) = go (free_object T.objects)
   where
-    go : (a : Row) → Raises T (redirect_to T.parents r j ost f a)
-    go NoRow = raises_stops T 22
-    go (RowIs o) = raises_second T _ _ _ (aside_object o _) (λ S. goes_at S r j _)
+    go : (a : Option ℕ) → Raises T (redirect_to T.parents r j ost f a)
+    go None = raises_stops T 22
+    go (Some o) = raises_second T _ _ _ (aside_object o _) (λ S. goes_at S r j _)
 
 raises_reuse : (T : Tables) (r j o : ℕ) (y : ObjectRow) → Raises T (reuse T.parents r j o y)
 unfolding reuse owner_write
@@ -195,20 +190,20 @@ raises_reuse T r j o (used x) =
     let new : Write = PutObject o (with_owner x owner) in
     raises_second T _ (cond (same_owner x.owner owner) Nothing new) _ (aside_when (same_owner x.owner owner) new (aside_object o (with_owner x owner))) (λ S. goes_at S r j _)
 
-raises_by : (settings : Settings) (T : Tables) (r j ost : ℕ) (a : Row) → Raises T (redirect_by settings T r j ost a)
+raises_by : (settings : Settings) (T : Tables) (r j ost : ℕ) (a : Option ℕ) → Raises T (redirect_by settings T r j ost a)
 unfolding redirect_by
-raises_by settings T r j ost NoRow = raises_redirect T r j ost (usable T settings.reserve)
-raises_by settings T r j ost (RowIs o) = raises_reuse T r j o (object_at T.objects o)
+raises_by settings T r j ost None = raises_redirect T r j ost (usable T settings.reserve)
+raises_by settings T r j ost (Some o) = raises_reuse T r j o (object_at T.objects o)
 
-raises_make : (T : Tables) (x : Object) (a : Row) → Raises T (make_object x a)
+raises_make : (T : Tables) (x : Object) (a : Option ℕ) → Raises T (make_object x a)
 unfolding make_object
-raises_make T x NoRow = raises_stops T 22
-raises_make T x (RowIs o) = raises_second T _ _ Nothing (aside_object o x) goes_nothing
+raises_make T x None = raises_stops T 22
+raises_make T x (Some o) = raises_second T _ _ Nothing (aside_object o x) goes_nothing
 
-raises_mend : (T : Tables) (c : Repair) (r j : ℕ) (f : OstFid) (n ost : ℕ) (a : Row) → Raises T (mend_at T c r j f n ost a)
+raises_mend : (T : Tables) (c : Repair) (r j : ℕ) (f : OstFid) (n ost : ℕ) (a : Option ℕ) → Raises T (mend_at T c r j f n ost a)
 unfolding mend_at mend_object mend_write index_write
-raises_mend T c r j f n ost NoRow = raises_rests T
-raises_mend T c r j f n ost (RowIs o) = go (object_at T.objects o)
+raises_mend T c r j f n ost None = raises_rests T
+raises_mend T c r j f n ost (Some o) = go (object_at T.objects o)
   where
     index : (b : Bool) (s : Slot) (S : Tables) → Goes S.parents (apply_write S (cond b Nothing (PutSlot r j s))).parents
     index true s S = goes_nothing S
@@ -246,14 +241,14 @@ unfolding destroy_named destroy_at
 aside_named rows Hole = aside_nothing
 aside_named rows (Names g n i) = go (object_row rows g)
   where
-    go : (a : Row) → Aside (destroy_at a)
-    go NoRow = aside_nothing
-    go (RowIs o) = aside_destroy o
+    go : (a : Option ℕ) → Aside (destroy_at a)
+    go None = aside_nothing
+    go (Some o) = aside_destroy o
 
-raises_parent : (T : Tables) (x : Object) (p : Place) (a : Row) → free_parent T.parents ≡ a → Raises T (make_parent x p a)
+raises_parent : (T : Tables) (x : Object) (p : Place) (a : Option ℕ) → free_parent T.parents ≡ a → Raises T (make_parent x p a)
 unfolding make_parent apply_write
-raises_parent T x p NoRow e = raises_stops T 23
-raises_parent T x p (RowIs r) e =
+raises_parent T x p None e = raises_stops T 23
+raises_parent T x p (Some r) e =
     let free = free_row_lem T r e in
     raises_first T _ (Make r p.file x.owner p.index (slot_for x)) Nothing Nothing
     (goes_put T r _ (goes_made (row_at T.parents r) free.0.0 free.0.1 _ _ _ _ _)) aside_nothing aside_nothing
@@ -275,9 +270,9 @@ raises_object settings T o x SPARE = raises_rests T
 raises_object settings T o x EMPTY = raises_when T (adopts settings.policy) _ (raises_first T OfEmpty (Destroy o) Nothing Nothing (goes_still T.parents) aside_nothing aside_nothing)
 raises_object settings T o x ORPHAN = raises_when T (adopts settings.policy) _ (go x.claim)
   where
-    go : (k : Claim) → Raises T (adopt T o x k)
-    go Unclaimed = raises_rests T
-    go (Claims p) = raises_adopt T o x p (way T p)
+    go : (k : Option Place) → Raises T (adopt T o x k)
+    go None = raises_rests T
+    go (Some p) = raises_adopt T o x p (way T p)
 raises_object settings T o x CONFLICT = raises_rests T
 
 -- ## Every step

@@ -1,5 +1,6 @@
 -- The writes of each repair, as it builds them: in the request's order. Document 02, 2026-09. Assumes nothing.
 use Prim.Native.Nat.{ℕ}
+use Rattle.std.specs.Prelude.{Option, Some, None}
 use mathlib.Core.Path.{◌≡◌, refl, sym, ap, subst}
 use mathlib.Core.Bool.{Bool, true, false, cond, ◌&&◌}
 use mathlib.Core.List.{List, ◌∷◌, ◌++◌}
@@ -17,10 +18,6 @@ use Rattle.rules.specs.Places.{claims, place_of, slot_number}
 use Rattle.rules.specs.Settings.{Settings}
 use Rattle.rules.specs.Repairs.{with_owner, slot_for, owner_write, usable, redirect_to, redirect, reuse, redirect_by, mended, mend_write, index_write, mend_object, destroy_at, destroy_named, adopt_by}
 use Rattle.rules.specs.Cuts.{Target, parent_record, target, targets, LayoutFirst, placed_alone, placed_owned, placed_emptied, placed_both, ObjectFirst, object_alone, layout_alone, object_layout, OrderFor, InOrder}
-use Rattle.rules.specs.declared.Row.{Row}
-use Rattle.rules.specs.declared.Row.TheVariants.{RowIs, NoRow}
-use Rattle.rules.specs.declared.Usable.{Usable}
-use Rattle.rules.specs.declared.Usable.TheVariants.{Takes, UsedUp}
 use Rattle.rules.specs.declared.Way.TheVariants.{Fill, Grow, Take}
 use Rattle.rules.specs.declared.Repair.{Repair}
 use Rattle.rules.specs.declared.Repair.TheVariants.{OfMultiple}
@@ -32,24 +29,24 @@ use Rattle.rules.specs.declared.Step.TheVariants.{Repairs as repairs}
 module _ (settings : Settings) (T : Tables) (r j ost : ℕ) where
   -- an object that is there, before the reserve: "writes its owner and gives the slot its FID, generation 0 and its OST index"
   pub by_found : (o : ℕ) (x : Object) → object_at T.objects o ≡ used x →
-      redirect_by settings T r j ost (RowIs o)
+      redirect_by settings T r j ost (Some o)
       ≡ repairs OfMultiple (owner_write o x (owner_of (row_at T.parents r))) (PutSlot r j (Names x.fid 0 x.ost)) Nothing
   unfolding redirect_by reuse slot_for
   by_found o x e = ap (λ (w : ObjectRow). reuse T.parents r j o w) e
 
-  redirect_order : (a : Usable) → InOrder r (redirect T r j ost a)
+  redirect_order : (a : Option OstFid) → InOrder r (redirect T r j ost a)
   unfolding InOrder targets OrderFor target redirect redirect_to
-  redirect_order UsedUp = refl
-  redirect_order (Takes g) = go (free_object T.objects)
+  redirect_order None = refl
+  redirect_order (Some g) = go (free_object T.objects)
     where
-      go : (a : Row) → InOrder r (redirect_to T.parents r j ost g a)
-      go NoRow = refl
-      go (RowIs o) = object_layout
+      go : (a : Option ℕ) → InOrder r (redirect_to T.parents r j ost g a)
+      go None = refl
+      go (Some o) = object_layout
 
-  pub by_order : (a : Row) → InOrder r (redirect_by settings T r j ost a)
+  pub by_order : (a : Option ℕ) → InOrder r (redirect_by settings T r j ost a)
   unfolding InOrder targets OrderFor target redirect_by reuse owner_write
-  by_order NoRow = redirect_order (usable T settings.reserve)
-  by_order (RowIs o) = go (object_at T.objects o)
+  by_order None = redirect_order (usable T settings.reserve)
+  by_order (Some o) = go (object_at T.objects o)
     where
       writes : (b : Bool) (x : Object) (s : Slot) → ObjectFirst (target (cond b Nothing (PutObject o x)) ++ target (PutSlot r j s) ++ target Nothing)
       writes true x s = layout_alone
@@ -105,17 +102,17 @@ module _ (T : Tables) (o : ℕ) (x : Object) (p : Place) (r : ℕ) where
   unfolding InOrder targets OrderFor target adopt_by owner_write
   grow_order = placed_order (same_owner x.owner (owner_of (row_at T.parents r))) (owner_of (row_at T.parents r))
 
-  taken_order : (b : Bool) (w : Owner) (a : Row) → ((k : ℕ) → a ≡ RowIs k → k ≡ o → ⊥) →
+  taken_order : (b : Bool) (w : Owner) (a : Option ℕ) → ((k : ℕ) → a ≡ Some k → k ≡ o → ⊥) →
       LayoutFirst o (parent_record r ∷ target (cond b Nothing (PutObject o (with_owner x w))) ++ target (destroy_at a))
   unfolding target destroy_at
-  taken_order true w NoRow other = placed_alone
-  taken_order false w NoRow other = placed_owned
-  taken_order true w (RowIs k) other = placed_emptied (other k refl)
-  taken_order false w (RowIs k) other = placed_both (other k refl)
+  taken_order true w None other = placed_alone
+  taken_order false w None other = placed_owned
+  taken_order true w (Some k) other = placed_emptied (other k refl)
+  taken_order false w (Some k) other = placed_both (other k refl)
 
   -- the object that slot j names is not the orphan
   pub take_order : (g : OstFid) (n m : ℕ) → slot_at T.parents r (slot_number (row_at T.parents r) p) ≡ Names g n m →
-      ((k : ℕ) → object_row T.objects g ≡ RowIs k → k ≡ o → ⊥) → InOrder o (adopt_by T o x p (Take r))
+      ((k : ℕ) → object_row T.objects g ≡ Some k → k ≡ o → ⊥) → InOrder o (adopt_by T o x p (Take r))
   unfolding InOrder targets OrderFor target adopt_by owner_write destroy_named
   take_order g n m e other =
       subst (λ s. LayoutFirst o (parent_record r ∷ target (cond (same_owner x.owner w) Nothing (PutObject o (with_owner x w))) ++ target (destroy_named T.objects s))) (sym e)

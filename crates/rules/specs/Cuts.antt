@@ -1,9 +1,9 @@
 -- The writes of a step, and a cut between two of them. Document 02, 2026-09.
 use Rattle.std.specs.Prelude.{ℕ, zero, suc, ◌≤◌, ◌<◌, ◌≡◌, true, false, List, [], ◌∷◌, ◌++◌, ◌⊎◌}
+use Rattle.std.specs.Prelude.{Some}
 use Rattle.layout.specs.declared.Slot.TheVariants.{Names}
 use Rattle.tables.specs.Records.{used, Tables}
 use Rattle.tables.specs.Positions.{row_at, place, start, count_steps}
-use Rattle.tables.specs.declared.Claim.TheVariants.{Claims}
 use Rattle.tables.specs.declared.Object.{Object}
 use Rattle.rules.specs.Rows.{owner_of, names_at, object_at}
 use Rattle.rules.specs.Places.{place_of}
@@ -25,10 +25,10 @@ use Rattle.rules.specs.Promises.{Distinct, uncut, Ended}
 pub record Reused (T : Tables) (r j o : ℕ) (x : Object) : Type 0 where
   pub there : object_at T.objects o ≡ used x
   pub fresh : x.fresh ≡ true
-  pub claim : x.claim ≡ Claims (place_of (row_at T.parents r) j)
+  pub claim : x.claim ≡ Some (place_of (row_at T.parents r) j)
   pub unnamed : (k i : ℕ) → names_at T.parents x.fid k i ≡ false
   -- none before it is one
-  pub first : (q : ℕ) (y : Object) → q < o → object_at T.objects q ≡ used y → y.fresh ≡ true → y.claim ≡ Claims (place_of (row_at T.parents r) j) →
+  pub first : (q : ℕ) (y : Object) → q < o → object_at T.objects q ≡ used y → y.fresh ≡ true → y.claim ≡ Some (place_of (row_at T.parents r) j) →
       ((k i : ℕ) → names_at T.parents y.fid k i ≡ false) → ⊥
 
 -- of a slot that is MULTIPLE, with create

@@ -1,5 +1,6 @@
 -- The counts of the searches: how large they can be, and what a loop over slots or rows has counted. Assumes nothing.
 use mathlib.Core.Path.{◌≡◌, refl, sym}
+use Rattle.std.specs.Prelude.{Some, None}
 use mathlib.Core.List.{List, [], ◌∷◌, ◌++◌, map, append-nil}
 use mathlib.Core.Bool.{Bool, true, false, cond}
 use Prim.Native.Nat.{ℕ, suc, ◌+◌, ◌*◌, ◌/◌, ◌≤◌, ◌<◌}
@@ -21,7 +22,6 @@ use Rattle.tables.specs.Check.{all, when_used, good_layout, good_layouts}
 use Rattle.tables.proofs.PositionLaws.{parents_many, parsed_parents, slots_unused, slots_used}
 use Rattle.rules.specs.Rows.{slot_at, names_at}
 use Rattle.rules.specs.Compared.{up_to, in_turn, all_slots}
-use Rattle.rules.specs.declared.Found.TheVariants.{At, Nowhere}
 use Rattle.rules.proofs.ComparedLaws.{up_to_most, take_one, one_there, one_past, slots_left_lem, slots_hit, slots_pass, slots_none, turn_most, turn_last, all_row, all_past, within}
 
 -- ## The slots of all layouts are few
@@ -67,18 +67,18 @@ pub one_fits : (p : List ℕ) (f : OstFid) (r j : ℕ) → up_to f (take 1 (drop
 one_fits p f r j = let l = drop j (slots_of (row_at (parse_parents p) r)) in omega (arith, up_to_most f (take 1 l), take_one l)
 
 module _ (ps : List ParentRow) (f : OstFid) (r j n : ℕ) (w : n ≡ width ps r) where
-  pub claimed_past : n ≤ j → (Nowhere ≡ cond (names_at ps f r j) (At r j) Nowhere) × (0 ≡ up_to f (take 1 (drop j (slots_of (row_at ps r)))))
+  pub claimed_past : n ≤ j → (None ≡ cond (names_at ps f r j) (Some (r, j)) None) × (0 ≡ up_to f (take 1 (drop j (slots_of (row_at ps r)))))
   unfolding names_at slot_at slot_names width
   claimed_past h =
       let l = slots_of (row_at ps r) in
       (rw (get_or-eq_default l Hole {n = j} (omega arith)), sym (one_past f l j (omega arith)))
 
   module _ (h : j < n) where
-    pub claimed_hit : names_at ps f r j ≡ true → (At r j ≡ cond (names_at ps f r j) (At r j) Nowhere) × (1 ≡ up_to f (take 1 (drop j (slots_of (row_at ps r)))))
+    pub claimed_hit : names_at ps f r j ≡ true → (Some (r, j) ≡ cond (names_at ps f r j) (Some (r, j)) None) × (1 ≡ up_to f (take 1 (drop j (slots_of (row_at ps r)))))
     unfolding width
     claimed_hit t = (rw t, sym (one_there f (slots_of (row_at ps r)) j (omega arith)))
 
-    pub claimed_miss : names_at ps f r j ≡ false → (Nowhere ≡ cond (names_at ps f r j) (At r j) Nowhere) × (1 ≡ up_to f (take 1 (drop j (slots_of (row_at ps r)))))
+    pub claimed_miss : names_at ps f r j ≡ false → (None ≡ cond (names_at ps f r j) (Some (r, j)) None) × (1 ≡ up_to f (take 1 (drop j (slots_of (row_at ps r)))))
     unfolding width
     claimed_miss t = (rw t, sym (one_there f (slots_of (row_at ps r)) j (omega arith)))
 

@@ -1,5 +1,6 @@
 -- The slots that name an object, as the searches read them row by row and slot by slot. Assumes nothing.
 use mathlib.Core.Path.{◌≡◌, refl, sym, ap, ◌∙◌}
+use Rattle.std.specs.Prelude.{Option}
 use mathlib.Core.List.{List}
 use mathlib.Core.Bool.{Bool, true, false, not, ◌&&◌}
 use Prim.Native.Nat.{ℕ, ◌/◌, ◌<◌}
@@ -15,7 +16,6 @@ use Rattle.tables.specs.Positions.{slots_of, row_at, width}
 use Rattle.tables.proofs.PositionLaws.{parsed_parents}
 use Rattle.rules.specs.Search.{slot_from, is_somewhere}
 use Rattle.rules.specs.Rows.{names_at, scan, named, names_else, named_else}
-use Rattle.rules.specs.declared.Found.{Found}
 use Rattle.search.proofs.PlaceSearch.{slots_left, places_left, slot_start_lem, place_start}
 use Rattle.search.proofs.SlotArea.{area_width, area_slot}
 
@@ -54,10 +54,10 @@ module _ (f : OstFid) (s : Slot) (k i r j : ℕ) where
 
 -- ## Named at all
 
-pub named_is : (ps : List ParentRow) (f : OstFid) (a : Found) (b : Bool) → a ≡ scan ps (names_at ps f) → b ≡ is_somewhere a → b ≡ named ps f
+pub named_is : (ps : List ParentRow) (f : OstFid) (a : Option (ℕ × ℕ)) (b : Bool) → a ≡ scan ps (names_at ps f) → b ≡ is_somewhere a → b ≡ named ps f
 unfolding named
 named_is ps f a b e t = t ∙ ap is_somewhere e
 
-pub named_else_is : (ps : List ParentRow) (f : OstFid) (r j : ℕ) (a : Found) (b : Bool) → a ≡ scan ps (names_else ps f r j) → b ≡ is_somewhere a → b ≡ named_else ps f r j
+pub named_else_is : (ps : List ParentRow) (f : OstFid) (r j : ℕ) (a : Option (ℕ × ℕ)) (b : Bool) → a ≡ scan ps (names_else ps f r j) → b ≡ is_somewhere a → b ≡ named_else ps f r j
 unfolding named_else
 named_else_is ps f r j a b e t = t ∙ ap is_somewhere e

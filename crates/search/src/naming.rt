@@ -10,17 +10,17 @@ ghost use Rattle.rules.specs.Compared.{up_to, all_slots};
 use super::slots;
 use fid::OstFid;
 use layout::{SLOT_SIZE, Slot};
-use rules::{Found, Search};
+use rules::Search;
 use tables::rows;
 use tables::rows::PARENT_SIZE;
 
 // Whether a search found something.
-pub fn is_somewhere(found: Found) -> bool
+pub fn is_somewhere(found: Option<(usize, usize)>) -> bool
     ensures { result ≡ is_somewhere found }
 {
     match found {
-        Found::At(_, _) => true,
-        Found::Nowhere => false,
+        Some(_) => true,
+        None => false,
     }
 }
 
@@ -45,7 +45,7 @@ pub fn first_naming(parents: &[u8], f: OstFid) -> Search
     ensures compared { result.compared ≡ up_to f (all_slots (parse_parents parents.now)) }
 {
     let n = parents.len() / PARENT_SIZE;
-    let mut place = Found::Nowhere;
+    let mut place = None;
     let mut compared = 0;
     'rows: for r in 0..n {
         let area = slots::slot_area(rows::row_at(parents, PARENT_SIZE, r));
@@ -53,7 +53,7 @@ pub fn first_naming(parents: &[u8], f: OstFid) -> Search
         for j in 0..count {
             compared = compared + 1;
             if layout::names(layout::slot_at(area, j), f) {
-                place = Found::At(r, j);
+                place = Some((r, j));
                 break 'rows;
             }
         }
@@ -65,18 +65,18 @@ pub fn first_naming(parents: &[u8], f: OstFid) -> Search
 }
 
 // The first slot in scan order that names an object, other than slot j of row r.
-fn first_else(parents: &[u8], f: OstFid, r: usize, j: usize) -> Found
+fn first_else(parents: &[u8], f: OstFid, r: usize, j: usize) -> Option<(usize, usize)>
     requires { good_layouts parents.now ≡ true }
     ensures { result ≡ scan (parse_parents parents.now) (names_else (parse_parents parents.now) f r j) }
 {
     let n = parents.len() / PARENT_SIZE;
-    let mut found = Found::Nowhere;
+    let mut found = None;
     'rows: for k in 0..n {
         let area = slots::slot_area(rows::row_at(parents, PARENT_SIZE, k));
         let count = area.len() / SLOT_SIZE;
         for i in 0..count {
             if names_else(layout::slot_at(area, i), f, k, i, r, j) {
-                found = Found::At(k, i);
+                found = Some((k, i));
                 break 'rows;
             }
         }

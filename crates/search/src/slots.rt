@@ -7,11 +7,10 @@ ghost use Rattle.tables.specs.Check.{when_used, good_layout, good_layouts};
 ghost use Rattle.rules.specs.Search.{slot_from};
 ghost use Rattle.rules.specs.Rows.{slot_at, names_at};
 ghost use Rattle.rules.specs.Compared.{up_to};
-ghost use Rattle.rules.specs.declared.Found.TheVariants.{At, Nowhere};
 
 use fid::OstFid;
 use layout::{SLOT_SIZE, Slot};
-use rules::{Found, Search};
+use rules::Search;
 use tables::rows;
 use tables::rows::PARENT_SIZE;
 
@@ -43,24 +42,24 @@ pub fn slot_of(parents: &[u8], r: usize, j: usize) -> Slot
 // The claimed slot, slot j of parent row r: one slot is compared where the row has it, a hole too.
 pub fn claimed_at(parents: &[u8], f: OstFid, r: usize, j: usize) -> Search
     requires { (good_layouts parents.now ≡ true) × (r < length parents.now / parent_size) }
-    ensures place { result.place ≡ cond (names_at (parse_parents parents.now) f r j) (At r j) Nowhere }
+    ensures place { result.place ≡ cond (names_at (parse_parents parents.now) f r j) (Some (r, j)) None }
     ensures compared { result.compared ≡ up_to f (take 1 (drop j (slots_of (row_at (parse_parents parents.now) r)))) }
 {
     let area = slot_area(rows::row_at(parents, PARENT_SIZE, r));
     if area.len() / SLOT_SIZE <= j {
         return Search {
-            place: Found::Nowhere,
+            place: None,
             compared: 0,
         };
     }
     if layout::names(layout::slot_at(area, j), f) {
         return Search {
-            place: Found::At(r, j),
+            place: Some((r, j)),
             compared: 1,
         };
     }
     Search {
-        place: Found::Nowhere,
+        place: None,
         compared: 1,
     }
 }
@@ -76,13 +75,13 @@ pub fn first_in(parents: &[u8], f: OstFid, r: usize) -> Search
     for j in 0..count {
         if layout::names(layout::slot_at(area, j), f) {
             return Search {
-                place: Found::At(r, j),
+                place: Some((r, j)),
                 compared: j + 1,
             };
         }
     }
     Search {
-        place: Found::Nowhere,
+        place: None,
         compared: count,
     }
 }

@@ -1,5 +1,6 @@
 -- The stores of an object row. Assumes nothing.
 use mathlib.Core.Path.{◌≡◌, refl, sym, ◌∙◌}
+use Rattle.std.specs.Prelude.{Option, Some, None}
 use mathlib.Core.List.{List, [], ◌∷◌, ◌++◌}
 use Prim.Native.Nat.{ℕ}
 use mathlib.Core.Bool.{Bool, true, false}
@@ -13,8 +14,6 @@ use Rattle.fid.specs.declared.Fid.{Fid}
 use Rattle.fid.proofs.FidLaws.{length_encode}
 use Rattle.tables.specs.Records.{used}
 use Rattle.tables.specs.Bytes.{object_size, encode_owner, claim_fid, mark, encode_object, render_object, render_row}
-use Rattle.tables.specs.declared.Claim.{Claim}
-use Rattle.tables.specs.declared.Claim.TheVariants.{Unclaimed, Claims}
 use Rattle.tables.specs.declared.Object.{Object}
 use Rattle.rules.specs.Repairs.{destroyed}
 use Rattle.stores.proofs.StoreLaws.{length_owner}
@@ -57,11 +56,11 @@ pub length_destroyed : length (render_object destroyed) ≡ object_size
 unfolding render_object destroyed render_row
 length_destroyed = refl
 
-pub claim_none : (k : Claim) → k ≡ Unclaimed → ◌≡◌ {A = Fid} (record { seq = 0; oid = 0; ver = 0 }) (claim_fid k)
+pub claim_none : (k : Option Place) → k ≡ None → ◌≡◌ {A = Fid} (record { seq = 0; oid = 0; ver = 0 }) (claim_fid k)
 unfolding claim_fid zero_fid
 claim_none k e = rw e
 
-pub claim_some : (k : Claim) (p : Place) → k ≡ Claims p →
+pub claim_some : (k : Option Place) (p : Place) → k ≡ Some p →
     ◌≡◌ {A = Fid} (record { seq = p.file.0.seq; oid = p.file.0.oid; ver = p.index }) (claim_fid k)
 unfolding claim_fid
 claim_some k p e = rw e

@@ -8,19 +8,19 @@ ghost use Rattle.rules.specs.Repairs.{destroyed};
 use super::pieces;
 use fid::Fid;
 use tables::rows::{CLAIM_AT, FRESH_AT, OBJECT_OWNER_AT, OBJECT_SIZE, OST_AT, SELF_AT};
-use tables::{Claim, Object};
+use tables::Object;
 
 // A claim as a FID whose version is the stripe index.
-pub fn claim_fid(claim: Claim) -> Fid
+pub fn claim_fid(claim: Option<Place>) -> Fid
     ensures { result ≡ claim_fid claim }
 {
     match claim {
-        Claim::Unclaimed => Fid {
+        None => Fid {
             seq: 0,
             oid: 0,
             ver: 0,
         },
-        Claim::Claims(place) => {
+        Some(place) => {
             let f = place.file.0;
             Fid {
                 seq: f.seq,

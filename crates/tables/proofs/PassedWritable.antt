@@ -1,5 +1,6 @@
 -- Tables that pass the check are tables whose rows can be written. Assumes nothing.
 use mathlib.Core.Path.{◌≡◌, refl, ap, ◌∙◌}
+use Rattle.std.specs.Prelude.{Some, None}
 use mathlib.Core.List.{List}
 use mathlib.Core.Bool.{Bool, true, false, cond, ◌||◌}
 use Prim.Native.Nat.{ℕ, ◌+◌, ◌*◌, ◌/◌, ◌<◌}
@@ -16,7 +17,6 @@ use Rattle.layout.proofs.LayoutLaws.{written_back, accepted_writable}
 use Rattle.tables.specs.Bytes.{parent_size, object_size, is_used, decode_owner, layout_length, layout_bytes, decode_parent, parse_parent, claim_from, decode_object, parse_object, parse, self_fid, claimed_fid}
 use Rattle.tables.specs.Positions.{row_at}
 use Rattle.tables.specs.Check.{good_claim, Sound}
-use Rattle.tables.specs.declared.Claim.TheVariants.{Unclaimed, Claims}
 use Rattle.tables.proofs.PositionLaws.{parsed_parents, parsed_objects, parsed_row, parsed_object}
 use Rattle.tables.proofs.SoundLaws.{ParentFacts, ObjectFacts, parent_size_lem, parent_facts, object_size_lem, object_facts}
 use Rattle.tables.proofs.WritableRows.{FitOwner, FitFile, FitParent, FitClaim, has_claim, FitThing, FitObject}
@@ -57,7 +57,7 @@ module _ (g : Fid) (b : Fits g) where
   claim_fits h = go (same_fid g zero_fid) h
     where
       go : (t : Bool) → (t || good_number g) ≡ true →
-          FitClaim (cond t Unclaimed (Claims (record { file = record { 0 = record { seq = g.seq; oid = g.oid; ver = 0 } }; index = g.ver })))
+          FitClaim (cond t None (Some (record { file = record { 0 = record { seq = g.seq; oid = g.oid; ver = 0 } }; index = g.ver })))
       go true e = tt
       go false e = (record { seq = b.seq; oid = b.oid; ver = omega arith }, and_both (good_number g) true e refl, b.ver)
 

@@ -1,5 +1,6 @@
 -- Tables that pass are written back as the same bytes. Assumes nothing.
 use mathlib.Core.Path.{◌≡◌, refl, sym, ap, ◌∙◌}
+use Rattle.std.specs.Prelude.{Some, None}
 use mathlib.Core.List.{List, [], ◌∷◌, ◌++◌, map}
 use mathlib.Core.Bool.{Bool, true, false, cond}
 use Prim.Native.Nat.{ℕ, zero, suc, ◌+◌, ◌*◌, ◌/◌, ◌≤◌, ◌<◌}
@@ -18,7 +19,6 @@ use Rattle.layout.specs.Layout.{decode_layout, encode_layout}
 use Rattle.layout.proofs.LayoutLaws.{written_back}
 use Rattle.tables.specs.Bytes.{parent_size, object_size, is_used, decode_owner, encode_owner, layout_length, layout_bytes, decode_parent, encode_parent, parse_parent, render_parent, claim_from, claim_fid, decode_object, mark, encode_object, parse_object, render_object, parent_rows, object_rows, parse, join, render_parents, render_objects, self_fid, claimed_fid, parse_parents, parse_objects}
 use Rattle.tables.specs.Check.{Sound}
-use Rattle.tables.specs.declared.Claim.TheVariants.{Unclaimed, Claims}
 use Rattle.fid.proofs.SameLaws.{same_is}
 use Rattle.tables.proofs.SoundLaws.{sound_facts, ParentFacts, ObjectFacts, parent_size_lem, parent_mark, parent_facts, object_size_lem, object_mark, object_facts}
 use Rattle.tables.proofs.EitherRow.{row_back}
@@ -75,7 +75,7 @@ unfolding claim_from claim_fid
 claim_back f = go (same_fid f zero_fid) refl
   where
     go : (b : Bool) → same_fid f zero_fid ≡ b →
-        claim_fid (cond b Unclaimed (Claims (record { file = record { 0 = record { seq = f.seq; oid = f.oid; ver = 0 } }; index = f.ver }))) ≡ f
+        claim_fid (cond b None (Some (record { file = record { 0 = record { seq = f.seq; oid = f.oid; ver = 0 } }; index = f.ver }))) ≡ f
     go true x = sym (same_is f zero_fid x)
     go false x = refl
 

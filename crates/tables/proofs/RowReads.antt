@@ -1,5 +1,7 @@
 -- What a row says, read field by field. Assumes nothing.
 use mathlib.Core.Path.{◌≡◌, ap, ◌∙◌}
+use Rattle.std.specs.Prelude.{Option, Some, None}
+use Rattle.tables.specs.declared.Place.{Place}
 use mathlib.Core.List.{List}
 use mathlib.Core.Bool.{true, false}
 use Prim.Native.Nat.{ℕ, ◌+◌, ◌-◌, ◌≤◌}
@@ -12,8 +14,6 @@ use Rattle.fid.specs.Fid.{decode_fid, same_fid, zero_fid}
 use Rattle.fid.specs.declared.Fid.{Fid}
 use Rattle.tables.specs.Bytes.{parent_size, layout_room, layout_length, layout_bytes, decode_owner, claim_from, decode_object, self_fid, claimed_fid}
 use Rattle.tables.specs.declared.Owner.{Owner}
-use Rattle.tables.specs.declared.Claim.{Claim}
-use Rattle.tables.specs.declared.Claim.TheVariants.{Unclaimed, Claims}
 use Rattle.tables.specs.declared.Object.{Object}
 
 pub owner_is : (row : List ℕ) (at u g : ℕ) → u ≡ le 4 (drop at row) → g ≡ le 4 (drop (at + 4) row) →
@@ -22,15 +22,15 @@ unfolding decode_owner
 owner_is row at u g p q = rw (drop-drop 4 at row) (λ i. record { uid = p i; gid = q i })
 
 module _ (f : Fid) where
-  pub claim_none : same_fid f zero_fid ≡ true → Unclaimed ≡ claim_from f
+  pub claim_none : same_fid f zero_fid ≡ true → None ≡ claim_from f
   unfolding claim_from
   claim_none h = rw h
 
-  pub claim_some : same_fid f zero_fid ≡ false → Claims (record { file = record { 0 = record { seq = f.seq; oid = f.oid; ver = 0 } }; index = f.ver }) ≡ claim_from f
+  pub claim_some : same_fid f zero_fid ≡ false → Some (record { file = record { 0 = record { seq = f.seq; oid = f.oid; ver = 0 } }; index = f.ver }) ≡ claim_from f
   unfolding claim_from
   claim_some h = rw h
 
-pub object_is_lem : (row : List ℕ) (f g : Fid) (o : ℕ) (w : Owner) (k : Claim) → f ≡ decode_fid (drop 1 row) → o ≡ le 4 (drop 17 row) →
+pub object_is_lem : (row : List ℕ) (f g : Fid) (o : ℕ) (w : Owner) (k : Option Place) → f ≡ decode_fid (drop 1 row) → o ≡ le 4 (drop 17 row) →
     w ≡ decode_owner (drop 21 row) → g ≡ decode_fid (drop 29 row) → k ≡ claim_from g →
     ◌≡◌ {A = Object} (record { fid = record { 0 = f }; ost = o; owner = w; claim = k; fresh = eqb (get_or row 45 0) 1 }) (decode_object row)
 unfolding decode_object decode_fid self_fid claimed_fid

@@ -1,5 +1,7 @@
 -- Rows that can be written: what they say fits its fields and keeps the rules, and is read back as it was written. Assumes nothing.
 use mathlib.Core.Path.{◌≡◌, refl, sym, ap, ◌∙◌}
+use Rattle.std.specs.Prelude.{Option, Some, None}
+use Rattle.tables.specs.declared.Place.{Place}
 use mathlib.Core.List.{List, [], ◌∷◌, ◌++◌, append_assoc, append-nil}
 use mathlib.Core.Bool.{Bool, true, false}
 use Prim.Native.Nat.{ℕ, ◌+◌, ◌≤◌, ◌<◌, ◌^◌}
@@ -21,8 +23,6 @@ use Rattle.layout.proofs.LayoutLaws.{Writable, read_back}
 use Rattle.tables.specs.Records.{Parent, ParentRow, ObjectRow}
 use Rattle.tables.specs.Bytes.{parent_size, object_size, layout_room, decode_owner, encode_owner, layout_length, layout_bytes, decode_parent, encode_parent, parse_parent, render_parent, claim_from, claim_fid, decode_object, mark, encode_object, parse_object, render_object, self_fid, claimed_fid, ost_at, fresh_at}
 use Rattle.tables.specs.declared.Owner.{Owner}
-use Rattle.tables.specs.declared.Claim.{Claim}
-use Rattle.tables.specs.declared.Claim.TheVariants.{Unclaimed, Claims}
 use Rattle.tables.specs.declared.Object.{Object}
 use Rattle.tables.proofs.EitherRow.{FitRow, row_read_back, row_length}
 
@@ -43,13 +43,13 @@ pub record FitFile (a : Parent) : Type 0 where
 unfoldable pub FitParent : ParentRow → Type 0
 FitParent w = FitRow FitFile parent_size w
 
-unfoldable pub FitClaim : Claim → Type 0
-FitClaim Unclaimed = Unit {0}
-FitClaim (Claims p) = Fits p.file.0 × (good_fid p.file.0 ≡ true) × (p.index < 2 ^ 32)
+unfoldable pub FitClaim : Option Place → Type 0
+FitClaim None = Unit {0}
+FitClaim (Some p) = Fits p.file.0 × (good_fid p.file.0 ≡ true) × (p.index < 2 ^ 32)
 
-unfoldable pub has_claim : Claim → Bool
-has_claim Unclaimed = false
-has_claim (Claims p) = true
+unfoldable pub has_claim : Option Place → Bool
+has_claim None = false
+has_claim (Some p) = true
 
 -- what a used object row says: a good FID, an index, an owner, a claim, and a claim where it is fresh
 pub record FitThing (x : Object) : Type 0 where
@@ -168,20 +168,20 @@ parent_length w f = row_length encode_parent FitFile parent_size file_length w f
 -- ## Object rows
 
 -- a claim is read back from the FID that it is written as
-pub claim_read_back : (k : Claim) → FitClaim k → claim_from (claim_fid k) ≡ k
+pub claim_read_back : (k : Option Place) → FitClaim k → claim_from (claim_fid k) ≡ k
 unfolding FitClaim claim_from claim_fid same_fid zero_fid
-claim_read_back Unclaimed f = refl
-claim_read_back (Claims p) f =
+claim_read_back None f = refl
+claim_read_back (Some p) f =
     let g : Fid = p.file.0 in
     let s : 0 < g.seq = good_positive g f.1 in
     let v : 0 ≡ g.ver = sym (good_version_zero g f.1) in
     let n : eqb g.seq 0 ≡ false = ne_eqb g.seq 0 (λ e. omega arith) in
-    rw n (λ j. Claims (record { file = record { 0 = record { seq = g.seq; oid = g.oid; ver = v j } }; index = p.index }))
+    rw n (λ j. Some (record { file = record { 0 = record { seq = g.seq; oid = g.oid; ver = v j } }; index = p.index }))
 
-claim_fits : (k : Claim) → FitClaim k → Fits (claim_fid k)
+claim_fits : (k : Option Place) → FitClaim k → Fits (claim_fid k)
 unfolding FitClaim claim_fid zero_fid
-claim_fits Unclaimed f = record { seq = omega arith; oid = omega arith; ver = omega arith }
-claim_fits (Claims p) f = record { seq = f.0.seq; oid = f.0.oid; ver = f.2 }
+claim_fits None f = record { seq = omega arith; oid = omega arith; ver = omega arith }
+claim_fits (Some p) f = record { seq = f.0.seq; oid = f.0.oid; ver = f.2 }
 
 mark_bit : (b : Bool) → eqb (mark b) 1 ≡ b
 unfolding mark

@@ -1,5 +1,7 @@
 -- Tables whose rows can be written, not too many and no FID twice, pass the check once written. Assumes nothing.
 use mathlib.Core.Path.{◌≡◌, refl, sym, ap, ◌∙◌}
+use Rattle.std.specs.Prelude.{Option, Some, None}
+use Rattle.tables.specs.declared.Place.{Place}
 use mathlib.Core.List.{List, [], ◌∷◌, map}
 use mathlib.Core.Bool.{Bool, true, false, cond, not, ◌&&◌, ◌||◌}
 use Prim.Native.Nat.{ℕ, suc, ◌*◌, ◌/◌, ◌≤◌, ◌<◌}
@@ -20,8 +22,6 @@ use Rattle.layout.proofs.LayoutLaws.{written_accepted}
 use Rattle.tables.specs.Records.{Parent, unused, used, Tables, TableRow}
 use Rattle.tables.specs.Bytes.{parent_size, object_size, layout_room, is_used, layout_length, layout_bytes, render_parent, claim_fid, mark, render_object, parent_rows, object_rows, render_parents, render_objects, self_fid, claimed_fid, render_row, encode_parent, encode_object, ost_at, fresh_at, join}
 use Rattle.tables.specs.Check.{all, when_used, max_parents, max_objects, whole_rows, is_mark, used_mark, fresh_mark, parents_whole, objects_whole, good_layout, good_layouts, good_parent, good_index, good_claim, fresh_claims, good_object, has_self, none_twice, all_different, Sound, is_row_of}
-use Rattle.tables.specs.declared.Claim.{Claim}
-use Rattle.tables.specs.declared.Claim.TheVariants.{Unclaimed, Claims}
 use Rattle.tables.specs.declared.Object.{Object}
 use Rattle.fid.proofs.SameLaws.{same_self, same_is}
 use Rattle.tables.proofs.Apart.{Apart, file_fid, thing_fid, OnceEach}
@@ -57,21 +57,21 @@ or_second true b h = refl
 or_second false b h = h
 
 -- a claim that fits is a good one, and one where there is a claim isn't zero
-claim_good : (k : Claim) → FitClaim k → (same_fid (claim_fid k) zero_fid || good_number (claim_fid k)) ≡ true
+claim_good : (k : Option Place) → FitClaim k → (same_fid (claim_fid k) zero_fid || good_number (claim_fid k)) ≡ true
 unfolding FitClaim claim_fid good_fid good_number
-claim_good Unclaimed f = rw (same_self zero_fid)
-claim_good (Claims p) f =
-    or_second (same_fid (claim_fid (Claims p)) zero_fid) (good_number p.file.0)
+claim_good None f = rw (same_self zero_fid)
+claim_good (Some p) f =
+    or_second (same_fid (claim_fid (Some p)) zero_fid) (good_number p.file.0)
     (and_first (good_number p.file.0) (eqb p.file.0.ver 0) f.1)
 
-claim_nonzero : (k : Claim) → FitClaim k → has_claim k ≡ true → same_fid (claim_fid k) zero_fid ≡ false
+claim_nonzero : (k : Option Place) → FitClaim k → has_claim k ≡ true → same_fid (claim_fid k) zero_fid ≡ false
 unfolding FitClaim claim_fid has_claim same_fid zero_fid
-claim_nonzero Unclaimed f h = sym h
-claim_nonzero (Claims p) f h =
+claim_nonzero None f h = sym h
+claim_nonzero (Some p) f h =
     let s : 0 < p.file.0.seq = good_positive p.file.0 f.1 in
     rw (ne_eqb p.file.0.seq 0 (λ e. omega arith))
 
-fresh_has : (b : Bool) (k : Claim) → FitClaim k → (b ≡ true → has_claim k ≡ true) →
+fresh_has : (b : Bool) (k : Option Place) → FitClaim k → (b ≡ true → has_claim k ≡ true) →
     cond (eqb (mark b) 1) (not (same_fid (claim_fid k) zero_fid)) true ≡ true
 unfolding mark
 fresh_has true k f h = rw (claim_nonzero k f (h refl))

@@ -1,5 +1,7 @@
 -- The tables as bytes and back: `parse` and `render`. Document 01: "Rows are bytes, their fields packed in the order named here".
 use Rattle.std.specs.Prelude.{ℕ, ◌+◌, ◌/◌, List, [], ◌∷◌, ◌++◌, map, Bool, cond, length, get_or, take, drop, eqb}
+use Rattle.std.specs.Prelude.{Option, Some, None}
+use Rattle.tables.specs.declared.Place.{Place}
 use Rattle.wire.specs.Numbers.{le, bytes}
 use Rattle.wire.specs.Rows.{rows}
 use Rattle.fid.specs.Fid.{fid_size, decode_fid, encode_fid, zero_fid, same_fid}
@@ -8,8 +10,6 @@ use Rattle.fid.specs.declared.OstFid.{OstFid}
 use Rattle.layout.specs.Layout.{max_layout, decode_layout, encode_layout}
 use Rattle.tables.specs.Records.{Parent, TableRow, unused, used, ParentRow, ObjectRow, Tables}
 use Rattle.tables.specs.declared.Owner.{Owner}
-use Rattle.tables.specs.declared.Claim.{Claim}
-use Rattle.tables.specs.declared.Claim.TheVariants.{Unclaimed, Claims}
 use Rattle.tables.specs.declared.Object.{Object}
 
 -- ## Where the fields stand
@@ -122,14 +122,14 @@ unfoldable pub claimed_fid : List ℕ → Fid
 claimed_fid row = decode_fid (drop claim_at row)
 
 -- "The claim is a FID whose version field is the stripe index"; "16 zero bytes mean no claim"
-unfoldable pub claim_from : Fid → Claim
+unfoldable pub claim_from : Fid → Option Place
 claim_from f =
-    cond (same_fid f zero_fid) Unclaimed
-    (Claims (record { file = record { 0 = record { seq = f.seq; oid = f.oid; ver = 0 } }; index = f.ver }))
+    cond (same_fid f zero_fid) None
+    (Some (record { file = record { 0 = record { seq = f.seq; oid = f.oid; ver = 0 } }; index = f.ver }))
 
-unfoldable pub claim_fid : Claim → Fid
-claim_fid Unclaimed = zero_fid
-claim_fid (Claims p) = record { seq = p.file.0.seq; oid = p.file.0.oid; ver = p.index }
+unfoldable pub claim_fid : Option Place → Fid
+claim_fid None = zero_fid
+claim_fid (Some p) = record { seq = p.file.0.seq; oid = p.file.0.oid; ver = p.index }
 
 unfoldable pub decode_object : List ℕ → Object
 decode_object row =

@@ -19,20 +19,13 @@ pub struct Place {
     pub index: u32,
 }
 
-// What an object says of its place: nothing, or a place.
-#[derive(Clone, Copy)]
-pub enum Claim {
-    Unclaimed,
-    Claims(Place),
-}
-
-// What a used object row says.
+// What a used object row says; the claim is the place that it says is its own, if any.
 #[derive(Clone, Copy)]
 pub struct Object {
     pub fid: OstFid,
     pub ost: u32,
     pub owner: Owner,
-    pub claim: Claim,
+    pub claim: Option<Place>,
     pub fresh: bool,
 }
 

@@ -3,7 +3,7 @@ ghost use Rattle.std.specs.Prelude.{◌≡◌, ◌+◌, ◌*◌, ◌≤◌, leng
 ghost use Rattle.fid.specs.Fid.{zero_fid, same_fid};
 ghost use Rattle.tables.specs.Bytes.{owner_at, length_at, room_at, self_fid, object_size, parent_size, layout_room, layout_bytes, is_used, decode_owner, claim_from, decode_object, decode_parent, layout_length};
 
-use super::{Claim, Object, Owner, Place};
+use super::{Object, Owner, Place};
 use fid::{FID_SIZE, Fid, MdtFid, OstFid};
 
 // Where the self FID stands in both kinds of row: after the mark.
@@ -91,11 +91,11 @@ pub fn is_zero(f: Fid) -> bool
 }
 
 // The claim of a FID whose version is the stripe index: 16 zero bytes are no claim.
-pub fn claim_from(f: Fid) -> Claim
+pub fn claim_from(f: Fid) -> Option<Place>
     ensures { result ≡ claim_from f }
 {
     if is_zero(f) {
-        return Claim::Unclaimed;
+        return None;
     }
     let file = Fid {
         seq: f.seq,
@@ -106,7 +106,7 @@ pub fn claim_from(f: Fid) -> Claim
         file: MdtFid(file),
         index: f.ver,
     };
-    Claim::Claims(place)
+    Some(place)
 }
 
 // What an object row says.

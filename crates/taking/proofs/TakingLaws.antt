@@ -1,5 +1,6 @@
 -- Which object a redirect uses again, as the code asks row by row, and what it writes. Assumes nothing.
 use mathlib.Core.Path.{◌≡◌, refl, sym, ap, ◌∙◌}
+use Rattle.std.specs.Prelude.{Some}
 use mathlib.Core.List.{List}
 use mathlib.Core.Bool.{Bool, true, false, not, true≢false}
 use Prim.Native.Nat.{ℕ, ◌*◌, ◌/◌, ◌<◌}
@@ -14,7 +15,6 @@ use Rattle.tables.specs.declared.Place.{Place}
 use Rattle.rules.specs.Rows.{owner_of, named, object_at, first_row, same_owner}
 use Rattle.rules.specs.Places.{claims}
 use Rattle.rules.specs.Repairs.{with_owner, owner_write, slot_for, is_reusable, reuse}
-use Rattle.rules.specs.declared.Row.TheVariants.{RowIs}
 use Rattle.rules.specs.declared.Write.{Write}
 use Rattle.rules.specs.declared.Write.TheVariants.{Nothing, Object as PutObject, Slot as PutSlot}
 use Rattle.rules.specs.declared.Repair.TheVariants.{OfMultiple}
@@ -64,7 +64,7 @@ pub reusable_start : (rows : List ParentRow) (home : Place) (o : List ℕ) →
 reusable_start rows home o = first_object_is o (is_reusable rows home) ∙ row_start _ _
 
 -- it lies in the table, and its row is used
-module _ (o : List ℕ) (rows : List ParentRow) (home : Place) (i : ℕ) (e : first_row (parse_objects o) (is_reusable rows home) ≡ RowIs i) where
+module _ (o : List ℕ) (rows : List ParentRow) (home : Place) (i : ℕ) (e : first_row (parse_objects o) (is_reusable rows home) ≡ Some i) where
   pub reusable_inside : i < length o / object_size
   unfolding first_row
   reusable_inside = let k = (from_row_is _ 0 _ i e).1 in omega (arith, parsed_objects o)

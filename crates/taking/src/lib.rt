@@ -11,7 +11,7 @@ ghost use Rattle.writes.specs.Ready.{SlotReady};
 
 use classify_places::places;
 use layout::Slot;
-use rules::{Repair, Row, Step, Write};
+use rules::{Repair, Step, Write};
 use tables::rows::{OBJECT_SIZE, PARENT_SIZE};
 use tables::{Object, Owner, Place, rows};
 
@@ -65,17 +65,17 @@ fn is_reusable(parents: &[u8], place: Place, row: &[u8]) -> bool
 }
 
 // The first row with such an object.
-pub fn reusable(parents: &[u8], objects: &[u8], place: Place) -> Row
+pub fn reusable(parents: &[u8], objects: &[u8], place: Place) -> Option<usize>
     requires { good_layouts parents.now ≡ true }
     ensures { result ≡ first_row (parse_objects objects.now) (is_reusable (parse_parents parents.now) place) }
 {
     let n = objects.len() / OBJECT_SIZE;
     for o in 0..n {
         if is_reusable(parents, place, rows::row_at(objects, OBJECT_SIZE, o)) {
-            return Row::RowIs(o);
+            return Some(o);
         }
     }
-    Row::NoRow
+    None
 }
 
 // MULTIPLE, with the object of row o: its owner, where it differs, then the slot, which takes its FID.

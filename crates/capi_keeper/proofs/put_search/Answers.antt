@@ -1,12 +1,12 @@
 use Rattle.capi_keeper.proofs.KeeperNumbers.{put_nowhere, put_place}
 use Rattle.capi_keeper.proofs.put_search.Goals as goal
 
-pub returns-in-Nowhere : goal.returns-in-Nowhere
-returns-in-Nowhere c =
+pub returns-in-None : goal.returns-in-None
+returns-in-None c =
     let a = c.args in
-    put_nowhere a.out.now _ _ a.found.compared c.in-Nowhere.is c.put_four.ensures
+    put_nowhere a.out.now _ _ a.found.compared c.in-None.is c.put_four.ensures
 
-pub returns-in-At : goal.returns-in-At
-returns-in-At c =
+pub returns-in-Some : goal.returns-in-Some
+returns-in-Some c =
     let a = c.args in
-    put_place a.out.now _ _ a.found.compared _ _ c.in-At.is c.put_four-in-At.ensures
+    put_place a.out.now _ _ a.found.compared _ _ c.in-Some.is c.put_four-in-Some.ensures

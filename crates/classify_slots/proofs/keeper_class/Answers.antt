@@ -4,11 +4,11 @@ use Rattle.classify_places.proofs.ClaimLaws.{class_present}
 use Rattle.rules.specs.Places.{place_at}
 use Rattle.classify_slots.proofs.keeper_class.Goals as goal
 
-pub returns-in-Missing : goal.returns-in-Missing
+pub returns-in-None : goal.returns-in-None
 unfolding keeper_class
-returns-in-Missing c = let a = c.args in ap (keeper_class (place_at a.file a.j) a.ost a.owner) (sym c.in-Missing.is)
+returns-in-None c = let a = c.args in ap (keeper_class (place_at a.file a.j) a.ost a.owner) (sym c.in-None.is)
 
-pub returns-in-Present : goal.returns-in-Present
-returns-in-Present c =
+pub returns-in-Some : goal.returns-in-Some
+returns-in-Some c =
     let a = c.args in
-    class_present (place_at a.file a.j) a.ost a.owner a.found c.in-Present.x _ _ c.in-Present.is c.same_owner.ensures c.claim_class.ensures
+    class_present (place_at a.file a.j) a.ost a.owner a.found c.in-Some.x _ _ c.in-Some.is c.same_owner.ensures c.claim_class.ensures

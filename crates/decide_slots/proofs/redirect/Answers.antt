@@ -6,8 +6,8 @@ use Rattle.decide_slots.proofs.redirect.Goals as goal
 pub usable-found-requires : goal.usable-found-requires
 usable-found-requires c = (sound_facts _ _ c.requires.tables).layouts
 
-pub returns-in-UsedUp : goal.returns-in-UsedUp
-returns-in-UsedUp c = let a = c.args in reserve_empty a.parents.now a.objects.now a.reserve.now a.r a.j a.ost _ c.usable-found.ensures c.in-UsedUp.is
+pub returns-in-None : goal.returns-in-None
+returns-in-None c = let a = c.args in reserve_empty a.parents.now a.objects.now a.reserve.now a.r a.j a.ost _ c.usable-found.ensures c.in-None.is
 
-pub returns-in-Takes : goal.returns-in-Takes
-returns-in-Takes c = let a = c.args in decides_same a.parents.now a.objects.now _ _ _ c.redirect_to.ensures (reserve_takes a.parents.now a.objects.now a.reserve.now a.r a.j a.ost _ c.usable-found.ensures c.in-Takes.f c.in-Takes.is)
+pub returns-in-Some : goal.returns-in-Some
+returns-in-Some c = let a = c.args in decides_same a.parents.now a.objects.now _ _ _ c.redirect_to.ensures (reserve_takes a.parents.now a.objects.now a.reserve.now a.r a.j a.ost _ c.usable-found.ensures c.in-Some.f c.in-Some.is)

@@ -17,11 +17,11 @@ returns-then-from-eq0-3 c =
 
 pub returns-then-from-eq0-4 : goal.returns-then-from-eq0-4
 returns-then-from-eq0-4 c =
-    let a = c.args in step_take_out a.from a.m a.s a.size a.line c.if-from-eq0-4.true c.in-Takes.k c.in-Takes.is
+    let a = c.args in step_take_out a.from a.m a.s a.size a.line c.if-from-eq0-4.true c.in-Some.k c.in-Some.is
 
 pub returns-then-mark_of-ne0 : goal.returns-then-mark_of-ne0
 returns-then-mark_of-ne0 c =
-    let a = c.args in step_twice a.from a.m a.s a.size a.line c.if-from-eq0-4.false c.in-Takes.k c.in-Takes.is (λ z. c.if-mark_of-ne0.true (c.mark_of.ensures ∙ z))
+    let a = c.args in step_twice a.from a.m a.s a.size a.line c.if-from-eq0-4.false c.in-Some.k c.in-Some.is (λ z. c.if-mark_of-ne0.true (c.mark_of.ensures ∙ z))
 
 pub returns-in-Bad : goal.returns-in-Bad
 returns-in-Bad c =
@@ -41,4 +41,4 @@ returns-else-from-eq0-3 c =
 
 pub returns-else-mark_of-ne0 : goal.returns-else-mark_of-ne0
 returns-else-mark_of-ne0 c =
-    let a = c.args in step_take a.from a.m a.s a.size a.line c.if-from-eq0-4.false c.in-Takes.k _ c.in-Takes.is (sym c.mark_of.ensures ∙ c.if-mark_of-ne0.false) c.marks_with.ensures
+    let a = c.args in step_take a.from a.m a.s a.size a.line c.if-from-eq0-4.false c.in-Some.k _ c.in-Some.is (sym c.mark_of.ensures ∙ c.if-mark_of-ne0.false) c.marks_with.ensures

@@ -1,4 +1,5 @@
 -- The writes of a step stand in the order that the request gives them.
+use Rattle.std.specs.Prelude.{Option, Some, None}
 pub mod Written
 unfoldable pub use Written.*
 
@@ -11,11 +12,11 @@ module _ (settings : Settings) (T : Tables) (sound : Distinct T) where
 
   module _ (r j : ℕ) (v : Exists T (place 1 r (suc j))) where
     -- a keeper's object and its index, one of which is written
-    mended_order : (c : Repair) → ((l : List Target) → ObjectFirst l → OrderFor r c l) → (f : OstFid) (n ost : ℕ) (a : Row) →
+    mended_order : (c : Repair) → ((l : List Target) → ObjectFirst l → OrderFor r c l) → (f : OstFid) (n ost : ℕ) (a : Option ℕ) →
         step_at settings T (place 1 r (suc j)) ≡ mend_at T c r j f n ost a → InOrder r (mend_at T c r j f n ost a)
     unfolding InOrder targets mend_at mend_object
-    mended_order c order f n ost NoRow q = refl
-    mended_order c order f n ost (RowIs o) q = go (object_at T.objects o) q
+    mended_order c order f n ost None q = refl
+    mended_order c order f n ost (Some o) q = go (object_at T.objects o) q
       where
         go : (w : ObjectRow) → step_at settings T (place 1 r (suc j)) ≡ mend_object T.parents c r j f n ost o w → InOrder r (mend_object T.parents c r j f n ost o w)
         go (unused b) q = refl
@@ -34,10 +35,10 @@ module _ (settings : Settings) (T : Tables) (sound : Distinct T) where
     slot_order f n ost OWNER q = mended_order OfOwner (λ l h. h) f n ost (object_row T.objects f) q
     slot_order f n ost DANGLING q = go (creates settings.policy) (free_object T.objects)
       where
-        go : (b : Bool) (a : Row) → InOrder r (cond b (make_object (new_object T.parents f r j ost) a) rests)
+        go : (b : Bool) (a : Option ℕ) → InOrder r (cond b (make_object (new_object T.parents f r j ost) a) rests)
         go false a = refl
-        go true NoRow = refl
-        go true (RowIs o) = object_alone
+        go true None = refl
+        go true (Some o) = object_alone
     slot_order f n ost MULTIPLE q = go (creates settings.policy)
       where
         go : (b : Bool) → InOrder r (cond b (redirect_by settings T r j ost (reusable T r j)) rests)
@@ -58,9 +59,9 @@ module _ (settings : Settings) (T : Tables) (sound : Distinct T) where
     adopt_order home stays none_at_all = refl
     adopt_order home stays (to_make n) = go (free_parent T.parents)
       where
-        go : (a : Row) → InOrder o (make_parent x home a)
-        go NoRow = refl
-        go (RowIs r) = placed_alone
+        go : (a : Option ℕ) → InOrder o (make_parent x home a)
+        go None = refl
+        go (Some r) = placed_alone
     adopt_order home stays (to_fill {r = r} e l q) = fill_order T o x home r
     adopt_order home stays (to_grow {r = r} e l q) = grow_order T o x home r
     adopt_order home stays (to_take {r = r} g n m e l q t) =

@@ -6,13 +6,13 @@ use Rattle.classify_places.proofs.places.claim_is.Goals as goal
 pub returns-then-not-same_mdt : goal.returns-then-not-same_mdt
 returns-then-not-same_mdt c =
     let a = c.args in
-    cc (claim_file c.in-Claims.place (place_at a.f a.i) (sym c.same_mdt.ensures ∙ c.if-not-same_mdt.true))
+    cc (claim_file c.in-Some.place (place_at a.f a.i) (sym c.same_mdt.ensures ∙ c.if-not-same_mdt.true))
 
-pub returns-in-Unclaimed : goal.returns-in-Unclaimed
+pub returns-in-None : goal.returns-in-None
 unfolding claims
-returns-in-Unclaimed c = cc
+returns-in-None c = cc
 
 pub returns-else-not-same_mdt : goal.returns-else-not-same_mdt
 returns-else-not-same_mdt c =
     let a = c.args in
-    cc (claim_index c.in-Claims.place (place_at a.f a.i) (sym c.same_mdt.ensures ∙ c.if-not-same_mdt.false))
+    cc (claim_index c.in-Some.place (place_at a.f a.i) (sym c.same_mdt.ensures ∙ c.if-not-same_mdt.false))

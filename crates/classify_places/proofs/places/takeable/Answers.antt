@@ -6,19 +6,19 @@ use Rattle.classify_places.proofs.places.takeable.Goals as goal
 pub returns-then-not-x : goal.returns-then-not-x
 returns-then-not-x c =
     let a = c.args in
-    take_stale a.parents.now a.objects.now a.place a.g a.r a.j _ c.lookup-found.ensures c.in-Present.x c.in-Present.is (not-true _ c.if-not-x.true)
+    take_stale a.parents.now a.objects.now a.place a.g a.r a.j _ c.lookup-found.ensures c.in-Some.x c.in-Some.is (not-true _ c.if-not-x.true)
 
 pub returns-then-not-claim_is : goal.returns-then-not-claim_is
 returns-then-not-claim_is c =
     let a = c.args in
-    take_other a.parents.now a.objects.now a.place a.g a.r a.j _ c.lookup-found.ensures c.in-Present.x c.in-Present.is (not-false _ c.if-not-x.false) (sym c.claim_is.ensures ∙ c.if-not-claim_is.true)
+    take_other a.parents.now a.objects.now a.place a.g a.r a.j _ c.lookup-found.ensures c.in-Some.x c.in-Some.is (not-false _ c.if-not-x.false) (sym c.claim_is.ensures ∙ c.if-not-claim_is.true)
 
-pub returns-in-Missing : goal.returns-in-Missing
-returns-in-Missing c =
+pub returns-in-None : goal.returns-in-None
+returns-in-None c =
     let a = c.args in
-    take_missing a.parents.now a.objects.now a.place a.g a.r a.j _ c.lookup-found.ensures c.in-Missing.is
+    take_missing a.parents.now a.objects.now a.place a.g a.r a.j _ c.lookup-found.ensures c.in-None.is
 
 pub returns-else-not-claim_is : goal.returns-else-not-claim_is
 returns-else-not-claim_is c =
     let a = c.args in
-    take_alone a.parents.now a.objects.now a.place a.g a.r a.j _ c.lookup-found.ensures c.in-Present.x c.in-Present.is (not-false _ c.if-not-x.false) (sym c.claim_is.ensures ∙ c.if-not-claim_is.false) _ c.named_else.ensures
+    take_alone a.parents.now a.objects.now a.place a.g a.r a.j _ c.lookup-found.ensures c.in-Some.x c.in-Some.is (not-false _ c.if-not-x.false) (sym c.claim_is.ensures ∙ c.if-not-claim_is.false) _ c.named_else.ensures

@@ -15,14 +15,14 @@ returns-then-size-gt-LAYOUT_ROOM c =
 pub fill_parent-requires : goal.fill_parent-requires
 fill_parent-requires c =
     let a = c.args in
-    (row_fits parent_size _ (length a.parents.now) (omega arith) (free_is parent_size a.parents.now _ (sym c.free_row.ensures ∙ c.in-RowIs.is)).1, omega arith, omega arith)
+    (row_fits parent_size _ (length a.parents.now) (omega arith) (free_is parent_size a.parents.now _ (sym c.free_row.ensures ∙ c.in-Some.is)).1, omega arith, omega arith)
 
-pub returns-in-NoRow : goal.returns-in-NoRow
-returns-in-NoRow c =
+pub returns-in-None : goal.returns-in-None
+returns-in-None c =
     let p = c in let a = p.args in
-    parent_none a.buf.now a.size a.w a.parents.now (omega arith) (sym c.free_row.ensures ∙ c.in-NoRow.is)
+    parent_none a.buf.now a.size a.w a.parents.now (omega arith) (sym c.free_row.ensures ∙ c.in-None.is)
 
-pub returns-in-RowIs : goal.returns-in-RowIs
-returns-in-RowIs c =
+pub returns-in-Some : goal.returns-in-Some
+returns-in-Some c =
     let p = c in let a = p.args in
-    parent_filled a.buf.now a.size a.w a.parents.now (omega arith) _ _ p.requires (sym c.free_row.ensures ∙ c.in-RowIs.is) c.fill_parent.ensures
+    parent_filled a.buf.now a.size a.w a.parents.now (omega arith) _ _ p.requires (sym c.free_row.ensures ∙ c.in-Some.is) c.fill_parent.ensures

@@ -1,5 +1,8 @@
 -- Every write of a step changes the tables that it is made in.
 use Rattle.rules.proofs.Counted.{repair_changes}
+use Rattle.std.specs.Prelude.{Option, Some, None}
+use Rattle.tables.specs.declared.Place.{Place}
+use Rattle.fid.specs.declared.OstFid.{OstFid}
 pub mod StepCuts
 unfoldable pub use StepCuts.*
 
@@ -22,8 +25,8 @@ owner_in : ObjectRow → Owner
 owner_in (unused b) = record { uid = 0; gid = 0 }
 owner_in (used x) = x.owner
 
-claim_of : ObjectRow → Claim
-claim_of (unused b) = Unclaimed
+claim_of : ObjectRow → Option Place
+claim_of (unused b) = None
 claim_of (used x) = x.claim
 
 -- the owner's write
@@ -78,15 +81,15 @@ module _ (settings : Settings) (T : Tables) (sound : Distinct T) where
     taken_changes o g unnamed =
         inr (slot_changes (put_object T o (used (new_object T.parents g r j ost))) r j (new_object T.parents g r j ost) here.0 here.1 unnamed)
 
-    redirect_changes : (a : Usable) → usable T settings.reserve ≡ a → step_at settings T (place 1 r (suc j)) ≡ redirect T r j ost a →
+    redirect_changes : (a : Option OstFid) → usable T settings.reserve ≡ a → step_at settings T (place 1 r (suc j)) ≡ redirect T r j ost a →
         EachChanges T (redirect T r j ost a)
     unfolding redirect redirect_to EachChanges Changes
-    redirect_changes UsedUp u step = tt
-    redirect_changes (Takes g) u step = to (free_object T.objects) refl step
+    redirect_changes None u step = tt
+    redirect_changes (Some g) u step = to (free_object T.objects) refl step
       where
-        to : (a : Row) → free_object T.objects ≡ a → step_at settings T (place 1 r (suc j)) ≡ redirect_to T.parents r j ost g a → EachChanges T (redirect_to T.parents r j ost g a)
-        to NoRow d step = tt
-        to (RowIs o) d step =
+        to : (a : Option ℕ) → free_object T.objects ≡ a → step_at settings T (place 1 r (suc j)) ≡ redirect_to T.parents r j ost g a → EachChanges T (redirect_to T.parents r j ost g a)
+        to None d step = tt
+        to (Some o) d step =
             let b = usable_free T settings.reserve g u in
             let w = free_object_lem T o d in
             (new_changes o g w.0 w.1, taken_changes o g (named_none T g b.1 r j), inl refl, whole_changes (place 1 r (suc j)) v OfMultiple _ _ _ step)
@@ -98,7 +101,7 @@ module _ (settings : Settings) (T : Tables) (sound : Distinct T) where
         subst (λ (X : Tables). Changes X (PutSlot r j (slot_for x))) (sym (owner_write_lem T o x (owner_of (row_at T.parents r)) d))
         (inr (slot_changes (put_object T o (used (with_owner x (owner_of (row_at T.parents r))))) r j x here.0 here.1 unnamed))
 
-    reuse_changes : (o : ℕ) → reusable T r j ≡ RowIs o → (w : ObjectRow) → object_at T.objects o ≡ w → step_at settings T (place 1 r (suc j)) ≡ reuse T.parents r j o w →
+    reuse_changes : (o : ℕ) → reusable T r j ≡ Some o → (w : ObjectRow) → object_at T.objects o ≡ w → step_at settings T (place 1 r (suc j)) ≡ reuse T.parents r j o w →
         EachChanges T (reuse T.parents r j o w)
     unfolding reuse EachChanges Changes
     reuse_changes o q (unused b) d step = tt
@@ -117,7 +120,7 @@ module _ (settings : Settings) (T : Tables) (sound : Distinct T) where
 
         differ : (claims x.claim spot && same_owner x.owner owner) ≡ false → used (mended T.parents r j x) ≡ used x → ⊥
         differ d e =
-            let c : x.claim ≡ Claims spot = sym (ap claim_of e) in
+            let c : x.claim ≡ Some spot = sym (ap claim_of e) in
             let w : owner ≡ x.owner = ap owner_in e in
             clash (and_both (claim_here x.claim spot c) (subst (λ v. same_owner v owner ≡ true) w (owner_refl owner))) d
 
@@ -149,10 +152,10 @@ module _ (settings : Settings) (T : Tables) (sound : Distinct T) where
         go true = refl
         go false = refl
 
-    mend_changes : (c : Repair) (a : Row) → step_at settings T (place 1 r (suc j)) ≡ mend_at T c r j f n ost a → EachChanges T (mend_at T c r j f n ost a)
+    mend_changes : (c : Repair) (a : Option ℕ) → step_at settings T (place 1 r (suc j)) ≡ mend_at T c r j f n ost a → EachChanges T (mend_at T c r j f n ost a)
     unfolding mend_at mend_object EachChanges Changes
-    mend_changes c NoRow q = tt
-    mend_changes c (RowIs o) q = go (object_at T.objects o) refl q
+    mend_changes c None q = tt
+    mend_changes c (Some o) q = go (object_at T.objects o) refl q
       where
         go : (w : ObjectRow) → object_at T.objects o ≡ w → step_at settings T (place 1 r (suc j)) ≡ mend_object T.parents c r j f n ost o w →
             EachChanges T (mend_object T.parents c r j f n ost o w)
@@ -164,11 +167,11 @@ module _ (settings : Settings) (T : Tables) (sound : Distinct T) where
           whole_changes (place 1 r (suc j)) v c _ _ _ q,
         )
 
-    by_changes : (a : Row) → reusable T r j ≡ a → step_at settings T (place 1 r (suc j)) ≡ redirect_by settings T r j ost a →
+    by_changes : (a : Option ℕ) → reusable T r j ≡ a → step_at settings T (place 1 r (suc j)) ≡ redirect_by settings T r j ost a →
         EachChanges T (redirect_by settings T r j ost a)
     unfolding redirect_by
-    by_changes NoRow q step = redirect_changes (usable T settings.reserve) refl step
-    by_changes (RowIs o) q step = reuse_changes o q (object_at T.objects o) refl step
+    by_changes None q step = redirect_changes (usable T settings.reserve) refl step
+    by_changes (Some o) q step = reuse_changes o q (object_at T.objects o) refl step
 
     slot_step_changes : (k : SlotClass) → step_at settings T (place 1 r (suc j)) ≡ repair_slot settings T r j f n ost k →
         EachChanges T (repair_slot settings T r j f n ost k)
@@ -181,11 +184,11 @@ module _ (settings : Settings) (T : Tables) (sound : Distinct T) where
     slot_step_changes WRONG-OST q = mend_changes OfWrongOst (object_row T.objects f) q
     slot_step_changes DANGLING q = go (creates settings.policy) (free_object T.objects) q
       where
-        go : (b : Bool) (a : Row) → step_at settings T (place 1 r (suc j)) ≡ cond b (make_object (new_object T.parents f r j ost) a) rests →
+        go : (b : Bool) (a : Option ℕ) → step_at settings T (place 1 r (suc j)) ≡ cond b (make_object (new_object T.parents f r j ost) a) rests →
             EachChanges T (cond b (make_object (new_object T.parents f r j ost) a) rests)
         go false a q = tt
-        go true NoRow q = tt
-        go true (RowIs o) q = one_changes (place 1 r (suc j)) v OfDangling (PutObject o (new_object T.parents f r j ost)) q
+        go true None q = tt
+        go true (Some o) q = one_changes (place 1 r (suc j)) v OfDangling (PutObject o (new_object T.parents f r j ost)) q
     slot_step_changes MULTIPLE q = go (creates settings.policy) q
       where
         go : (b : Bool) → step_at settings T (place 1 r (suc j)) ≡ cond b (redirect_by settings T r j ost (reusable T r j)) rests →
@@ -196,7 +199,7 @@ module _ (settings : Settings) (T : Tables) (sound : Distinct T) where
   -- ## Stage two
 
   module _ (o : ℕ) (v : Exists T (place 2 o 0)) (x : Object) (holds : object_at T.objects o ≡ used x) where
-    module _ (home : Place) (claim : x.claim ≡ Claims home) (unnamed : named T.parents x.fid ≡ false) (stays : x.fresh ≡ false) where
+    module _ (home : Place) (claim : x.claim ≡ Some home) (unnamed : named T.parents x.fid ≡ false) (stays : x.fresh ≡ false) where
       -- the layout's write, and the owner's after it
       layout_changes : (r : ℕ) → r < length T.parents → home.index < width T.parents r → Changes T (PutSlot r home.index (slot_for x))
       unfolding Changes apply_write put_slot
@@ -228,12 +231,12 @@ module _ (settings : Settings) (T : Tables) (sound : Distinct T) where
           (rw (length-set T.objects o (used (with_owner x (owner_of (row_at T.parents r))))) (used_inside T k z held)))))))
 
       take_changes : (r : ℕ) (g : OstFid) (n m : ℕ) → is_parent home.file (row_at T.parents r) ≡ true → home.index < width T.parents r → slot_at T.parents r home.index ≡ Names g n m →
-          takeable T.parents home g r home.index (object_of T.objects g) ≡ true → (a : Row) → object_row T.objects g ≡ a →
+          takeable T.parents home g r home.index (object_of T.objects g) ≡ true → (a : Option ℕ) → object_row T.objects g ≡ a →
           let u = repairs OfOrphan (PutSlot r home.index (slot_for x)) (owner_write o x (owner_of (row_at T.parents r))) (destroy_at a) in
           step_at settings T (place 2 o 0) ≡ u → EachChanges T u
       unfolding EachChanges destroy_at takeable object_of object_in_row is_object has_fid apply_write
-      take_changes r g n m e l q t NoRow d step = clash t (rw d)
-      take_changes r g n m e l q t (RowIs k) d step =
+      take_changes r g n m e l q t None d step = clash t (rw d)
+      take_changes r g n m e l q t (Some k) d step =
           (layout_changes r (parent_inside T home.file r e) l, owner_after r _, go (object_at T.objects k) refl (object_found T g d), whole_changes (place 2 o 0) v OfOrphan _ _ _ step)
         where
           go : (w : ObjectRow) → object_at T.objects k ≡ w → is_object g w ≡ true →
@@ -246,9 +249,9 @@ module _ (settings : Settings) (T : Tables) (sound : Distinct T) where
       adopt_changes none_at_all step = tt
       adopt_changes (to_make n) step = go (free_parent T.parents) step
         where
-          go : (a : Row) → step_at settings T (place 2 o 0) ≡ make_parent x home a → EachChanges T (make_parent x home a)
-          go NoRow step = tt
-          go (RowIs r) step = one_changes (place 2 o 0) v OfOrphan (Make r home.file x.owner home.index (slot_for x)) step
+          go : (a : Option ℕ) → step_at settings T (place 2 o 0) ≡ make_parent x home a → EachChanges T (make_parent x home a)
+          go None step = tt
+          go (Some r) step = one_changes (place 2 o 0) v OfOrphan (Make r home.file x.owner home.index (slot_for x)) step
       adopt_changes (to_fill {r = r} e l q) step =
           (layout_changes r (parent_inside T home.file r e) l, owner_after r _, inl refl, whole_changes (place 2 o 0) v OfOrphan _ _ _ step)
       adopt_changes (to_grow {r = r} e l q) step =

@@ -2,10 +2,10 @@ use mathlib.Core.Path.{ap, sym}
 use Rattle.rules.specs.Keeper.{claim_in}
 use Rattle.search.proofs.keeper.claim_in.Goals as goal
 
-pub returns-in-Missing : goal.returns-in-Missing
+pub returns-in-None : goal.returns-in-None
 unfolding claim_in
-returns-in-Missing c = ap claim_in (sym c.in-Missing.is)
+returns-in-None c = ap claim_in (sym c.in-None.is)
 
-pub returns-in-Present : goal.returns-in-Present
+pub returns-in-Some : goal.returns-in-Some
 unfolding claim_in
-returns-in-Present c = ap claim_in (sym c.in-Present.is)
+returns-in-Some c = ap claim_in (sym c.in-Some.is)

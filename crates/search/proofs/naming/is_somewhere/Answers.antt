@@ -2,10 +2,10 @@ use mathlib.Core.Path.{ap, sym}
 use Rattle.rules.specs.Search.{is_somewhere}
 use Rattle.search.proofs.naming.is_somewhere.Goals as goal
 
-pub returns-in-At : goal.returns-in-At
+pub returns-in-Some : goal.returns-in-Some
 unfolding is_somewhere
-returns-in-At c = ap is_somewhere (sym c.in-At.is)
+returns-in-Some c = ap is_somewhere (sym c.in-Some.is)
 
-pub returns-in-Nowhere : goal.returns-in-Nowhere
+pub returns-in-None : goal.returns-in-None
 unfolding is_somewhere
-returns-in-Nowhere c = ap is_somewhere (sym c.in-Nowhere.is)
+returns-in-None c = ap is_somewhere (sym c.in-None.is)

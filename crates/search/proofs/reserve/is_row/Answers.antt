@@ -2,10 +2,10 @@ use mathlib.Core.Path.{ap, sym}
 use Rattle.rules.specs.Search.{is_row}
 use Rattle.search.proofs.reserve.is_row.Goals as goal
 
-pub returns-in-RowIs : goal.returns-in-RowIs
+pub returns-in-Some : goal.returns-in-Some
 unfolding is_row
-returns-in-RowIs c = ap is_row (sym c.in-RowIs.is)
+returns-in-Some c = ap is_row (sym c.in-Some.is)
 
-pub returns-in-NoRow : goal.returns-in-NoRow
+pub returns-in-None : goal.returns-in-None
 unfolding is_row
-returns-in-NoRow c = ap is_row (sym c.in-NoRow.is)
+returns-in-None c = ap is_row (sym c.in-None.is)

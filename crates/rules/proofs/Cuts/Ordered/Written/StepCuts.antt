@@ -1,4 +1,5 @@
 -- Any step, cut between two writes.
+use Rattle.std.specs.Prelude.{Option, Some, None}
 pub mod Adopted
 unfoldable pub use Adopted.*
 
@@ -19,11 +20,11 @@ module _ (settings : Settings) (s : Stand) (last : s.position ≡ place 3 0 0) w
       mend_cuts settings s last T r j h f n ost at (not_second T r j f n ost at (λ e. let z : ◌≡◌ {A = ℕ} 0 1 = cc in omega arith)) OfOwner (object_row T.objects f) refl q
   slot_cuts T r j h f n ost at DANGLING class q = go (creates settings.policy) (free_object T.objects) q
     where
-      go : (b : Bool) (a : Row) → step_at settings T (place 1 r (suc j)) ≡ cond b (make_object (new_object T.parents f r j ost) a) rests →
+      go : (b : Bool) (a : Option ℕ) → step_at settings T (place 1 r (suc j)) ≡ cond b (make_object (new_object T.parents f r j ost) a) rests →
           EachCut settings s last T (cond b (make_object (new_object T.parents f r j ost) a) rests)
       go false a q = tt
-      go true NoRow q = tt
-      go true (RowIs o) q = one_write settings s last T (place 1 r (suc j)) h refl OfDangling (PutObject o (new_object T.parents f r j ost)) q
+      go true None q = tt
+      go true (Some o) q = one_write settings s last T (place 1 r (suc j)) h refl OfDangling (PutObject o (new_object T.parents f r j ost)) q
   slot_cuts T r j h f n ost at MULTIPLE class q = go (creates settings.policy) refl q
     where
       go : (b : Bool) → creates settings.policy ≡ b → step_at settings T (place 1 r (suc j)) ≡ cond b (redirect_by settings T r j ost (reusable T r j)) rests →

@@ -1,4 +1,6 @@
 -- An orphan takes a place, cut after its layout or after its owner; a fresh object that lost the slot waits for its destruction.
+use Rattle.std.specs.Prelude.{Option, Some, None}
+use Rattle.tables.specs.declared.Place.{Place}
 pub mod Placed
 unfoldable pub use Placed.*
 
@@ -16,7 +18,7 @@ module _ (settings : Settings) (s : Stand) (last : s.position ≡ place 3 0 0) w
   later_ends S p q h v f w = ends_quiet settings s last S (next S p) h.done h.exists h.ends q w (≼_trans p (next S p) f (next_later S v))
 
   module _ (T : Tables) (o : ℕ) (h : Stands settings s last T (place 2 o 0)) (x : Object) (holds : object_at T.objects o ≡ used x) (adopt : adopts settings.policy ≡ true)
-      (home : Place) (claim : x.claim ≡ Claims home) (unnamed : named T.parents x.fid ≡ false) (stays : x.fresh ≡ false) where
+      (home : Place) (claim : x.claim ≡ Some home) (unnamed : named T.parents x.fid ≡ false) (stays : x.fresh ≡ false) where
     quiet : FirstQuiet settings s last T
     quiet = first_quiet settings s last T o h.done
 
@@ -106,14 +108,14 @@ module _ (settings : Settings) (s : Stand) (last : s.position ≡ place 3 0 0) w
             holds = holds;
             inside = parent_inside T home.file r e;
             within = l;
-            claimed = claim ∙ ap (λ v. Claims (record { file = v; index = home.index })) (sym (parent_self home.file (row_at T.parents r) e));
+            claimed = claim ∙ ap (λ v. Some (record { file = v; index = home.index })) (sym (parent_self home.file (row_at T.parents r) e));
             unnamed = named_none T x.fid unnamed;
             lonely = λ c k j u v. only k j (rw (one_name T g c r home.index g_here u) at v);
             headers = quiet.headers;
             slots = λ k j d. quiet.slots k j;
           }
 
-      module _ (k : ℕ) (z : Object) (found-row : object_row T.objects g ≡ RowIs k) (held : object_at T.objects k ≡ used z)
+      module _ (k : ℕ) (z : Object) (found-row : object_row T.objects g ≡ Some k) (held : object_at T.objects k ≡ used z)
           (step : step_at settings T (place 2 o 0) ≡ repairs OfOrphan (PutSlot r home.index (slot_for x)) (owner_write o x (owner_of (row_at T.parents r))) (Destroy k)) where
         fresh : z.fresh ≡ true
         fresh = take_fresh T home g r home.index k z t found-row held
@@ -125,15 +127,15 @@ module _ (settings : Settings) (s : Stand) (last : s.position ≡ place 3 0 0) w
         unfolding is_object has_fid
         z_is = ost_true z.fid g (subst (λ w. is_object g w ≡ true) held (object_found T g found-row))
 
-        claimed : (c : Claim) → claims c home ≡ true → (spot : Place) × (c ≡ Claims spot)
+        claimed : (c : Option Place) → claims c home ≡ true → (spot : Place) × (c ≡ Some spot)
         unfolding claims
-        claimed Unclaimed u = clash u refl
-        claimed (Claims spot) u = (spot, refl)
+        claimed None u = clash u refl
+        claimed (Some spot) u = (spot, refl)
 
         z_claims : claims z.claim home ≡ true
         unfolding takeable object_of object_in_row object_in object_at
         z_claims =
-            let w : object_of T.objects g ≡ Present z = rw (found-row, held) in
+            let w : object_of T.objects g ≡ Some z = rw (found-row, held) in
             and_r z.fresh (claims z.claim home) (and_l (z.fresh && claims z.claim home) (not (named_else T.parents g r home.index)) (rw w at t))
 
         -- the tables after the layout's and the owner's writes
@@ -223,12 +225,12 @@ module _ (settings : Settings) (s : Stand) (last : s.position ≡ place 3 0 0) w
                 (ends_quiet settings s last both (place 2 0 0) done_first second_there second (next both (place 1 r (suc home.index))) (next_exists both (place 1 r (suc home.index)))
                 (next_least both (place 1 r (suc home.index)) (owned_there settings s last T o r home.index x take_room) second_there (by_stage (omega arith))))
 
-      taken_row : (a : Row) → object_row T.objects g ≡ a →
+      taken_row : (a : Option ℕ) → object_row T.objects g ≡ a →
           step_at settings T (place 2 o 0) ≡ repairs OfOrphan (PutSlot r home.index (slot_for x)) (owner_write o x (owner_of (row_at T.parents r))) (destroy_at a) →
           EachCut settings s last T (repairs OfOrphan (PutSlot r home.index (slot_for x)) (owner_write o x (owner_of (row_at T.parents r))) (destroy_at a))
       unfolding destroy_at takeable object_of object_in_row is_object has_fid
-      taken_row NoRow d step = clash t (rw d)
-      taken_row (RowIs k) d step = go (object_at T.objects k) refl (object_found T g d)
+      taken_row None d step = clash t (rw d)
+      taken_row (Some k) d step = go (object_at T.objects k) refl (object_found T g d)
         where
           go : (w : ObjectRow) → object_at T.objects k ≡ w → is_object g w ≡ true →
               EachCut settings s last T (repairs OfOrphan (PutSlot r home.index (slot_for x)) (owner_write o x (owner_of (row_at T.parents r))) (Destroy k))
@@ -244,9 +246,9 @@ module _ (settings : Settings) (s : Stand) (last : s.position ≡ place 3 0 0) w
     adopt_cuts none_at_all step = tt
     adopt_cuts (to_make n) step = go (free_parent T.parents) step
       where
-        go : (a : Row) → step_at settings T (place 2 o 0) ≡ make_parent x home a → EachCut settings s last T (make_parent x home a)
-        go NoRow step = tt
-        go (RowIs r) step = one_write settings s last T (place 2 o 0) h refl OfOrphan (Make r home.file x.owner home.index (slot_for x)) step
+        go : (a : Option ℕ) → step_at settings T (place 2 o 0) ≡ make_parent x home a → EachCut settings s last T (make_parent x home a)
+        go None step = tt
+        go (Some r) step = one_write settings s last T (place 2 o 0) h refl OfOrphan (Make r home.file x.owner home.index (slot_for x)) step
     adopt_cuts (to_fill {r = r} e l q) step = fill_cuts r e l q step
     adopt_cuts (to_grow {r = r} e l q) step = grow_cuts r e l q step
     adopt_cuts (to_take {r = r} g n m e l q t) step = taken_cuts r g n m e l q t step

@@ -1,4 +1,5 @@
 -- An orphan's layout is written, and its owner not yet: all of stage one but its slot is quiet, the slot is OWNER, and its step writes the owner.
+use Rattle.std.specs.Prelude.{Some}
 pub mod Redirected
 unfoldable pub use Redirected.*
 
@@ -33,7 +34,7 @@ module _ (settings : Settings) (s : Stand) (last : s.position ≡ place 3 0 0) w
     pub holds : object_at U.objects o ≡ used x
     pub inside : r < length U.parents
     pub within : i < width U.parents r
-    pub claimed : x.claim ≡ Claims (place_of (row_at U.parents r) i)
+    pub claimed : x.claim ≡ Some (place_of (row_at U.parents r) i)
     pub unnamed : (k l : ℕ) → names_at U.parents x.fid k l ≡ false
     pub lonely : (g : OstFid) (k l : ℕ) → names_at U.parents g r i ≡ true → names_at U.parents g k l ≡ true → (k ≡ r) × (l ≡ i)
     pub headers : (k : ℕ) → header_quiet (row_at U.parents k) ≡ true
@@ -76,7 +77,7 @@ module _ (settings : Settings) (s : Stand) (last : s.position ≡ place 3 0 0) w
     placed_others k l n =
         slot_others U r i (slot_for x) k l n (λ g e. (not_new g k l e, never (is_place (keeper U g) r i) (λ t. far g e (is_place_lem (keeper U g) r i t))))
       where
-        far : (g : OstFid) → names_at U.parents g k l ≡ true → keeper U g ≡ At r i → ⊥
+        far : (g : OstFid) → names_at U.parents g k l ≡ true → keeper U g ≡ Some (r, i) → ⊥
         far g e t =
             let q = room.lonely g k l (keeper_names U.parents g (claim_in (object_of U.objects g)) r i t) e in
             n q.0 q.1
@@ -90,11 +91,11 @@ module _ (settings : Settings) (s : Stand) (last : s.position ≡ place 3 0 0) w
     owned_sound =
         record { parents = placed_sound.parents; objects = one_put placed o (with_owner x its_owner) placed_sound.objects (λ k t. room.sound.objects k o x.fid t in_row) }
 
-    placed_row : object_row placed.objects x.fid ≡ RowIs o
+    placed_row : object_row placed.objects x.fid ≡ Some o
     unfolding placed object_row object_at put_slot put_parent
     placed_row = first_unique (object_first U x.fid) (first_only in_row (λ k t. room.sound.objects k o x.fid t in_row))
 
-    placed_object : object_of placed.objects x.fid ≡ Present x
+    placed_object : object_of placed.objects x.fid ≡ Some x
     unfolding object_of object_in_row object_in placed put_slot put_parent object_at
     placed_object = rw (placed_row, room.holds)
 
@@ -106,15 +107,15 @@ module _ (settings : Settings) (s : Stand) (last : s.position ≡ place 3 0 0) w
     unfolding placed
     placed_slot = slot_same U r i (slot_for x) room.inside room.within
 
-    placed_claim : x.claim ≡ Claims (place_of (row_at placed.parents r) i)
+    placed_claim : x.claim ≡ Some (place_of (row_at placed.parents r) i)
     unfolding placed
-    placed_claim = room.claimed ∙ ap (λ v. Claims (record { file = v; index = i })) (sym (self_slot U r i (slot_for x) r))
+    placed_claim = room.claimed ∙ ap (λ v. Some (record { file = v; index = i })) (sym (self_slot U r i (slot_for x) r))
 
     placed_owner : owner_of (row_at placed.parents r) ≡ its_owner
     unfolding placed its_owner
     placed_owner = owner_slot U r i (slot_for x) r
 
-    keeps_it : keeper placed x.fid ≡ At r i
+    keeps_it : keeper placed x.fid ≡ Some (r, i)
     unfolding names_at slot_names slot_for
     keeps_it =
         keeper_own placed x.fid r i x placed_sound.parents (ap (slot_names x.fid) placed_slot ∙ same_self x.fid.0) placed_object placed_claim
@@ -130,7 +131,7 @@ module _ (settings : Settings) (s : Stand) (last : s.position ≡ place 3 0 0) w
         spot : Place
         spot = place_of (row_at placed.parents r) i
 
-        right : claim_class spot (eqb x.ost x.ost) (same_owner x.owner (owner_of (row_at placed.parents r))) (Claims spot) ≡ OWNER
+        right : claim_class spot (eqb x.ost x.ost) (same_owner x.owner (owner_of (row_at placed.parents r))) (Some spot) ≡ OWNER
         right = rw (same_self (self_of (row_at placed.parents r)).0, eq-eqb i i refl, eq-eqb x.ost x.ost refl, placed_owner, d)
 
     -- and its step writes the owner: the claim and the index are right

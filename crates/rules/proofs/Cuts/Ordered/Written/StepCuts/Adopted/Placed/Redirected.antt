@@ -1,11 +1,13 @@
 -- A redirect, cut between the object and the layout: the object is there, and the redirect of the next run finds it.
+use Rattle.std.specs.Prelude.{Option, Some, None}
+use Rattle.fid.specs.declared.OstFid.{OstFid}
 pub mod Mended
 unfoldable pub use Mended.*
 
 module _ (settings : Settings) (s : Stand) (last : s.position ≡ place 3 0 0) where
   -- a redirect that finds its object with the owner written
   redirects : (T : Tables) (r j : ℕ) (f : OstFid) (n ost o : ℕ) (y : Object) → slot_at T.parents r j ≡ Names f n ost → slot_class T r j ≡ MULTIPLE →
-      creates settings.policy ≡ true → reusable T r j ≡ RowIs o → object_at T.objects o ≡ used y → y.owner ≡ owner_of (row_at T.parents r) →
+      creates settings.policy ≡ true → reusable T r j ≡ Some o → object_at T.objects o ≡ used y → y.owner ≡ owner_of (row_at T.parents r) →
       step_at settings T (place 1 r (suc j)) ≡ repairs OfMultiple Nothing (PutSlot r j (slot_for y)) Nothing
   unfolding step_at place part_step slot_step repair_slot redirect_by reuse owner_write
   redirects T r j f n ost o y at class create free holds owned =
@@ -19,7 +21,7 @@ module _ (settings : Settings) (s : Stand) (last : s.position ≡ place 3 0 0) w
     p = place 1 r (suc j)
 
     -- cut after the object's write: the object is there, and the step goes on with it
-    module _ (o : ℕ) (y : Object) (inside : o < length T.objects) (fresh : y.fresh ≡ true) (claimed : y.claim ≡ Claims (place_of (row_at T.parents r) j))
+    module _ (o : ℕ) (y : Object) (inside : o < length T.objects) (fresh : y.fresh ≡ true) (claimed : y.claim ≡ Some (place_of (row_at T.parents r) j))
         (owned : y.owner ≡ owner_of (row_at T.parents r)) (unnamed : named T.parents y.fid ≡ false)
         (held : (g : OstFid) → is_object g (object_at T.objects o) ≡ true → g ≡ y.fid)
         (alone : (k : ℕ) → is_object y.fid (object_at T.objects k) ≡ true → k ≡ o)
@@ -44,7 +46,7 @@ module _ (settings : Settings) (s : Stand) (last : s.position ≡ place 3 0 0) w
       unfolding C object_at put_object
       here = get_or-set_same T.objects o (used y) (unused []) inside
 
-      finds : reusable C r j ≡ RowIs o
+      finds : reusable C r j ≡ Some o
       unfolding C row_at put_object is_reusable object_at
       finds = first_unique (reusable_first C r j) (found passes below)
         where
@@ -77,15 +79,15 @@ module _ (settings : Settings) (s : Stand) (last : s.position ≡ place 3 0 0) w
             ends = ends_writes settings s last C p OfMultiple Nothing (PutSlot r j (slot_for y)) Nothing _ refl goes_on_there refl (stands_on settings s last T p h refl OfMultiple (PutObject o y) (PutSlot r j (slot_for y)) Nothing step).ends;
           })
 
-    redirect_cuts : reusable T r j ≡ NoRow → (a : Usable) → usable T settings.reserve ≡ a → step_at settings T p ≡ redirect T r j ost a →
+    redirect_cuts : reusable T r j ≡ None → (a : Option OstFid) → usable T settings.reserve ≡ a → step_at settings T p ≡ redirect T r j ost a →
         EachCut settings s last T (redirect T r j ost a)
     unfolding redirect redirect_to new_object slot_for p C apply_write is_end place
-    redirect_cuts none UsedUp u step = tt
-    redirect_cuts none (Takes g) u step = to (free_object T.objects) refl step
+    redirect_cuts none None u step = tt
+    redirect_cuts none (Some g) u step = to (free_object T.objects) refl step
       where
-        to : (a : Row) → free_object T.objects ≡ a → step_at settings T p ≡ redirect_to T.parents r j ost g a → EachCut settings s last T (redirect_to T.parents r j ost g a)
-        to NoRow d step = tt
-        to (RowIs o) d step =
+        to : (a : Option ℕ) → free_object T.objects ≡ a → step_at settings T p ≡ redirect_to T.parents r j ost g a → EachCut settings s last T (redirect_to T.parents r j ost g a)
+        to None d step = tt
+        to (Some o) d step =
             let b = usable_free T settings.reserve g u in
             let v = free_object_lem T o d in (
               object_cut o (new_object T.parents g r j ost) v.1 refl refl refl b.1 (λ k t. clash t (v.0 k)) (λ k t. clash t (b.0 k))
@@ -93,7 +95,7 @@ module _ (settings : Settings) (s : Stand) (last : s.position ≡ place 3 0 0) w
               two_writes settings s last T p h refl OfMultiple (PutObject o (new_object T.parents g r j ost)) (PutSlot r j (Names g 0 ost)) step,
             )
 
-    reuse_cuts : (o : ℕ) → reusable T r j ≡ RowIs o → (w : ObjectRow) → object_at T.objects o ≡ w → step_at settings T p ≡ reuse T.parents r j o w →
+    reuse_cuts : (o : ℕ) → reusable T r j ≡ Some o → (w : ObjectRow) → object_at T.objects o ≡ w → step_at settings T p ≡ reuse T.parents r j o w →
         EachCut settings s last T (reuse T.parents r j o w)
     unfolding reuse owner_write slot_for with_owner p C apply_write is_end place is_reusable is_object has_fid
     reuse_cuts o q (unused b) d step = tt
@@ -105,7 +107,7 @@ module _ (settings : Settings) (s : Stand) (last : s.position ≡ place 3 0 0) w
         there : is_object x.fid (object_at T.objects o) ≡ true
         there = rw (d, same_self x.fid.0)
 
-        means : (x.fresh ≡ true) × (x.claim ≡ Claims (place_of (row_at T.parents r) j)) × (named T.parents x.fid ≡ false)
+        means : (x.fresh ≡ true) × (x.claim ≡ Some (place_of (row_at T.parents r) j)) × (named T.parents x.fid ≡ false)
         means = reusable_means T.parents (place_of (row_at T.parents r) j) x (subst (λ v. is_reusable T.parents (place_of (row_at T.parents r) j) v ≡ true) d (reusable_passes T r j o q))
 
         go : (b : Bool) → step_at settings T p ≡ repairs OfMultiple (cond b Nothing (PutObject o (with_owner x owner))) (PutSlot r j (slot_for x)) Nothing →
@@ -118,8 +120,8 @@ module _ (settings : Settings) (s : Stand) (last : s.position ≡ place 3 0 0) w
           two_writes settings s last T p h refl OfMultiple (PutObject o (with_owner x owner)) (PutSlot r j (slot_for x)) step,
         )
 
-    pub multiple_cuts : (a : Row) → reusable T r j ≡ a → step_at settings T (place 1 r (suc j)) ≡ redirect_by settings T r j ost a →
+    pub multiple_cuts : (a : Option ℕ) → reusable T r j ≡ a → step_at settings T (place 1 r (suc j)) ≡ redirect_by settings T r j ost a →
         EachCut settings s last T (redirect_by settings T r j ost a)
     unfolding redirect_by p
-    multiple_cuts NoRow q step = redirect_cuts q (usable T settings.reserve) refl step
-    multiple_cuts (RowIs o) q step = reuse_cuts o q (object_at T.objects o) refl step
+    multiple_cuts None q step = redirect_cuts q (usable T settings.reserve) refl step
+    multiple_cuts (Some o) q step = reuse_cuts o q (object_at T.objects o) refl step

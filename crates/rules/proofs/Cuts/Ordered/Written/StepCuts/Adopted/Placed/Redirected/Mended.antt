@@ -1,19 +1,20 @@
 -- A keeper's object is mended, cut between the object and the layout: claim and owner are right then, and the slot is WRONG-OST.
+use Rattle.std.specs.Prelude.{Option, Some, None}
 pub mod Standing
 unfoldable pub use Standing.*
 
 -- a slot that isn't MULTIPLE is the keeper
-pub not_second : (T : Tables) (r j : ℕ) (f : OstFid) (n ost : ℕ) → slot_at T.parents r j ≡ Names f n ost → (slot_class T r j ≡ MULTIPLE → ⊥) → keeper T f ≡ At r j
+pub not_second : (T : Tables) (r j : ℕ) (f : OstFid) (n ost : ℕ) → slot_at T.parents r j ≡ Names f n ost → (slot_class T r j ≡ MULTIPLE → ⊥) → keeper T f ≡ Some (r, j)
 unfolding slot_class slot_class_of
 not_second T r j f n ost at other = go (is_place (keeper T f) r j) refl
   where
-    go : (b : Bool) → is_place (keeper T f) r j ≡ b → keeper T f ≡ At r j
+    go : (b : Bool) → is_place (keeper T f) r j ≡ b → keeper T f ≡ Some (r, j)
     go true e = is_place_lem (keeper T f) r j e
     go false e = absurd (other (rw (at, e)))
 
 module _ (settings : Settings) (s : Stand) (last : s.position ≡ place 3 0 0) where
   module _ (T : Tables) (r j : ℕ) (h : Stands settings s last T (place 1 r (suc j))) (f : OstFid) (n ost : ℕ) (at : slot_at T.parents r j ≡ Names f n ost)
-      (keeps : keeper T f ≡ At r j) where
+      (keeps : keeper T f ≡ Some (r, j)) where
     home : Place
     home = place_of (row_at T.parents r) j
 
@@ -40,7 +41,7 @@ module _ (settings : Settings) (s : Stand) (last : s.position ≡ place 3 0 0) w
       unfolding names_at slot_names
       names = rw (at, same_self f.0)
 
-      present : object_of C.objects f ≡ Present y
+      present : object_of C.objects f ≡ Some y
       unfolding C y mended with_claim
       present = put_found T f o y inside is alone
 
@@ -48,7 +49,7 @@ module _ (settings : Settings) (s : Stand) (last : s.position ≡ place 3 0 0) w
       unfolding C object_at put_object
       here = get_or-set_same T.objects o (used y) (unused []) inside
 
-      found_there : object_row C.objects f ≡ RowIs o
+      found_there : object_row C.objects f ≡ Some o
       unfolding C y mended with_claim is_object has_fid object_at put_object
       found_there = first_unique (object_first C f) (first_only (rw here (rw (is, same_self f.0))) only)
         where
@@ -71,7 +72,7 @@ module _ (settings : Settings) (s : Stand) (last : s.position ≡ place 3 0 0) w
 
       nothing_left : mend_write T.parents r j o y ≡ Nothing
       unfolding mend_write y mended with_claim
-      nothing_left = rw (claim_here (Claims (place_of (row_at T.parents r) j)) (place_of (row_at T.parents r) j) refl, owner_refl (owner_of (row_at T.parents r)))
+      nothing_left = rw (claim_here (Some (place_of (row_at T.parents r) j)) (place_of (row_at T.parents r) j) refl, owner_refl (owner_of (row_at T.parents r)))
 
       goes_on_lem : step_at settings C (place 1 r (suc j)) ≡ repairs OfWrongOst Nothing (PutSlot r j (Names f n x.ost)) Nothing
       unfolding step_at place part_step slot_step repair_slot mend_at C y mended with_claim put_object
@@ -99,11 +100,11 @@ module _ (settings : Settings) (s : Stand) (last : s.position ≡ place 3 0 0) w
                 (stands_on settings s last T (place 1 r (suc j)) h refl c (PutObject o y) (PutSlot r j (Names f n x.ost)) Nothing step).ends;
           })
 
-    pub mend_cuts : (c : Repair) (a : Row) → object_row T.objects f ≡ a → step_at settings T (place 1 r (suc j)) ≡ mend_at T c r j f n ost a →
+    pub mend_cuts : (c : Repair) (a : Option ℕ) → object_row T.objects f ≡ a → step_at settings T (place 1 r (suc j)) ≡ mend_at T c r j f n ost a →
         EachCut settings s last T (mend_at T c r j f n ost a)
     unfolding mend_at mend_object mend_write index_write is_object has_fid apply_write is_end place C y
-    mend_cuts c NoRow q step = tt
-    mend_cuts c (RowIs o) q step = go (object_at T.objects o) refl (object_found T f q) step
+    mend_cuts c None q step = tt
+    mend_cuts c (Some o) q step = go (object_at T.objects o) refl (object_found T f q) step
       where
         p : Position
         p = place 1 r (suc j)

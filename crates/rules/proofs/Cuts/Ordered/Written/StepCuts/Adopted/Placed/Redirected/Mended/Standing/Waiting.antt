@@ -1,4 +1,6 @@
 -- An object whose destruction is pending: stage two ends as if it had been destroyed before.
+use Rattle.std.specs.Prelude.{Option, Some, None}
+use Rattle.tables.specs.declared.Place.{Place}
 pub mod Endings
 unfoldable pub use Endings.*
 
@@ -7,7 +9,7 @@ pub record Waits (T : Tables) (q : ℕ) (z : Object) : Type 0 where
   pub sound : Distinct T
   pub holds : object_at T.objects q ≡ used z
   pub fresh : z.fresh ≡ true
-  pub claimed : (home : Place) × (z.claim ≡ Claims home)
+  pub claimed : (home : Place) × (z.claim ≡ Some home)
   pub unnamed : (k l : ℕ) → names_at T.parents z.fid k l ≡ false
 
 -- as if it had been destroyed
@@ -40,9 +42,9 @@ module _ (T : Tables) (q : ℕ) (z : Object) (wait : Waits T q z) where
   unfolding way row_way put_object
   way_same home = ap (λ v. cond (ltb home.index max_slots) v NoWay) (row (parent_row T.parents home.file))
     where
-      row : (a : Row) → row_way (without T q) home a ≡ row_way T home a
-      row NoRow = refl
-      row (RowIs r) =
+      row : (a : Option ℕ) → row_way (without T q) home a ≡ row_way T home a
+      row None = refl
+      row (Some r) =
           ap (λ v. cond (ltb home.index (width T.parents r)) v (cond (holes_in (row_at T.parents r)) (Grow r) NoWay))
           (slot_way_lem home r home.index (slot_at T.parents r home.index) refl)
 
@@ -61,10 +63,10 @@ module _ (T : Tables) (q : ℕ) (z : Object) (wait : Waits T q z) where
       ap (repairs OfOrphan (PutSlot r home.index (slot_for x)) (owner_write k x (owner_of (row_at T.parents r))))
       (destroy_there (slot_at T.parents r home.index) r home.index refl)
 
-  claim_there : (k : ℕ) (x : Object) (c : Claim) → adopt (without T q) k x c ≡ adopt T k x c
+  claim_there : (k : ℕ) (x : Object) (c : Option Place) → adopt (without T q) k x c ≡ adopt T k x c
   unfolding adopt
-  claim_there k x Unclaimed = refl
-  claim_there k x (Claims home) = ap (adopt_by (without T q) k x home) (way_same home) ∙ adopt_there k x home (way T home)
+  claim_there k x None = refl
+  claim_there k x (Some home) = ap (adopt_by (without T q) k x home) (way_same home) ∙ adopt_there k x home (way T home)
 
   repair_there : (settings : Settings) (k : ℕ) (x : Object) (c : ObjectClass) → repair_object settings (without T q) k x c ≡ repair_object settings T k x c
   unfolding repair_object
@@ -84,9 +86,9 @@ module _ (T : Tables) (q : ℕ) (z : Object) (wait : Waits T q z) where
     unfolding object_class object_class_of unnamed_class named scan names_at slot_at row_at width put_object
     class_there = rw row_same_there (go (object_at T.objects k))
       where
-        claim : (b : Bool) (c : Claim) → unnamed_class (without T q) b c ≡ unnamed_class T b c
-        claim b Unclaimed = refl
-        claim b (Claims home) = ap (λ v. cond b EMPTY (cond (is_way v) ORPHAN CONFLICT)) (way_same home)
+        claim : (b : Bool) (c : Option Place) → unnamed_class (without T q) b c ≡ unnamed_class T b c
+        claim b None = refl
+        claim b (Some home) = ap (λ v. cond b EMPTY (cond (is_way v) ORPHAN CONFLICT)) (way_same home)
 
         go : (w : ObjectRow) → object_class_of (without T q) w ≡ object_class_of T w
         go (unused b) = refl
@@ -202,18 +204,18 @@ module _ (T : Tables) (q : ℕ) (z : Object) (wait : Waits T q z) (settings : Se
     destroy_beside r i Hole e = tt
     destroy_beside r i (Names g n m) e = go (object_row T.objects g) refl
       where
-        go : (a : Row) → object_row T.objects g ≡ a → Beside q z.fid (destroy_at a)
-        go NoRow d = tt
-        go (RowIs o) d = λ y. clash (subst (λ v. is_object g (object_at T.objects v) ≡ true) y (object_found T g d)) (elsewhere T q z wait g r i (rw (e, same_self g.0)))
+        go : (a : Option ℕ) → object_row T.objects g ≡ a → Beside q z.fid (destroy_at a)
+        go None d = tt
+        go (Some o) d = λ y. clash (subst (λ v. is_object g (object_at T.objects v) ≡ true) y (object_found T g d)) (elsewhere T q z wait g r i (rw (e, same_self g.0)))
 
     adopt_beside : (home : Place) (v : Way) → BesideStep q z.fid (adopt_by T k x home v)
     unfolding adopt_by make_parent
     adopt_beside home NoWay = tt
     adopt_beside home NewParent = go (free_parent T.parents)
       where
-        go : (a : Row) → BesideStep q z.fid (make_parent x home a)
-        go NoRow = tt
-        go (RowIs r) = (slot_beside, tt, tt)
+        go : (a : Option ℕ) → BesideStep q z.fid (make_parent x home a)
+        go None = tt
+        go (Some r) = (slot_beside, tt, tt)
     adopt_beside home (Fill r) = (slot_beside, owner_beside (owner_of (row_at T.parents r)), tt)
     adopt_beside home (Grow r) = (slot_beside, owner_beside (owner_of (row_at T.parents r)), tt)
     adopt_beside home (Take r) =
@@ -232,9 +234,9 @@ module _ (T : Tables) (q : ℕ) (z : Object) (wait : Waits T q z) (settings : Se
         go false = tt
     repair_beside ORPHAN = go (adopts settings.policy) x.claim
       where
-        go : (b : Bool) (c : Claim) → BesideStep q z.fid (cond b (adopt T k x c) rests)
-        go true Unclaimed = tt
-        go true (Claims home) = adopt_beside home (way T home)
+        go : (b : Bool) (c : Option Place) → BesideStep q z.fid (cond b (adopt T k x c) rests)
+        go true None = tt
+        go true (Some home) = adopt_beside home (way T home)
         go false c = tt
 
   step_beside : BesideStep q z.fid (step_at settings T (place 2 k 0))
