@@ -1,5 +1,6 @@
 -- A step raises the generation of a layout that exists exactly where it changes the slots or their number; a run, as often. Assumes nothing.
 use Prim.Native.Nat.{ℕ, zero, suc, ◌+◌, ◌%◌, ◌<◌}
+use Rattle.refusals.specs.declared.Refusal.{Refusal}
 use Rattle.std.specs.Prelude.{Option, Some, None}
 use native.Mathlib.Omega.{arith}
 use mathlib.Core.Path.{◌≡◌, refl, sym, ap, subst, ◌∙◌}
@@ -143,7 +144,7 @@ raises_rests : (T : Tables) → Raises T rests
 unfolding step_tables
 raises_rests T = goes_still T.parents
 
-raises_stops : (T : Tables) (a : ℕ) → Raises T (stops a)
+raises_stops : (T : Tables) (a : Refusal) → Raises T (stops a)
 unfolding step_tables
 raises_stops T a = goes_still T.parents
 

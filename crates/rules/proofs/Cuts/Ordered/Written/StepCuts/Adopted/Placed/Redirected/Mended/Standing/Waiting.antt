@@ -298,7 +298,7 @@ module _ (settings : Settings) (s : Stand) (last : s.position ≡ place 3 0 0) (
           ends_rests settings s last T (place 2 k 0) refl d
           (subst (Ends settings s last T) (sym (next_there T k l (waits_inside T w)))
           (ih T (suc k) w l (subst (λ (p : Position). stand (run settings n S p) ≡ s) (next_there S k l (rw (length-set T.objects q destroyed) (waits_inside T w))) t)))
-      less l ih (stops a) d b m t = absurd (not_there settings s last S (place 2 k 0) a refl t)
+      less l ih (stops a) d b m t = absurd (not_there settings s last S (place 2 k 0) (number a) refl t)
       less l ih (repairs c x y v) d b m t =
           ends_writes settings s last T (place 2 k 0) c x y v U refl d refl
           (subst (Ends settings s last U) (sym (next_there U k l (waits_inside U kept)))
