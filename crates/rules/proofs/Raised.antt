@@ -1,6 +1,7 @@
 -- A step raises the generation of a layout that exists exactly where it changes the slots or their number; a run, as often. Assumes nothing.
 use Prim.Native.Nat.{ℕ, zero, suc, ◌+◌, ◌%◌, ◌<◌}
 use Rattle.refusals.specs.declared.Refusal.{Refusal}
+use Rattle.refusals.specs.declared.Refusal.TheVariants.{NoReserve, NoObjectRow, NoParentRow}
 use Rattle.std.specs.Prelude.{Option, Some, None}
 use native.Mathlib.Omega.{arith}
 use mathlib.Core.Path.{◌≡◌, refl, sym, ap, subst, ◌∙◌}
@@ -176,11 +177,11 @@ raises_header T r SELF = raises_first T _ (Own r) Nothing Nothing (goes_put T r 
 
 raises_redirect : (T : Tables) (r j ost : ℕ) (u : Option OstFid) → Raises T (redirect T r j ost u)
 unfolding redirect redirect_to
-raises_redirect T r j ost None = raises_stops T 21
+raises_redirect T r j ost None = raises_stops T NoReserve
 raises_redirect T r j ost (Some f) = go (free_object T.objects)
   where
     go : (a : Option ℕ) → Raises T (redirect_to T.parents r j ost f a)
-    go None = raises_stops T 22
+    go None = raises_stops T NoObjectRow
     go (Some o) = raises_second T _ _ _ (aside_object o _) (λ S. goes_at S r j _)
 
 raises_reuse : (T : Tables) (r j o : ℕ) (y : ObjectRow) → Raises T (reuse T.parents r j o y)
@@ -198,7 +199,7 @@ raises_by settings T r j ost (Some o) = raises_reuse T r j o (object_at T.object
 
 raises_make : (T : Tables) (x : Object) (a : Option ℕ) → Raises T (make_object x a)
 unfolding make_object
-raises_make T x None = raises_stops T 22
+raises_make T x None = raises_stops T NoObjectRow
 raises_make T x (Some o) = raises_second T _ _ Nothing (aside_object o x) goes_nothing
 
 raises_mend : (T : Tables) (c : Repair) (r j : ℕ) (f : OstFid) (n ost : ℕ) (a : Option ℕ) → Raises T (mend_at T c r j f n ost a)
@@ -248,7 +249,7 @@ aside_named rows (Names g n i) = go (object_row rows g)
 
 raises_parent : (T : Tables) (x : Object) (p : Place) (a : Option ℕ) → free_parent T.parents ≡ a → Raises T (make_parent x p a)
 unfolding make_parent apply_write
-raises_parent T x p None e = raises_stops T 23
+raises_parent T x p None e = raises_stops T NoParentRow
 raises_parent T x p (Some r) e =
     let free = free_row_lem T r e in
     raises_first T _ (Make r p.file x.owner p.index (slot_for x)) Nothing Nothing

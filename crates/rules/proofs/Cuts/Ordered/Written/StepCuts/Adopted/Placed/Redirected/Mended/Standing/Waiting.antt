@@ -1,5 +1,6 @@
 -- An object whose destruction is pending: stage two ends as if it had been destroyed before.
 use Rattle.std.specs.Prelude.{Option, Some, None}
+use Rattle.refusals.specs.Numbers.{number}
 use Rattle.tables.specs.declared.Place.{Place}
 pub mod Endings
 unfoldable pub use Endings.*
