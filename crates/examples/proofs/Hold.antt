@@ -35,7 +35,7 @@ unfolding all_fit fits short all example examples case layout_of says_of file_at
 all_fit_lem = refl
 
 by_rows : (past : ℕ → List ℕ) → Hold (tests (rows_seen past) examples)
-unfolding Hold fid P Q A B C N us root on layout_of says_of file_at file no_file object holds fresh free case go came ends rests object_is none one_self one_multiple one_dangling one_blank one_unmatched one_owner one_empty one_orphan two_orphans made_and_taken two_wrong_ost claim E4-parents E5-objects spare E4 E5 E6 E7-parents E7 E7-created E8-objects E8 E9 E10 E11-parents E11 E12 E13 own_wrong blank other_owner emptied exchanged blank_elsewhere unmatched_elsewhere mended_elsewhere last_generation_lem made_then_grown shared_parents two_spare shared shared_cut reused named_elsewhere with_data other_slot contested contested_cut generation_in leaves unfound looks examples all le bytes rows decode_fid encode_fid same_fid zero_fid zero_slot slot_of_numbers decode_slot encode_slot decode_slots encode_slots slot_names header_size decode_header stripe_count encode_header slot_start decode_layout encode_layout with_holes layout_size is_used decode_owner encode_owner layout_length layout_bytes decode_parent encode_parent parse_parent render_parent claim_from claim_fid decode_object mark encode_object parse_object render_object object_rows parse_objects join render_parents render_objects slots_of row_at width is_end place from_object from_parent start after_part next row_steps count_steps row_from slot_from place_from or_else is_somewhere is_row self_of owner_of tail_of holes_in is_unused is_parent parent_row free_parent slot_at names_at scan named names_else named_else object_at is_object object_row free_object object_in object_in_row object_of same_owner claim_in claims_parent claims_slot in_claimed at_claimed keeper_by keeper is_place up_to hit in_turn all_slots cases_in cases compared_by compared same_place claims takeable slot_way row_way way is_way own_right header_class claimed_class claim_class keeper_class slot_class_of slot_class unnamed_class object_class_of object_class only header_numbers slot_numbers object_numbers put_parent put_object apply_write apply_writes creates adopts with_slots with_slot own_header with_own with_owner with_claim destroyed repair_header new_object usable redirect_to redirect is_reusable reusable reuse redirect_by make_object mend_object mend_at mended mend_write index_write repair_slot slot_for owner_write made grown make_parent destroy_at destroy_named adopt_by adopt repair_object slot_step part_step object_step step_at repair_number no_counts count_of sums add_counts halt after on_step run accepted_layout exact_length layout_rules known_version known_pattern possible_stripe good_header few_slots allowed_slot allowed_slots good_fid good_number good_sequence parse_row render_row has_fid first_row settings_of first_failing is_row_of objects_whole reserve_whole whole_rows used_mark fresh_mark is_mark when_used good_policy good_layout good_parent good_file good_reserve reserve_fid good_index good_claim fresh_claims claimed_fid good_entry reserve_entries parse_reserve none_twice has_self is_position in_stage_one in_stage_two self_fid good_object changed good_object_fid same_slot same_slots next_generation at_generation generation_with restriped class filled test is true_is keeps fills example tests rows_seen row_tables number_by parent_table
+unfolding Hold fid P Q A B C N us root on layout_of says_of file_at file no_file object holds fresh free case go came ends rests object_is none one_self one_multiple one_dangling one_blank one_unmatched one_owner one_empty one_orphan two_orphans made_and_taken two_wrong_ost claim E4-parents E5-objects spare E4 E5 E6 E7-parents E7 E7-created E8-objects E8 E9 E10 E11-parents E11 E12 E13 own_wrong blank other_owner emptied exchanged blank_elsewhere unmatched_elsewhere mended_elsewhere last_generation_lem made_then_grown shared_parents two_spare shared shared_cut reused named_elsewhere with_data other_slot contested contested_cut generation_in leaves unfound looks examples all le bytes rows decode_fid encode_fid same_fid zero_fid zero_slot slot_of_numbers decode_slot encode_slot decode_slots encode_slots slot_names header_size decode_header stripe_count encode_header slot_start decode_layout encode_layout with_holes layout_size is_used decode_owner encode_owner layout_length layout_bytes decode_parent encode_parent parse_parent render_parent claim_from claim_fid decode_object mark encode_object parse_object render_object object_rows parse_objects join render_parents render_objects slots_of row_at width is_end place from_object from_parent start after_part next row_steps count_steps row_from slot_from place_from or_else self_of owner_of tail_of holes_in is_unused is_parent parent_row free_parent slot_at names_at scan named names_else named_else object_at is_object object_row free_object object_in object_in_row object_of same_owner claim_in claims_parent claims_slot in_claimed at_claimed keeper_by keeper is_place up_to hit in_turn all_slots cases_in cases compared_by compared same_place claims takeable slot_way row_way way is_way own_right header_class claimed_class claim_class keeper_class slot_class_of slot_class unnamed_class object_class_of object_class only header_numbers slot_numbers object_numbers put_parent put_object apply_write apply_writes creates adopts with_slots with_slot own_header with_own with_owner with_claim destroyed repair_header new_object usable redirect_to redirect is_reusable reusable reuse redirect_by make_object mend_object mend_at mended mend_write index_write repair_slot slot_for owner_write made grown make_parent destroy_at destroy_named adopt_by adopt repair_object slot_step part_step object_step step_at repair_number no_counts count_of sums add_counts halt after on_step run accepted_layout exact_length layout_rules known_version known_pattern possible_stripe good_header few_slots allowed_slot allowed_slots good_fid good_number good_sequence parse_row render_row has_fid first_row settings_of first_failing is_row_of objects_whole reserve_whole whole_rows used_mark fresh_mark is_mark when_used good_policy good_layout good_parent good_file good_reserve reserve_fid good_index good_claim fresh_claims claimed_fid good_entry reserve_entries parse_reserve none_twice has_self is_position in_stage_one in_stage_two self_fid good_object changed good_object_fid same_slot same_slots next_generation at_generation generation_with restriped class filled test is true_is keeps fills example tests rows_seen row_tables number_by parent_table
 by_rows past = refl
 
 -- whatever stands past the layouts

@@ -56,7 +56,7 @@ first_with_lem f test h (c ∷ cs) r t =
     rw (z, key_and c f h, rest)
 
 row_test : (cs : List Child) (f : MdtFid) (j : ℕ) → j < length cs → is_row cs f (0 + j) ≡ same (get_or cs j no_child).self f
-unfolding is_row child_at
+unfolding child_at
 row_test cs f j h = let z : 0 + j ≡ j = omega arith in rw (z, lt-ltb j (length cs) h)
 
 pub directory_none : (cs : List Child) (f : MdtFid) → is_none f ≡ true → Nothing ≡ directory cs f
@@ -137,12 +137,11 @@ listed_ordered cs n s e = rw e (sorted_ordered (child_numbers cs))
 -- row r is there and has the FID, or not
 module _ (c : List ℕ) (f : MdtFid) (r : ℕ) where
   pub row_past : length c / child_size ≤ r → false ≡ is_row (parse_children c) f r
-  unfolding is_row
   row_past h = rw (le-ltb r (length (parse_children c)) (omega (arith, parsed_children c)))
 
   pub row_there : r < length c / child_size → (g : MdtFid) → g ≡ (decode_child (take child_size (drop (child_size * r) c))).self →
       same_fid g.0 f.0 ≡ is_row (parse_children c) f r
-  unfolding is_row same
+  unfolding same
   row_there h g e =
       rw (lt-ltb r (length (parse_children c)) (omega (arith, parsed_children c)))
       (ap (λ (x : MdtFid). same_fid x.0 f.0) (e ∙ ap (λ (x : Child). x.self) (sym (parsed_child c r h))))

@@ -65,12 +65,11 @@ module _ (c ms : List ℕ) (h : length ms ≡ length c / child_size) where
 
   module _ (f : MdtFid) (r : ℕ) where
     pub mark_past : length c / child_size ≤ r → false ≡ is_row (directories ms (parse_children c)) f r
-    unfolding is_row
     mark_past k = rw (le-ltb r (length (directories ms (parse_children c))) (omega (arith, directories_many)))
 
     pub mark_there : r < length c / child_size → (g : MdtFid) → g ≡ (child_at (directories ms (parse_children c)) r).self →
         same_fid g.0 f.0 ≡ is_row (directories ms (parse_children c)) f r
-    unfolding is_row same
+    unfolding same
     mark_there k g e =
         rw (lt-ltb r (length (directories ms (parse_children c))) (omega (arith, directories_many))) (ap (λ (x : MdtFid). same_fid x.0 f.0) e)
 

@@ -134,7 +134,7 @@ hit_some f (s ∷ l) (suc j) t = go (slot_names f s) (hit_some f l j t)
 
 module _ (ps : List ParentRow) (f : OstFid) (r : ℕ) where
   hit_from : (n j : ℕ) → j + n ≡ width ps r → is_somewhere (slot_from r n j (names_at ps f)) ≡ hit f (drop j (slots_of (row_at ps r)))
-  unfolding slot_from is_somewhere hit names_at slot_at width
+  unfolding slot_from hit names_at slot_at width
   hit_from zero j e = rw (drop_of_length-le (slots_of (row_at ps r)) {i = j} (omega arith))
   hit_from (suc n) j e =
       rw (drop-cons (slots_of (row_at ps r)) j Hole (omega arith)) (go (slot_names f (get_or (slots_of (row_at ps r)) j Hole)) (hit_from n (suc j) (omega arith)))
@@ -194,7 +194,7 @@ hit_within f (row ∷ ps) (suc r) e = hit_within f ps r (or_second (hit f (slots
 -- "named by" a slot: one of all slots is a hit
 module _ (ps : List ParentRow) (f : OstFid) where
   place_hit : (n r : ℕ) → r + n ≡ length ps → is_somewhere (place_from n r (width ps) (names_at ps f)) ≡ hit f (all_slots (drop r ps))
-  unfolding place_from is_somewhere hit all_slots
+  unfolding place_from hit all_slots
   place_hit zero r e = rw (drop_of_length-le ps {i = r} (omega arith))
   place_hit (suc n) r e =
       rw (all_row ps r (omega arith), hit_both f, hit_row ps f r) (go (slot_from r (width ps r) 0 (names_at ps f)) (place_hit n (suc r) (omega arith)))

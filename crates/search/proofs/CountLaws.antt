@@ -1,6 +1,6 @@
 -- The counts of the searches: how large they can be, and what a loop over slots or rows has counted. Assumes nothing.
 use mathlib.Core.Path.{◌≡◌, refl, sym}
-use Rattle.std.specs.Prelude.{Some, None}
+use Rattle.std.specs.Prelude.{Option, Some, None}
 use mathlib.Core.List.{List, [], ◌∷◌, ◌++◌, map, append-nil}
 use mathlib.Core.Bool.{Bool, true, false, cond}
 use Prim.Native.Nat.{ℕ, suc, ◌+◌, ◌*◌, ◌/◌, ◌≤◌, ◌<◌}
@@ -67,18 +67,18 @@ pub one_fits : (p : List ℕ) (f : OstFid) (r j : ℕ) → up_to f (take 1 (drop
 one_fits p f r j = let l = drop j (slots_of (row_at (parse_parents p) r)) in omega (arith, up_to_most f (take 1 l), take_one l)
 
 module _ (ps : List ParentRow) (f : OstFid) (r j n : ℕ) (w : n ≡ width ps r) where
-  pub claimed_past : n ≤ j → (None ≡ cond (names_at ps f r j) (Some (r, j)) None) × (0 ≡ up_to f (take 1 (drop j (slots_of (row_at ps r)))))
+  pub claimed_past : n ≤ j → (◌≡◌ {A = Option (ℕ × ℕ)} None (cond (names_at ps f r j) (Some (r, j)) None)) × (0 ≡ up_to f (take 1 (drop j (slots_of (row_at ps r)))))
   unfolding names_at slot_at slot_names width
   claimed_past h =
       let l = slots_of (row_at ps r) in
       (rw (get_or-eq_default l Hole {n = j} (omega arith)), sym (one_past f l j (omega arith)))
 
   module _ (h : j < n) where
-    pub claimed_hit : names_at ps f r j ≡ true → (Some (r, j) ≡ cond (names_at ps f r j) (Some (r, j)) None) × (1 ≡ up_to f (take 1 (drop j (slots_of (row_at ps r)))))
+    pub claimed_hit : names_at ps f r j ≡ true → (◌≡◌ {A = Option (ℕ × ℕ)} (Some (r, j)) (cond (names_at ps f r j) (Some (r, j)) None)) × (1 ≡ up_to f (take 1 (drop j (slots_of (row_at ps r)))))
     unfolding width
     claimed_hit t = (rw t, sym (one_there f (slots_of (row_at ps r)) j (omega arith)))
 
-    pub claimed_miss : names_at ps f r j ≡ false → (None ≡ cond (names_at ps f r j) (Some (r, j)) None) × (1 ≡ up_to f (take 1 (drop j (slots_of (row_at ps r)))))
+    pub claimed_miss : names_at ps f r j ≡ false → (◌≡◌ {A = Option (ℕ × ℕ)} None (cond (names_at ps f r j) (Some (r, j)) None)) × (1 ≡ up_to f (take 1 (drop j (slots_of (row_at ps r)))))
     unfolding width
     claimed_miss t = (rw t, sym (one_there f (slots_of (row_at ps r)) j (omega arith)))
 

@@ -46,7 +46,6 @@ module _ (f : OstFid) (l : List Slot) (rest : List (List Slot)) (here there : Op
 
 -- the claimed slot is a hit where it is found
 pub hit_there : (ps : List ParentRow) (f : OstFid) (r j : ℕ) → hit f (take 1 (drop j (slots_of (row_at ps r)))) ≡ is_somewhere (cond (names_at ps f r j) (Some (r, j)) None)
-unfolding is_somewhere
 hit_there ps f r j = hit_claimed ps f r j ∙ go (names_at ps f r j)
   where
     go : (b : Bool) → b ≡ is_somewhere (cond b (Some (r, j)) None)
@@ -65,13 +64,13 @@ unnamed (nowhere f) e r j = f r j
 unnamed (first t f g) e r j = let z : ◌≡◌ {A = ℕ} 0 1 = cc in absurd (omega arith)
 
 last_found : (a b : Option (ℕ × ℕ)) (r j : ℕ) → is_somewhere (or_else a (or_else b (Some (r, j)))) ≡ true
-unfolding or_else is_somewhere
+unfolding or_else
 last_found (Some (k, i)) b r j = refl
 last_found None (Some (k, i)) r j = refl
 last_found None None r j = refl
 
 pub named_kept : (ps : List ParentRow) (f : OstFid) (c : Option Place) → is_somewhere (keeper_by ps f c) ≡ named ps f
-unfolding named keeper_by is_somewhere
+unfolding named keeper_by
 named_kept ps f c = go (scan ps (names_at ps f)) refl
   where
     none : scan ps (names_at ps f) ≡ None → (k : Option (ℕ × ℕ)) → keeper_by ps f c ≡ k → is_somewhere k ≡ is_somewhere None

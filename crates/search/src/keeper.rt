@@ -11,16 +11,13 @@ ghost use Rattle.rules.specs.Compared.{in_turn, all_slots, compared_by};
 use super::{naming, parents, slots};
 use fid::OstFid;
 use rules::Search;
-use tables::Place;
+use tables::{Object, Place};
 
 // What an object claims: nothing where it is absent.
 pub fn claim_in(found: Option<Object>) -> Option<Place>
     ensures { result ≡ claim_in found }
 {
-    match found {
-        None => None,
-        Some(x) => x.claim,
-    }
+    found?.claim
 }
 
 // One case after another that found nothing: the slots of both are counted.
@@ -29,10 +26,9 @@ fn after(missed: usize, next: Search) -> Search
     ensures place { result.place ≡ next.place }
     ensures compared { result.compared ≡ missed + next.compared }
 {
-    let place = next.place;
     Search {
-        place: place,
         compared: missed + next.compared,
+        ..next
     }
 }
 
@@ -43,8 +39,7 @@ fn search_in(parents: &[u8], f: OstFid, r: usize) -> Search
     ensures compared { result.compared ≡ in_turn f (slots_of (row_at (parse_parents parents.now) r) ∷ all_slots (parse_parents parents.now) ∷ []) }
 {
     let near = slots::first_in(parents, f, r);
-    let place = near.place;
-    if naming::is_somewhere(place) {
+    if near.place.is_some() {
         return near;
     }
     after(near.compared, naming::first_naming(parents, f))
@@ -57,8 +52,7 @@ fn search_from(parents: &[u8], f: OstFid, r: usize, j: usize) -> Search
     ensures compared { result.compared ≡ in_turn f (take 1 (drop j (slots_of (row_at (parse_parents parents.now) r))) ∷ slots_of (row_at (parse_parents parents.now) r) ∷ all_slots (parse_parents parents.now) ∷ []) }
 {
     let claimed = slots::claimed_at(parents, f, r, j);
-    let place = claimed.place;
-    if naming::is_somewhere(place) {
+    if claimed.place.is_some() {
         return claimed;
     }
     after(claimed.compared, search_in(parents, f, r))
@@ -71,8 +65,7 @@ fn search_at(parents: &[u8], f: OstFid, place: Place) -> Search
     ensures place { result.place ≡ keeper_by (parse_parents parents.now) f (Some place) }
     ensures compared { result.compared ≡ compared_by (parse_parents parents.now) f (Some place) }
 {
-    let row = parents::parent_row(parents, place.file);
-    match row {
+    match parents::parent_row(parents, place.file) {
         None => naming::first_naming(parents, f),
         Some(r) => search_from(parents, f, r, place.index as usize),
     }
@@ -95,6 +88,5 @@ pub fn keeper_by(parents: &[u8], f: OstFid, claim: Option<Place>) -> Option<(usi
     requires { (good_layouts parents.now ≡ true) × (none_twice (parent_rows parents.now) ≡ true) }
     ensures { result ≡ keeper_by (parse_parents parents.now) f claim }
 {
-    let found = search(parents, f, claim);
-    found.place
+    search(parents, f, claim).place
 }

@@ -3,7 +3,6 @@ ghost use Rattle.std.specs.Prelude.{◌≡◌, true, not, ◌&&◌, eqb};
 ghost use Rattle.layout.specs.Slot.{slot_names};
 ghost use Rattle.tables.specs.Bytes.{parse_parents};
 ghost use Rattle.tables.specs.Check.{good_layouts};
-ghost use Rattle.rules.specs.Search.{is_somewhere};
 ghost use Rattle.rules.specs.Rows.{names_at, scan, named, names_else, named_else};
 ghost use Rattle.rules.specs.Compared.{up_to, all_slots};
 
@@ -14,27 +13,11 @@ use rules::Search;
 use tables::rows;
 use tables::rows::PARENT_SIZE;
 
-// Whether a search found something.
-pub fn is_somewhere(found: Option<(usize, usize)>) -> bool
-    ensures { result ≡ is_somewhere found }
-{
-    match found {
-        Some(_) => true,
-        None => false,
-    }
-}
-
 // Whether slot i of row k, which is s, names an object and is not slot j of row r.
 fn names_else(s: Slot, f: OstFid, k: usize, i: usize, r: usize, j: usize) -> bool
     ensures { result ≡ (slot_names f s && not (eqb k r && eqb i j)) }
 {
-    if !layout::names(s, f) {
-        return false;
-    }
-    if k != r {
-        return true;
-    }
-    i != j
+    layout::names(s, f) && (k != r || i != j)
 }
 
 // The first slot in scan order that names an object, and the slots compared up to it. The search stops at the first parent and
@@ -58,10 +41,7 @@ pub fn first_naming(parents: &[u8], f: OstFid) -> Search
             }
         }
     }
-    Search {
-        place: place,
-        compared: compared,
-    }
+    Search { place, compared }
 }
 
 // The first slot in scan order that names an object, other than slot j of row r.
@@ -89,9 +69,7 @@ pub fn named(parents: &[u8], f: OstFid) -> bool
     requires { good_layouts parents.now ≡ true }
     ensures { result ≡ named (parse_parents parents.now) f }
 {
-    let first = first_naming(parents, f);
-    let place = first.place;
-    is_somewhere(place)
+    first_naming(parents, f).place.is_some()
 }
 
 // Whether a slot other than slot j of row r names an object.
@@ -99,5 +77,5 @@ pub fn named_else(parents: &[u8], f: OstFid, r: usize, j: usize) -> bool
     requires { good_layouts parents.now ≡ true }
     ensures { result ≡ named_else (parse_parents parents.now) f r j }
 {
-    is_somewhere(first_else(parents, f, r, j))
+    first_else(parents, f, r, j).is_some()
 }

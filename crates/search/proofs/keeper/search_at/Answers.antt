@@ -13,7 +13,7 @@ use Rattle.search.proofs.keeper.search_at.Goals.{After-struct_known-1}
 row_is : (c : goal.After-struct_known-1) →
     let a = c.args in
     parent_row (parse_parents a.parents.now) a.place.file ≡ Some c.in-Some.r
-row_is c = sym c.parent_row-row.ensures ∙ c.in-Some.is
+row_is c = sym c.parent_row.ensures ∙ c.in-Some.is
 
 pub search_from-requires : goal.search_from-requires
 search_from-requires c =
@@ -24,7 +24,7 @@ pub returns-in-None : goal.returns-in-None
 returns-in-None c =
     let d = c in
     let ps = parse_parents d.args.parents.now in
-    let none = sym c.parent_row-row.ensures ∙ c.in-None.is in record {
+    let none = sym c.parent_row.ensures ∙ c.in-None.is in record {
       place = c.first_naming.ensures.place ∙ keeper_absent ps d.args.f d.args.place (checked_parents d.args.parents.now d.requires.1) none;
       compared = c.first_naming.ensures.compared ∙ compared_absent ps d.args.f d.args.place none;
     }

@@ -1,21 +1,21 @@
 use mathlib.Core.Path.{sym, ap, ◌∙◌}
-use Rattle.std.specs.Prelude.{Some}
 use native.Mathlib.Omega.{arith}
+use Rattle.std.specs.Prelude.{Some}
 use Rattle.tables.specs.declared.Object.{Object}
 use Rattle.search.proofs.FoundRows.{object_inside, lookup_missing, lookup_present}
 use Rattle.search.proofs.objects.lookup.Goals as goal
 
-pub row_at-row-requires : goal.row_at-row-requires
-row_at-row-requires c =
+pub returns-in_err-o : goal.returns-in_err-o
+returns-in_err-o c = let a = c.args in let none = lookup_missing a.objects.now a.f (sym c.object_row.ensures ∙ c.in_err-o.was) in cc
+
+pub row_at-requires : goal.row_at-requires
+row_at-requires c =
     let a = c.args in
-    let h = object_inside a.objects.now a.f c.in-Some.o (sym c.object_row-found.ensures ∙ c.in-Some.is) in
+    let h = object_inside a.objects.now a.f c.in_ok-o.o (sym c.object_row.ensures ∙ c.in_ok-o.was) in
     omega arith
 
-pub returns-in-None : goal.returns-in-None
-returns-in-None c = let a = c.args in lookup_missing a.objects.now a.f (sym c.object_row-found.ensures ∙ c.in-None.is)
-
-pub returns-in-Some : goal.returns-in-Some
-returns-in-Some c =
+pub returns : goal.returns
+returns c =
     let a = c.args in
     ap (λ (x : Object). Some x) c.decode_object.ensures
-    ∙ lookup_present a.objects.now a.f c.in-Some.o _ (sym c.object_row-found.ensures ∙ c.in-Some.is) c.row_at-row.ensures.0
+    ∙ lookup_present a.objects.now a.f c.in_ok-o.o _ (sym c.object_row.ensures ∙ c.in_ok-o.was) c.row_at.ensures.0
