@@ -8,7 +8,7 @@ ghost use Rattle.rules.specs.Classes.{unnamed_class, object_class};
 
 use classify_places::places;
 use rules::ObjectClass;
-use search::{keeper, naming};
+use search::keeper;
 use tables::rows::OBJECT_SIZE;
 use tables::rows;
 
@@ -43,10 +43,8 @@ pub fn object_class(parents: &[u8], objects: &[u8], o: usize) -> ObjectClass
         return ObjectClass::UNUSED;
     }
     let x = rows::decode_object(row);
-    let name = x.fid;
-    let claim = x.claim;
-    if naming::is_somewhere(keeper::keeper_by(parents, name, claim)) {
+    if keeper::keeper_by(parents, x.fid, x.claim).is_some() {
         return ObjectClass::KEPT;
     }
-    unnamed_class(parents, objects, x.fresh, claim)
+    unnamed_class(parents, objects, x.fresh, x.claim)
 }

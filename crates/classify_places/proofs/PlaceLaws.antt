@@ -2,7 +2,7 @@
 use mathlib.Core.Path.{◌≡◌, ap}
 use Rattle.std.specs.Prelude.{Option, Some, None}
 use mathlib.Core.List.{List}
-use mathlib.Core.Bool.{Bool, true, false, not}
+use mathlib.Core.Bool.{Bool, true, false, not, ◌&&◌}
 use Prim.Native.Nat.{ℕ, ◌≤◌, ◌<◌}
 use borrow.Author.Tests.{lt-ltb, le-ltb}
 use Rattle.fid.specs.declared.OstFid.{OstFid}
@@ -27,18 +27,14 @@ module _ (p o : List ℕ) (home : Place) (g : OstFid) (r i : ℕ) (found : Optio
   take_missing h = rw (← e, h)
 
   module _ (x : Object) (h : found ≡ Some x) where
-    pub take_stale : x.fresh ≡ false → false ≡ takeable (parse_parents p) home g r i (object_of (parse_objects o) g)
+    pub take_other : (x.fresh && claims x.claim home) ≡ false → false ≡ takeable (parse_parents p) home g r i (object_of (parse_objects o) g)
     unfolding takeable
-    take_stale s = rw (← e, h, s)
+    take_other s = rw (← e, h, s)
 
-    pub take_other : x.fresh ≡ true → claims x.claim home ≡ false → false ≡ takeable (parse_parents p) home g r i (object_of (parse_objects o) g)
-    unfolding takeable
-    take_other s k = rw (← e, h, s, k)
-
-    pub take_alone : x.fresh ≡ true → claims x.claim home ≡ true → (b : Bool) → b ≡ named_else (parse_parents p) g r i →
+    pub take_alone : (x.fresh && claims x.claim home) ≡ true → (b : Bool) → b ≡ named_else (parse_parents p) g r i →
         not b ≡ takeable (parse_parents p) home g r i (object_of (parse_objects o) g)
     unfolding takeable
-    take_alone s k b t = rw (← e, h, s, k) (ap not t)
+    take_alone s b t = rw (← e, h, s) (ap not t)
 
 -- ## A slot
 

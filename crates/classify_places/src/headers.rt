@@ -16,11 +16,7 @@ use tables::rows::PARENT_SIZE;
 fn own_right(h: Header, f: MdtFid) -> bool
     ensures { result ≡ (eqb h.oid f.0.oid && eqb h.seq f.0.seq) }
 {
-    let own = f.0;
-    if h.oid != own.oid as u64 {
-        return false;
-    }
-    h.seq == own.seq
+    h.oid == f.0.oid as u64 && h.seq == f.0.seq
 }
 
 // The class of the header of parent row r.

@@ -18,13 +18,7 @@ pub fn claim_is(claim: Option<Place>, f: MdtFid, i: usize) -> bool
 {
     match claim {
         None => false,
-        Some(place) => {
-            let file = place.file;
-            if !fid::same_mdt(file, f) {
-                return false;
-            }
-            place.index as usize == i
-        }
+        Some(place) => fid::same_mdt(place.file, f) && place.index as usize == i,
     }
 }
 
@@ -33,21 +27,12 @@ fn takeable(parents: &[u8], objects: &[u8], place: Place, g: OstFid, r: usize, j
     requires { good_layouts parents.now ≡ true }
     ensures { result ≡ takeable (parse_parents parents.now) place g r j (object_of (parse_objects objects.now) g) }
 {
-    let found = search::objects::lookup(objects, g);
-    match found {
-        None => false,
-        Some(x) => {
-            if !x.fresh {
-                return false;
-            }
-            let claim = x.claim;
-            let file = place.file;
-            if !claim_is(claim, file, place.index as usize) {
-                return false;
-            }
-            !naming::named_else(parents, g, r, j)
-        }
-    }
+    let Some(x) = search::objects::lookup(objects, g) else {
+        return false;
+    };
+    x.fresh
+        && claim_is(x.claim, place.file, place.index as usize)
+        && !naming::named_else(parents, g, r, j)
 }
 
 // How slot j of row r, which is s and the place, can be had: a hole is filled, a fresh object's slot taken.
@@ -92,9 +77,7 @@ pub fn way(parents: &[u8], objects: &[u8], place: Place) -> Way
     if MAX_SLOTS <= place.index as usize {
         return Way::NoWay;
     }
-    let file = place.file;
-    let row = search::parents::parent_row(parents, file);
-    match row {
+    match search::parents::parent_row(parents, place.file) {
         None => Way::NewParent,
         Some(r) => row_way(parents, objects, place, r),
     }
@@ -104,11 +87,5 @@ pub fn way(parents: &[u8], objects: &[u8], place: Place) -> Way
 pub fn is_way(w: Way) -> bool
     ensures { result ≡ is_way w }
 {
-    match w {
-        Way::NoWay => false,
-        Way::NewParent => true,
-        Way::Fill(_) => true,
-        Way::Grow(_) => true,
-        Way::Take(_) => true,
-    }
+    !matches!(w, Way::NoWay)
 }

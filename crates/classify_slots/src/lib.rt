@@ -21,25 +21,14 @@ use tables::{Owner, rows};
 pub fn is_place(found: Option<(usize, usize)>, r: usize, j: usize) -> bool
     ensures { result ≡ is_place found r j }
 {
-    match found {
-        None => false,
-        Some((k, i)) => {
-            if k != r {
-                return false;
-            }
-            i == j
-        }
-    }
+    found == Some((r, j))
 }
 
 // Whether uid and gid are the same.
 pub fn same_owner(a: Owner, b: Owner) -> bool
     ensures { result ≡ same_owner a b }
 {
-    if a.uid != b.uid {
-        return false;
-    }
-    a.gid == b.gid
+    a == b
 }
 
 // The class of a keeper whose object claims it, by whether the object is on the slot's OST and has the file's owner: WRONG-OST,
@@ -64,8 +53,7 @@ fn claim_class(file: MdtFid, j: usize, there: bool, owned: bool, claim: Option<P
         None => SlotClass::BLANK,
         Some(place) => {
             if !places::claim_is(claim, file, j) {
-                let f = place.file;
-                return SlotClass::UNMATCHED(f, place.index);
+                return SlotClass::UNMATCHED(place.file, place.index);
             }
             claimed_class(there, owned)
         }
@@ -79,11 +67,7 @@ fn keeper_class(file: MdtFid, owner: Owner, j: usize, ost: u32, found: Option<Ob
 {
     match found {
         None => SlotClass::DANGLING,
-        Some(x) => {
-            let theirs = x.owner;
-            let claim = x.claim;
-            claim_class(file, j, x.ost == ost, same_owner(theirs, owner), claim)
-        }
+        Some(x) => claim_class(file, j, x.ost == ost, same_owner(x.owner, owner), x.claim),
     }
 }
 
@@ -92,8 +76,7 @@ pub fn slot_class(parents: &[u8], objects: &[u8], r: usize, j: usize) -> SlotCla
     requires { Sound parents.now objects.now × (r < length parents.now / parent_size) }
     ensures { result ≡ slot_class (parse parents.now objects.now) r j }
 {
-    let slot = search::slots::slot_of(parents, r, j);
-    match slot {
+    match search::slots::slot_of(parents, r, j) {
         Slot::Hole => SlotClass::HOLE,
         Slot::Names(f, _, ost) => {
             let found = objects::lookup(objects, f);

@@ -16,6 +16,7 @@ ghost use Rattle.rules.specs.Settings.{settings_of, adopts};
 
 use classify_places::places;
 use layout::Slot;
+use refusals::Refusal;
 use rules::{ObjectClass, Repair, Step, Way, Write};
 use search::slots;
 use tables::rows::{OBJECT_SIZE, PARENT_SIZE};
@@ -42,13 +43,10 @@ fn drop_named(objects: &[u8], s: Slot) -> Write
 {
     match s {
         Slot::Hole => Write::Nothing,
-        Slot::Names(g, _, _) => {
-            let found = search::objects::object_row(objects, g);
-            match found {
-                None => Write::Nothing,
-                Some(o) => Write::Destroy(o),
-            }
-        }
+        Slot::Names(g, _, _) => match search::objects::object_row(objects, g) {
+            None => Write::Nothing,
+            Some(o) => Write::Destroy(o),
+        },
     }
 }
 
@@ -57,21 +55,16 @@ fn adopt_new(parents: &[u8], objects: &[u8], x: Object, place: Place) -> Step
     requires { Sound parents.now objects.now × (place.index < max_slots) }
     ensures { Decides parents.now objects.now result (λ T. make_parent x place (free_parent T.parents)) }
 {
-    let free = search::parents::free_parent(parents);
-    match free {
-        None => Step::Stops(23),
-        Some(r) => {
-            let w = x.owner;
-            let s = taking::slot_for(x);
-            let f = place.file;
-            Step::Repairs(
-                Repair::OfOrphan,
-                Write::Make(r, f, w, place.index as usize, s),
-                Write::Nothing,
-                Write::Nothing,
-            )
-        }
-    }
+    let Some(r) = search::parents::free_parent(parents) else {
+        return Step::Stops(Refusal::NoParentRow);
+    };
+    let s = taking::slot_for(x);
+    Step::Repairs(
+        Repair::OfOrphan,
+        Write::Make(r, place.file, x.owner, place.index as usize, s),
+        Write::Nothing,
+        Write::Nothing,
+    )
 }
 
 // ORPHAN: object x of row k is put in a place, by the way in which it can be had.
@@ -79,9 +72,8 @@ fn adopt_by(parents: &[u8], objects: &[u8], k: usize, x: Object, place: Place) -
     requires { Sound parents.now objects.now × (k < length objects.now / object_size) }
     ensures { Decides parents.now objects.now result (λ T. adopt_by T k x place (way T place)) }
 {
-    let way = places::way(parents, objects, place);
     let j = place.index as usize;
-    match way {
+    match places::way(parents, objects, place) {
         Way::NoWay => Step::Rests,
         Way::NewParent => adopt_new(parents, objects, x, place),
         Way::Fill(r) => {
@@ -109,8 +101,7 @@ fn adopt(parents: &[u8], objects: &[u8], k: usize) -> Step
     ensures { Decides parents.now objects.now result (λ T. adopt T k (row_object objects.now k) (row_object objects.now k).claim) }
 {
     let x = rows::decode_object(rows::row_at(objects, OBJECT_SIZE, k));
-    let claim = x.claim;
-    match claim {
+    match x.claim {
         None => Step::Rests,
         Some(place) => adopt_by(parents, objects, k, x, place),
     }
@@ -124,12 +115,11 @@ pub fn object(parents: &[u8], objects: &[u8], reserve: &[u8], policy: u64, k: us
     if !may_adopt(policy) {
         return Step::Rests;
     }
-    let class = classify_objects::object_class(parents, objects, k);
-    match class {
-        ObjectClass::UNUSED => Step::Rests,
-        ObjectClass::KEPT => Step::Rests,
-        ObjectClass::SPARE => Step::Rests,
-        ObjectClass::CONFLICT => Step::Rests,
+    match classify_objects::object_class(parents, objects, k) {
+        ObjectClass::UNUSED
+        | ObjectClass::KEPT
+        | ObjectClass::SPARE
+        | ObjectClass::CONFLICT => Step::Rests,
         ObjectClass::EMPTY => {
             Step::Repairs(
                 Repair::OfEmpty,

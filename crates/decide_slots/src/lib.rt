@@ -18,6 +18,7 @@ ghost use Rattle.rules.specs.Settings.{settings_of, creates};
 use classify_places::{headers, places};
 use fid::OstFid;
 use layout::Slot;
+use refusals::Refusal;
 use rules::{HeaderClass, Repair, SlotClass, Step, Write};
 use tables::rows::{OBJECT_SIZE, PARENT_SIZE};
 use tables::{Object, Place, rows};
@@ -27,10 +28,8 @@ pub fn header(parents: &[u8], objects: &[u8], r: usize) -> Step
     requires { Sound parents.now objects.now × (r < length parents.now / parent_size) }
     ensures { Decides parents.now objects.now result (λ T. repair_header T r (header_class (row_at T.parents r))) }
 {
-    let class = headers::header_class(parents, r);
-    match class {
-        HeaderClass::UNUSED => Step::Rests,
-        HeaderClass::CLEAN => Step::Rests,
+    match headers::header_class(parents, r) {
+        HeaderClass::UNUSED | HeaderClass::CLEAN => Step::Rests,
         HeaderClass::SELF => {
             Step::Repairs(
                 Repair::OfSelf,
@@ -50,15 +49,11 @@ fn new_object(parents: &[u8], r: usize, j: u32, f: OstFid, ost: u32) -> Object
     let row = rows::row_at(parents, PARENT_SIZE, r);
     let owner = rows::owner_of(row);
     let file = rows::self_of(row);
-    let place = Place {
-        file: file,
-        index: j,
-    };
     Object {
         fid: f,
-        ost: ost,
-        owner: owner,
-        claim: Some(place),
+        ost,
+        owner,
+        claim: Some(Place { file, index: j }),
         fresh: true,
     }
 }
@@ -68,20 +63,17 @@ fn redirect_to(parents: &[u8], objects: &[u8], r: usize, j: u32, ost: u32, f: Os
     requires { SlotReady parents.now objects.now r j }
     ensures { Decides parents.now objects.now result (λ T. redirect_to T.parents r j ost f (free_object T.objects)) }
 {
-    let free = search::objects::free_object(objects);
-    match free {
-        None => Step::Stops(22),
-        Some(o) => {
-            let x = new_object(parents, r, j, f, ost);
-            let s = Slot::Names(f, 0, ost);
-            Step::Repairs(
-                Repair::OfMultiple,
-                Write::Object(o, x),
-                Write::Slot(r, j as usize, s),
-                Write::Nothing,
-            )
-        }
-    }
+    let Some(o) = search::objects::free_object(objects) else {
+        return Step::Stops(Refusal::NoObjectRow);
+    };
+    let x = new_object(parents, r, j, f, ost);
+    let s = Slot::Names(f, 0, ost);
+    Step::Repairs(
+        Repair::OfMultiple,
+        Write::Object(o, x),
+        Write::Slot(r, j as usize, s),
+        Write::Nothing,
+    )
 }
 
 // MULTIPLE: the first usable FID of the reserve, then a row for the object.
@@ -89,9 +81,8 @@ fn redirect(parents: &[u8], objects: &[u8], reserve: &[u8], r: usize, j: u32, os
     requires { SlotReady parents.now objects.now r j }
     ensures { Decides parents.now objects.now result (λ T. redirect T r j ost (usable T (parse_reserve reserve.now))) }
 {
-    let found = search::reserve::usable(parents, objects, reserve);
-    match found {
-        None => Step::Stops(21),
+    match search::reserve::usable(parents, objects, reserve) {
+        None => Step::Stops(Refusal::NoReserve),
         Some(f) => redirect_to(parents, objects, r, j, ost, f),
     }
 }
@@ -114,12 +105,7 @@ fn multiple(
     }
     let row = rows::row_at(parents, PARENT_SIZE, r);
     let file = rows::self_of(row);
-    let place = Place {
-        file: file,
-        index: j,
-    };
-    let found = taking::reusable(parents, objects, place);
-    match found {
+    match taking::reusable(parents, objects, Place { file, index: j }) {
         None => redirect(parents, objects, reserve, r, j, ost),
         Some(o) => taking::reuse(parents, objects, r, j, o),
     }
@@ -130,15 +116,12 @@ fn make_object(parents: &[u8], objects: &[u8], r: usize, j: u32, ost: u32, f: Os
     requires { SlotReady parents.now objects.now r j }
     ensures { Decides parents.now objects.now result (λ T. make_object (new_object T.parents f r j ost) (free_object T.objects)) }
 {
-    let free = search::objects::free_object(objects);
-    match free {
-        None => Step::Stops(22),
-        Some(o) => {
-            let x = new_object(parents, r, j, f, ost);
-            let object = Write::Object(o, x);
-            Step::Repairs(Repair::OfDangling, object, Write::Nothing, Write::Nothing)
-        }
-    }
+    let Some(o) = search::objects::free_object(objects) else {
+        return Step::Stops(Refusal::NoObjectRow);
+    };
+    let x = new_object(parents, r, j, f, ost);
+    let object = Write::Object(o, x);
+    Step::Repairs(Repair::OfDangling, object, Write::Nothing, Write::Nothing)
 }
 
 // The keeper's object with the claim of slot j of row r and that parent's owner.
@@ -149,17 +132,10 @@ fn mended(parents: &[u8], r: usize, j: u32, x: Object) -> Object
     let row = rows::row_at(parents, PARENT_SIZE, r);
     let owner = rows::owner_of(row);
     let file = rows::self_of(row);
-    let name = x.fid;
-    let place = Place {
-        file: file,
-        index: j,
-    };
     Object {
-        fid: name,
-        ost: x.ost,
-        owner: owner,
-        claim: Some(place),
-        fresh: x.fresh,
+        owner,
+        claim: Some(Place { file, index: j }),
+        ..x
     }
 }
 
@@ -169,12 +145,10 @@ fn mend_write(parents: &[u8], r: usize, j: u32, o: usize, x: Object) -> Write
     ensures { result ≡ mend_write (parse_parents parents.now) r j o x }
 {
     let row = rows::row_at(parents, PARENT_SIZE, r);
-    let claim = x.claim;
-    let owner = x.owner;
-    if places::claim_is(claim, rows::self_of(row), j as usize) {
-        if classify_slots::same_owner(owner, rows::owner_of(row)) {
-            return Write::Nothing;
-        }
+    if places::claim_is(x.claim, rows::self_of(row), j as usize)
+        && classify_slots::same_owner(x.owner, rows::owner_of(row))
+    {
+        return Write::Nothing;
     }
     Write::Object(o, mended(parents, r, j, x))
 }
@@ -203,17 +177,13 @@ fn mend(
     requires { SlotReady parents.now objects.now r j }
     ensures { Decides parents.now objects.now result (λ T. mend_at T class r j f generation ost (object_row T.objects f)) }
 {
-    let found = search::objects::object_row(objects, f);
-    match found {
-        None => Step::Rests,
-        Some(o) => {
-            let x = rows::decode_object(rows::row_at(objects, OBJECT_SIZE, o));
-            let index = x.ost;
-            let object = mend_write(parents, r, j, o, x);
-            let layout = index_write(r, j, f, generation, ost, index);
-            Step::Repairs(class, object, layout, Write::Nothing)
-        }
-    }
+    let Some(o) = search::objects::object_row(objects, f) else {
+        return Step::Rests;
+    };
+    let x = rows::decode_object(rows::row_at(objects, OBJECT_SIZE, o));
+    let object = mend_write(parents, r, j, o, x);
+    let layout = index_write(r, j, f, generation, ost, x.ost);
+    Step::Repairs(class, object, layout, Write::Nothing)
 }
 
 // Whether a policy creates: bit 0.
@@ -238,10 +208,8 @@ fn named_slot(
     requires { SlotReady parents.now objects.now r j }
     ensures { Decides parents.now objects.now result (λ T. repair_slot (settings_of policy reserve.now) T r j f n ost (slot_class T r j)) }
 {
-    let class = classify_slots::slot_class(parents, objects, r, j as usize);
-    match class {
-        SlotClass::HOLE => Step::Rests,
-        SlotClass::CLEAN => Step::Rests,
+    match classify_slots::slot_class(parents, objects, r, j as usize) {
+        SlotClass::HOLE | SlotClass::CLEAN => Step::Rests,
         SlotClass::MULTIPLE => multiple(parents, objects, reserve, policy, r, j, ost),
         SlotClass::DANGLING => {
             if !creates(policy) {
@@ -261,8 +229,7 @@ pub fn slot(parents: &[u8], objects: &[u8], reserve: &[u8], policy: u64, r: usiz
     requires { Sound parents.now objects.now × (r < length parents.now / parent_size) }
     ensures { Decides parents.now objects.now result (λ T. slot_step (settings_of policy reserve.now) T r j (slot_at T.parents r j)) }
 {
-    let slot = search::slots::slot_of(parents, r, j);
-    match slot {
+    match search::slots::slot_of(parents, r, j) {
         Slot::Hole => Step::Rests,
         Slot::Names(f, n, ost) => named_slot(
             parents, objects, reserve, policy, r, j as u32, f, n, ost,

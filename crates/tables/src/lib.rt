@@ -6,7 +6,7 @@ pub mod rows;
 use fid::{MdtFid, OstFid};
 
 // The uid and gid of a file or an object.
-#[derive(Clone, Copy)]
+#[derive(Clone, Copy, PartialEq, Eq)]
 pub struct Owner {
     pub uid: u32,
     pub gid: u32,

@@ -19,28 +19,17 @@ use tables::{Object, Owner, Place, rows};
 pub fn slot_for(x: Object) -> Slot
     ensures { result ≡ slot_for x }
 {
-    let name = x.fid;
-    Slot::Names(name, 0, x.ost)
+    Slot::Names(x.fid, 0, x.ost)
 }
 
 // The owner of object x, of row k, where it differs.
 pub fn owner_write(k: usize, x: Object, w: Owner) -> Write
     ensures { result ≡ owner_write k x w }
 {
-    let owner = x.owner;
-    if classify_slots::same_owner(owner, w) {
+    if classify_slots::same_owner(x.owner, w) {
         return Write::Nothing;
     }
-    let name = x.fid;
-    let claim = x.claim;
-    let owned = Object {
-        fid: name,
-        ost: x.ost,
-        owner: w,
-        claim: claim,
-        fresh: x.fresh,
-    };
-    Write::Object(k, owned)
+    Write::Object(k, Object { owner: w, ..x })
 }
 
 // Whether a row has an object that is fresh, claims this very place and is named by no slot.
@@ -52,16 +41,9 @@ fn is_reusable(parents: &[u8], place: Place, row: &[u8]) -> bool
         return false;
     }
     let x = rows::decode_object(row);
-    if !x.fresh {
-        return false;
-    }
-    let claim = x.claim;
-    let file = place.file;
-    if !places::claim_is(claim, file, place.index as usize) {
-        return false;
-    }
-    let name = x.fid;
-    !search::naming::named(parents, name)
+    x.fresh
+        && places::claim_is(x.claim, place.file, place.index as usize)
+        && !search::naming::named(parents, x.fid)
 }
 
 // The first row with such an object.
