@@ -15,7 +15,7 @@ use layout::Slot;
 use rules::SlotClass;
 use search::{keeper, objects};
 use tables::rows::PARENT_SIZE;
-use tables::{Owner, rows};
+use tables::{Object, Owner, Place, rows};
 
 // Whether what a search found is slot j of row r.
 pub fn is_place(found: Option<(usize, usize)>, r: usize, j: usize) -> bool

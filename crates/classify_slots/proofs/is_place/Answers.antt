@@ -1,14 +1,15 @@
-use native.Mathlib.Omega.{arith}
+use mathlib.Core.Path.{◌≡◌, refl, ◌∙◌}
+use Prim.Native.Nat.{ℕ}
+use mathlib.Core.Bool.{◌&&◌}
+use Rattle.std.specs.Prelude.{Option, Some, None, nat_eq}
+use Rattle.std.specs.Option.{option_eq}
 use Rattle.rules.specs.Keeper.{is_place}
-use Rattle.classify_places.proofs.ClaimLaws.{place_row, place_slot}
 use Rattle.classify_slots.proofs.is_place.Goals as goal
 
-pub returns-then-k-r : goal.returns-then-k-r
-returns-then-k-r c = let a = c.args in cc (place_row c.in-Some.k c.in-Some.i a.r a.j c.if-k-r.true)
-
-pub returns-in-None : goal.returns-in-None
+same_place : (o : Option (ℕ × ℕ)) (r j : ℕ) → option_eq (λ (x y : ℕ × ℕ). nat_eq x.0 y.0 && nat_eq x.1 y.1) o (Some (r, j)) ≡ is_place o r j
 unfolding is_place
-returns-in-None c = cc
+same_place None r j = refl
+same_place (Some p) r j = refl
 
-pub returns-else-k-r : goal.returns-else-k-r
-returns-else-k-r c = let a = c.args in cc (place_slot c.in-Some.k c.in-Some.i a.r a.j (omega arith))
+pub returns : goal.returns
+returns c = c.eq.ensures ∙ same_place c.args.found c.args.r c.args.j

@@ -7,11 +7,11 @@ use Rattle.classify_slots.proofs.slot_class.Goals.{In-Names}
 
 -- the slot names an object
 names : (c : goal.In-Names) →
-    c.slot_of-slot.result ≡ Names c.in-Names.f c.in-Names.field-1 c.in-Names.ost
+    c.slot_of.result ≡ Names c.in-Names.f c.in-Names.field-1 c.in-Names.ost
 names c = cc
 
-pub slot_of-slot-requires : goal.slot_of-slot-requires
-slot_of-slot-requires c = ((sound_facts _ _ c.requires.0).layouts, c.requires.1)
+pub slot_of-requires : goal.slot_of-requires
+slot_of-requires c = ((sound_facts _ _ c.requires.0).layouts, c.requires.1)
 
 pub keeper_by-keeper-requires : goal.keeper_by-keeper-requires
 keeper_by-keeper-requires c = let k = sound_facts _ _ c.requires.0 in (k.layouts, k.parents_differ)
@@ -19,17 +19,17 @@ keeper_by-keeper-requires c = let k = sound_facts _ _ c.requires.0 in (k.layouts
 pub returns-then-not-is_place : goal.returns-then-not-is_place
 returns-then-not-is_place c =
     let a = c.args in
-    class_multiple a.parents.now a.objects.now a.r a.j _ c.slot_of-slot.ensures c.in-Names.f c.in-Names.field-1 c.in-Names.ost (names (goal.at.returns-then-not-is_place c).In-Names)
+    class_multiple a.parents.now a.objects.now a.r a.j _ c.slot_of.ensures c.in-Names.f c.in-Names.field-1 c.in-Names.ost (names (goal.at.returns-then-not-is_place c).In-Names)
     _ c.lookup-found.ensures _ c.claim_in.ensures _ c.keeper_by-keeper.ensures _ c.is_place.ensures (c.if-not-is_place.true)
 
 pub returns-in-Hole : goal.returns-in-Hole
 returns-in-Hole c =
     let a = c.args in
-    class_hole a.parents.now a.objects.now a.r a.j _ c.slot_of-slot.ensures (cc)
+    class_hole a.parents.now a.objects.now a.r a.j _ c.slot_of.ensures (cc)
 
 pub returns-else-not-is_place : goal.returns-else-not-is_place
 returns-else-not-is_place c =
     let a = c.args in
-    class_keeper a.parents.now a.objects.now a.r a.j _ c.slot_of-slot.ensures c.in-Names.f c.in-Names.field-1 c.in-Names.ost (names (goal.at.returns-else-not-is_place c).In-Names)
+    class_keeper a.parents.now a.objects.now a.r a.j _ c.slot_of.ensures c.in-Names.f c.in-Names.field-1 c.in-Names.ost (names (goal.at.returns-else-not-is_place c).In-Names)
     _ c.lookup-found.ensures _ c.claim_in.ensures _ c.keeper_by-keeper.ensures _ c.is_place.ensures (c.if-not-is_place.false)
     _ _ _ _ c.requires.1 c.row_at-row.ensures.0 c.self_of.ensures c.owner_of.ensures c.keeper_class.ensures
