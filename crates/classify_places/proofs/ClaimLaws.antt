@@ -1,9 +1,9 @@
 -- Claims and owners: the tests, and the class of a keeper, case by case. Assumes nothing.
-use mathlib.Core.Path.{◌≡◌}
-use Rattle.std.specs.Prelude.{Option, Some}
-use mathlib.Core.Bool.{Bool, true, false}
+use mathlib.Core.Path.{◌≡◌, refl}
+use Rattle.std.specs.Prelude.{Option, Some, None, nat_eq}
+use Rattle.std.specs.Option.{option_eq}
+use mathlib.Core.Bool.{Bool, true, false, ◌&&◌}
 use Prim.Native.Nat.{ℕ}
-use borrow.Author.Tests.{eq-eqb, ne_eqb}
 use lib.Dec.{eqb}
 use Rattle.fid.specs.Fid.{same_fid}
 use Rattle.tables.specs.declared.Owner.{Owner}
@@ -16,23 +16,18 @@ use Rattle.rules.specs.declared.SlotClass.TheVariants.{UNMATCHED, WRONGOST as WR
 use Rattle.tables.specs.declared.Place.{Place}
 use Rattle.rules.specs.Places.{claims, same_place}
 
-module _ (k i r j : ℕ) where
-  pub place_row : (k ≡ r → ⊥) → false ≡ is_place (Some (k, i)) r j
-  unfolding is_place
-  place_row d = rw (ne_eqb k r d)
+-- ## What `==` says
 
-  pub place_slot : k ≡ r → eqb i j ≡ is_place (Some (k, i)) r j
-  unfolding is_place
-  place_slot e = rw (eq-eqb k r e)
+-- a place is found where it is the one that is looked for
+pub found_at : (o : Option (ℕ × ℕ)) (r j : ℕ) → option_eq (λ (x y : ℕ × ℕ). nat_eq x.0 y.0 && nat_eq x.1 y.1) o (Some (r, j)) ≡ is_place o r j
+unfolding is_place
+found_at None r j = refl
+found_at (Some p) r j = refl
 
-module _ (a b : Owner) where
-  pub owner_uid : (a.uid ≡ b.uid → ⊥) → false ≡ same_owner a b
-  unfolding same_owner
-  owner_uid d = rw (ne_eqb a.uid b.uid d)
-
-  pub owner_gid : a.uid ≡ b.uid → eqb a.gid b.gid ≡ same_owner a b
-  unfolding same_owner
-  owner_gid e = rw (eq-eqb a.uid b.uid e)
+-- owners are the same by uid and gid
+pub owners_eq : (a b : Owner) → (nat_eq a.uid b.uid && nat_eq a.gid b.gid) ≡ same_owner a b
+unfolding same_owner
+owners_eq a b = refl
 
 module _ (q home : Place) where
   pub claim_file : same_fid q.file.0 home.file.0 ≡ false → false ≡ claims (Some q) home

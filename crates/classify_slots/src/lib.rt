@@ -4,8 +4,6 @@
 ghost use Rattle.std.specs.Prelude.{◌≡◌, ◌/◌, ◌<◌, length};
 ghost use Rattle.tables.specs.Bytes.{parent_size, parse};
 ghost use Rattle.tables.specs.Check.{Sound};
-ghost use Rattle.rules.specs.Rows.{same_owner};
-ghost use Rattle.rules.specs.Keeper.{is_place};
 ghost use Rattle.rules.specs.Classes.{claimed_class, claim_class, keeper_class, slot_class};
 ghost use Rattle.rules.specs.Places.{place_at};
 
@@ -16,20 +14,6 @@ use rules::SlotClass;
 use search::{keeper, objects};
 use tables::rows::PARENT_SIZE;
 use tables::{Object, Owner, Place, rows};
-
-// Whether what a search found is slot j of row r.
-pub fn is_place(found: Option<(usize, usize)>, r: usize, j: usize) -> bool
-    ensures { result ≡ is_place found r j }
-{
-    found == Some((r, j))
-}
-
-// Whether uid and gid are the same.
-pub fn same_owner(a: Owner, b: Owner) -> bool
-    ensures { result ≡ same_owner a b }
-{
-    a == b
-}
 
 // The class of a keeper whose object claims it, by whether the object is on the slot's OST and has the file's owner: WRONG-OST,
 // then OWNER, then CLEAN.
@@ -67,7 +51,7 @@ fn keeper_class(file: MdtFid, owner: Owner, j: usize, ost: u32, found: Option<Ob
 {
     match found {
         None => SlotClass::DANGLING,
-        Some(x) => claim_class(file, j, x.ost == ost, same_owner(x.owner, owner), x.claim),
+        Some(x) => claim_class(file, j, x.ost == ost, x.owner == owner, x.claim),
     }
 }
 
@@ -81,7 +65,7 @@ pub fn slot_class(parents: &[u8], objects: &[u8], r: usize, j: usize) -> SlotCla
         Slot::Names(f, _, ost) => {
             let found = objects::lookup(objects, f);
             let keeper = keeper::keeper_by(parents, f, keeper::claim_in(found));
-            if !is_place(keeper, r, j) {
+            if keeper != Some((r, j)) {
                 return SlotClass::MULTIPLE;
             }
             let row = rows::row_at(parents, PARENT_SIZE, r);

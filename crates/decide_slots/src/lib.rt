@@ -146,7 +146,7 @@ fn mend_write(parents: &[u8], r: usize, j: u32, o: usize, x: Object) -> Write
 {
     let row = rows::row_at(parents, PARENT_SIZE, r);
     if places::claim_is(x.claim, rows::self_of(row), j as usize)
-        && classify_slots::same_owner(x.owner, rows::owner_of(row))
+        && x.owner == rows::owner_of(row)
     {
         return Write::Nothing;
     }

@@ -26,7 +26,7 @@ pub fn slot_for(x: Object) -> Slot
 pub fn owner_write(k: usize, x: Object, w: Owner) -> Write
     ensures { result ≡ owner_write k x w }
 {
-    if classify_slots::same_owner(x.owner, w) {
+    if x.owner == w {
         return Write::Nothing;
     }
     Write::Object(k, Object { owner: w, ..x })
