@@ -10,7 +10,7 @@ use classify_places::places;
 use rules::ObjectClass;
 use search::keeper;
 use tables::rows::OBJECT_SIZE;
-use tables::rows;
+use tables::{Place, rows};
 
 // The class of an object that no slot names: SPARE, EMPTY, ORPHAN, CONFLICT.
 fn unnamed_class(parents: &[u8], objects: &[u8], fresh: bool, claim: Option<Place>) -> ObjectClass

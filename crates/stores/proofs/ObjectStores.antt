@@ -1,5 +1,6 @@
 -- The stores of an object row. Assumes nothing.
-use mathlib.Core.Path.{◌≡◌, refl, sym, ◌∙◌}
+use mir.Val.{bool_byte}
+use mathlib.Core.Path.{ap, ◌≡◌, refl, sym, ◌∙◌}
 use Rattle.std.specs.Prelude.{Option, Some, None}
 use mathlib.Core.List.{List, [], ◌∷◌, ◌++◌}
 use Prim.Native.Nat.{ℕ}
@@ -19,13 +20,11 @@ use Rattle.rules.specs.Repairs.{destroyed}
 use Rattle.stores.proofs.StoreLaws.{length_owner}
 use Rattle.tables.specs.declared.Place.{Place}
 
-pub mark_one : (b : Bool) → b ≡ true → 1 ≡ mark b
+-- the byte of a truth value is the mark
+pub mark_byte : (b : Bool) → bool_byte b ≡ mark b
 unfolding mark
-mark_one b e = rw e
-
-pub mark_zero : (b : Bool) → b ≡ false → 0 ≡ mark b
-unfolding mark
-mark_zero b e = rw e
+mark_byte true = refl
+mark_byte false = refl
 
 pub length_object : (x : Object) → length (render_object (used x)) ≡ object_size
 unfolding render_object encode_object render_row
@@ -48,9 +47,9 @@ object_stores a b c d e f g x n m h p q s1 s2 s3 s4 s5 s6 =
     let k5 : g ≡ sets a 0 (1 ∷ (F ++ O ++ W ++ C ++ M)) = rw (s6, k4, q) (sets_at (1 ∷ (F ++ O ++ W ++ C)) M a 0 45 (simp (length-append, length_encode, length_bytes, length_owner))) in
     k5 ∙ sets_whole (1 ∷ (F ++ O ++ W ++ C ++ M)) a (h ∙ sym (length_object x))
 
-pub zero_stores : (a b : List ℕ) → length a ≡ object_size → b ≡ sets a 0 (replicate object_size 0) → b ≡ render_object destroyed
+pub zero_filled : (n : ℕ) (b : List ℕ) → n ≡ object_size → b ≡ replicate n 0 → b ≡ render_object destroyed
 unfolding render_object destroyed render_row
-zero_stores a b n e = e ∙ sets_whole (replicate object_size 0) a n
+zero_filled n b h e = e ∙ ap (λ (k : ℕ). replicate k 0) h
 
 pub length_destroyed : length (render_object destroyed) ≡ object_size
 unfolding render_object destroyed render_row

@@ -8,7 +8,7 @@ ghost use Rattle.rules.specs.Repairs.{destroyed};
 use super::pieces;
 use fid::Fid;
 use tables::rows::{CLAIM_AT, FRESH_AT, OBJECT_OWNER_AT, OBJECT_SIZE, OST_AT, SELF_AT};
-use tables::Object;
+use tables::{Object, Place};
 
 // A claim as a FID whose version is the stripe index.
 pub fn claim_fid(claim: Option<Place>) -> Fid
@@ -20,14 +20,10 @@ pub fn claim_fid(claim: Option<Place>) -> Fid
             oid: 0,
             ver: 0,
         },
-        Some(place) => {
-            let f = place.file.0;
-            Fid {
-                seq: f.seq,
-                oid: f.oid,
-                ver: place.index,
-            }
-        }
+        Some(place) => Fid {
+            ver: place.index,
+            ..place.file.0
+        },
     }
 }
 
@@ -35,7 +31,7 @@ pub fn claim_fid(claim: Option<Place>) -> Fid
 pub fn mark_of(fresh: bool) -> u8
     ensures { result ≡ mark fresh }
 {
-    if fresh { 1 } else { 0 }
+    u8::from(fresh)
 }
 
 // Writes a used row.
@@ -43,14 +39,11 @@ pub fn put_row(row: &mut [u8], x: Object)
     requires { length row.old ≡ object_size }
     ensures { row.new ≡ render_object (used x) }
 {
-    let name = x.fid.0;
-    let owner = x.owner;
-    let claim = x.claim;
     pieces::put_byte(row, 0, 1);
-    fid::write_fid(row, SELF_AT, name);
+    fid::write_fid(row, SELF_AT, x.fid.0);
     wire::put_le32(row, OST_AT, x.ost);
-    pieces::put_owner(row, OBJECT_OWNER_AT, owner);
-    fid::write_fid(row, CLAIM_AT, claim_fid(claim));
+    pieces::put_owner(row, OBJECT_OWNER_AT, x.owner);
+    fid::write_fid(row, CLAIM_AT, claim_fid(x.claim));
     pieces::put_byte(row, FRESH_AT, mark_of(x.fresh));
 }
 
@@ -59,8 +52,7 @@ pub fn zero_row(row: &mut [u8])
     requires { length row.old ≡ object_size }
     ensures { row.new ≡ render_object destroyed }
 {
-    let zeros = [0u8; OBJECT_SIZE];
-    wire::put_bytes(row, 0, &zeros);
+    row.fill(0);
 }
 
 // Writes object row o of the table.

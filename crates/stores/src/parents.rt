@@ -19,14 +19,10 @@ use tables::{Owner, rows};
 fn own_header(h: Header, f: MdtFid) -> Header
     ensures { result ≡ own_header h f }
 {
-    let own = f.0;
     Header {
-        magic: h.magic,
-        pattern: h.pattern,
-        oid: own.oid as u64,
-        seq: own.seq,
-        stripe: h.stripe,
-        generation: h.generation,
+        oid: f.0.oid as u64,
+        seq: f.0.seq,
+        ..h
     }
 }
 
@@ -77,12 +73,11 @@ const SLOTS_AT: usize = ROOM_AT + PLAIN_HEADER;
 fn made_header(f: MdtFid) -> Header
     ensures { result ≡ made_header f }
 {
-    let own = f.0;
     Header {
         magic: layout::MAGIC_ONE,
         pattern: layout::HOLE_PATTERN,
-        oid: own.oid as u64,
-        seq: own.seq,
+        oid: f.0.oid as u64,
+        seq: f.0.seq,
         stripe: MADE_STRIPE,
         generation: 0,
     }
@@ -93,9 +88,8 @@ fn put_front(row: &mut [u8], f: MdtFid, w: Owner, size: u16)
     requires { room_at ≤ length row.old }
     ensures { row.new ≡ sets (sets (sets (set row.old 0 1) self_at (encode_fid f.0)) owner_at (encode_owner w)) length_at (bytes 2 size) }
 {
-    let name = f.0;
     pieces::put_byte(row, 0, 1);
-    fid::write_fid(row, SELF_AT, name);
+    fid::write_fid(row, SELF_AT, f.0);
     pieces::put_owner(row, OWNER_AT, w);
     wire::put_le16(row, LENGTH_AT, size);
 }
