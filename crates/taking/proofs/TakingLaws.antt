@@ -2,7 +2,7 @@
 use mathlib.Core.Path.{◌≡◌, refl, sym, ap, ◌∙◌}
 use Rattle.std.specs.Prelude.{Some}
 use mathlib.Core.List.{List}
-use mathlib.Core.Bool.{Bool, true, false, not, true≢false}
+use mathlib.Core.Bool.{Bool, true, false, not, ◌&&◌, true≢false}
 use Prim.Native.Nat.{ℕ, ◌*◌, ◌/◌, ◌<◌}
 use native.Mathlib.Omega.{arith}
 use lib.ListN.{length, take, drop}
@@ -45,17 +45,13 @@ module _ (rows : List ParentRow) (home : Place) (row : List ℕ) where
   not_there u = rw (object_unused row u)
 
   module _ (u : is_used row ≡ true) (x : Object) (e : x ≡ decode_object row) where
-    pub not_fresh : x.fresh ≡ false → false ≡ is_reusable rows home (parse_object row)
+    pub not_claimed : (x.fresh && claims x.claim home) ≡ false → false ≡ is_reusable rows home (parse_object row)
     unfolding is_reusable
-    not_fresh s = rw (object_used row u, ← e, s)
+    not_claimed s = rw (object_used row u, ← e, s)
 
-    pub not_claimed : x.fresh ≡ true → claims x.claim home ≡ false → false ≡ is_reusable rows home (parse_object row)
+    pub unless_named : (x.fresh && claims x.claim home) ≡ true → (b : Bool) → b ≡ named rows x.fid → not b ≡ is_reusable rows home (parse_object row)
     unfolding is_reusable
-    not_claimed s k = rw (object_used row u, ← e, s, k)
-
-    pub unless_named : x.fresh ≡ true → claims x.claim home ≡ true → (b : Bool) → b ≡ named rows x.fid → not b ≡ is_reusable rows home (parse_object row)
-    unfolding is_reusable
-    unless_named s k b t = rw (object_used row u, ← e, s, k) (ap not t)
+    unless_named s b t = rw (object_used row u, ← e, s) (ap not t)
 
 -- ## The first row
 

@@ -21,6 +21,7 @@ use Rattle.search.proofs.ParsedRows.{parent_used}
 use Rattle.stores.specs.UsedRow.{row_bytes, UsedAt}
 use Rattle.stores.proofs.RowStores.{used_facts, count_of}
 use Rattle.writes.specs.Plan.{Decides}
+use Rattle.refusals.specs.declared.Refusal.{Refusal}
 use Rattle.rules.specs.declared.Step.{Step}
 use Rattle.rules.specs.declared.Step.TheVariants.{Rests, Stops}
 use Rattle.writes.specs.Ready.{SlotReady}
@@ -32,7 +33,7 @@ module _ (p o : List ℕ) (s : Tables → Step) where
   unfolding Decides
   decides_rest e = sym e
 
-  pub decides_stop : (n : ℕ) → s (parse p o) ≡ Stops n → Decides p o (Stops n) s
+  pub decides_stop : (n : Refusal) → s (parse p o) ≡ Stops n → Decides p o (Stops n) s
   unfolding Decides
   decides_stop n e = sym e
 

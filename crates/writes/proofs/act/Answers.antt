@@ -20,7 +20,7 @@ returns-in-Rests c = let d = c in let a = d.args in let whole = act_rests a.pare
 
 pub returns-in-Stops : goal.returns-in-Stops
 unfolding Bytes
-returns-in-Stops c = let d = c in let a = d.args in let whole = act_stops a.parents.now a.objects.now d.requires.0 _ (λ i. (c.slice_known-1.given i).fits) (λ i. (c.slice_known-2-1.given i).fits) c.in-Stops.n c.in-Stops.is in
+returns-in-Stops c = let d = c in let a = d.args in let whole = act_stops a.parents.now a.objects.now d.requires.0 _ (λ i. (c.slice_known-1.given i).fits) (λ i. (c.slice_known-2-1.given i).fits) c.in-Stops.stop c.in-Stops.is in
     record { outcome = whole.0; parents = whole.1.0; objects = whole.1.1 }
 
 pub returns-in-Repairs : goal.returns-in-Repairs
