@@ -1,4 +1,5 @@
 -- Headers and slots decided, case by case as the code does it. Assumes nothing.
+use Rattle.refusals.specs.declared.Refusal.TheVariants.{NoReserve, NoObjectRow}
 use mathlib.Core.Path.{◌≡◌, sym, ap, ◌∙◌}
 use Rattle.std.specs.Prelude.{Option, Some, None}
 use mathlib.Core.List.{List}
@@ -55,13 +56,13 @@ module _ (p o : List ℕ) (r : ℕ) (h : Sound p o) (k : r < length p / parent_s
 -- ## MULTIPLE and DANGLING
 
 module _ (p o : List ℕ) (r j ost : ℕ) (f : OstFid) where
-  pub redirect_none : free_object (parse_objects o) ≡ None → Decides p o (Stops 22) (λ T. redirect_to T.parents r j ost f (free_object T.objects))
+  pub redirect_none : free_object (parse_objects o) ≡ None → Decides p o (Stops NoObjectRow) (λ T. redirect_to T.parents r j ost f (free_object T.objects))
   unfolding redirect_to
-  redirect_none e = decides_stop p o _ 22 (rw e)
+  redirect_none e = decides_stop p o _ NoObjectRow (rw e)
 
-  pub make_none : free_object (parse_objects o) ≡ None → Decides p o (Stops 22) (λ T. make_object (new_object T.parents f r j ost) (free_object T.objects))
+  pub make_none : free_object (parse_objects o) ≡ None → Decides p o (Stops NoObjectRow) (λ T. make_object (new_object T.parents f r j ost) (free_object T.objects))
   unfolding make_object
-  make_none e = decides_stop p o _ 22 (rw e)
+  make_none e = decides_stop p o _ NoObjectRow (rw e)
 
   module _ (i : ℕ) (e : free_object (parse_objects o) ≡ Some i) (x : Object) (q : x ≡ new_object (parse_parents p) f r j ost) where
     pub redirect_done : Decides p o (Repairs OfMultiple (PutObject i x) (PutSlot r j (Names f 0 ost)) Nothing) (λ T. redirect_to T.parents r j ost f (free_object T.objects))
@@ -77,9 +78,9 @@ module _ (p o res : List ℕ) (r j ost : ℕ) (v : Option OstFid) (e : v ≡ usa
   unfolding redirect
   reserve_takes f q = rw (← e, q)
 
-  pub reserve_empty : v ≡ None → Decides p o (Stops 21) (λ T. redirect T r j ost (usable T (parse_reserve res)))
+  pub reserve_empty : v ≡ None → Decides p o (Stops NoReserve) (λ T. redirect T r j ost (usable T (parse_reserve res)))
   unfolding redirect
-  reserve_empty q = decides_stop p o _ 21 (rw (← e, q))
+  reserve_empty q = decides_stop p o _ NoReserve (rw (← e, q))
 
 -- an object that is there for slot j of the file m, or the reserve
 module _ (p o : List ℕ) (settings : Settings) (r j ost : ℕ) where

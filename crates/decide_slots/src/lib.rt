@@ -145,9 +145,7 @@ fn mend_write(parents: &[u8], r: usize, j: u32, o: usize, x: Object) -> Write
     ensures { result ≡ mend_write (parse_parents parents.now) r j o x }
 {
     let row = rows::row_at(parents, PARENT_SIZE, r);
-    if places::claim_is(x.claim, rows::self_of(row), j as usize)
-        && x.owner == rows::owner_of(row)
-    {
+    if places::claim_is(x.claim, rows::self_of(row), j as usize) && x.owner == rows::owner_of(row) {
         return Write::Nothing;
     }
     Write::Object(o, mended(parents, r, j, x))

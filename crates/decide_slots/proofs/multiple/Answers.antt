@@ -15,12 +15,12 @@ returns-then-not-creates c =
     decides_rest a.parents.now a.objects.now _
     (multiple_off a.parents.now a.objects.now (settings_of a.policy a.reserve.now) a.r a.j a.ost (sym c.creates.ensures ∙ c.if-not-creates.true))
 
-pub reusable-found-requires : goal.reusable-found-requires
-reusable-found-requires c = (sound_facts _ _ c.requires.tables).layouts
+pub reusable-requires : goal.reusable-requires
+reusable-requires c = (sound_facts _ _ c.requires.tables).layouts
 
 pub reuse-requires : goal.reuse-requires
 reuse-requires c =
-    let s = c in let a = s.args in let e = sym c.reusable-found.ensures ∙ c.in-Some.is in
+    let s = c in let a = s.args in let e = sym c.reusable.ensures ∙ c.in-Some.is in
     (s.requires, reusable_inside a.objects.now (parse_parents a.parents.now) _ c.in-Some.o e, reusable_used a.objects.now (parse_parents a.parents.now) _ c.in-Some.o e)
 
 pub returns-in-None : goal.returns-in-None
@@ -29,11 +29,11 @@ returns-in-None c =
     let d = c in let s = d in let a = s.args in
     decides_same a.parents.now a.objects.now _ _ _ c.redirect.ensures
     (multiple_none a.parents.now a.objects.now (settings_of a.policy a.reserve.now) a.r a.j a.ost s.requires.row _ d.row_at-row.ensures.0 _ d.self_of-file.ensures _
-    d.reusable-found.ensures (sym d.creates.ensures ∙ d.if-not-creates.false) c.in-None.is)
+    d.reusable.ensures (sym d.creates.ensures ∙ d.if-not-creates.false) c.in-None.is)
 
 pub returns-in-Some : goal.returns-in-Some
 unfolding settings_of row_bytes
 returns-in-Some c =
     let d = c in let s = d in let a = s.args in decides_same a.parents.now a.objects.now _ _ _ c.reuse.ensures
     (multiple_some a.parents.now a.objects.now (settings_of a.policy a.reserve.now) a.r a.j a.ost s.requires.row _ d.row_at-row.ensures.0 _ d.self_of-file.ensures _
-    d.reusable-found.ensures (sym d.creates.ensures ∙ d.if-not-creates.false) c.in-Some.o c.in-Some.is)
+    d.reusable.ensures (sym d.creates.ensures ∙ d.if-not-creates.false) c.in-Some.o c.in-Some.is)
