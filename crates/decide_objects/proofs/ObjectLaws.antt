@@ -1,4 +1,5 @@
 -- Object rows decided, case by case as the code does it. Assumes nothing.
+use Rattle.refusals.specs.declared.Refusal.TheVariants.{NoParentRow}
 use mathlib.Core.Path.{◌≡◌, refl, sym, ap, ◌∙◌}
 use Rattle.std.specs.Prelude.{Option, Some, None}
 use mathlib.Core.List.{List}
@@ -81,9 +82,9 @@ module _ (p o : List ℕ) (h : Sound p o) (k : ℕ) (x : Object) (home : Place) 
         let a = take_place p o h home w r e q in
         rw (← e, q, se, ue, d, ← g, row_is p r (row_inside p r a.used))
 
-pub new_none : (p o : List ℕ) (k : ℕ) (x : Object) (home : Place) → free_parent (parse_parents p) ≡ None → Decides p o (Stops 23) (λ T. make_parent x home (free_parent T.parents))
+pub new_none : (p o : List ℕ) (k : ℕ) (x : Object) (home : Place) → free_parent (parse_parents p) ≡ None → Decides p o (Stops NoParentRow) (λ T. make_parent x home (free_parent T.parents))
 unfolding make_parent
-new_none p o k x home e = decides_stop p o _ 23 (rw e)
+new_none p o k x home e = decides_stop p o _ NoParentRow (rw e)
 
 module _ (p o : List ℕ) (k : ℕ) (x : Object) (home : Place) (w : Way) (e : w ≡ way (parse p o) home) where
   pub way_none : w ≡ NoWay → adopt_by (parse p o) k x home (way (parse p o) home) ≡ Rests
