@@ -1,18 +1,15 @@
 use mathlib.Core.Path.{ap, sym, ◌∙◌}
+use Rattle.std.specs.Prelude.{Option}
 use Rattle.rules.specs.Runs.{add_counts}
-use Rattle.rules.specs.declared.Outcome.{Outcome}
+use Rattle.rules.specs.declared.Repair.{Repair}
 use Rattle.steps.specs.Tallies.{tally}
 use Rattle.steps.proofs.RunLaws.{rest_is}
 use Rattle.steps.proofs.counts.tallied.Goals as goal
 
-pub returns-in-Rested : goal.returns-in-Rested
+pub returns-in-None : goal.returns-in-None
 unfolding tally
-returns-in-Rested c = rest_is c.args.c c.requires c.args.o (ap tally c.in-Rested.is)
+returns-in-None c = rest_is c.args.c c.requires c.args.repair (ap tally c.in-None.is)
 
-pub returns-in-Repaired : goal.returns-in-Repaired
+pub returns-in-Some : goal.returns-in-Some
 unfolding tally
-returns-in-Repaired c = c.counted.ensures ∙ ap (λ (u : Outcome). add_counts c.args.c (tally u)) (sym c.in-Repaired.is)
-
-pub returns-in-Stopped : goal.returns-in-Stopped
-unfolding tally
-returns-in-Stopped c = rest_is c.args.c c.requires c.args.o (ap tally c.in-Stopped.is)
+returns-in-Some c = c.counted.ensures ∙ ap (λ (u : Option Repair). add_counts c.args.c (tally u)) (sym c.in-Some.is)
