@@ -1,4 +1,6 @@
 -- The rows that `lfsck_step_writes` names, stored, are the records of its step. Assumes nothing.
+use Rattle.refusals.specs.Numbers.{number}
+use Rattle.refusals.specs.declared.Refusal.{Refusal}
 use Prim.Native.Nat.{ℕ, zero, suc, ◌*◌, ◌≤◌}
 use native.Mathlib.Omega.{arith}
 use mathlib.Core.Path.{◌≡◌, refl, sym, ap, subst, ◌∙◌}
@@ -60,7 +62,7 @@ named_rows u m l rest t h = ap (λ (k : List ℕ). store_rows u m k t) (few_rows
 
 -- ## Of a step that doesn't stop
 
-told_rows : (u : Lent) (m : ℕ) (out : List ℕ) (t : Lent) → writes_size ≤ length out → (d : Step) → step_number d ≡ 0 → ((n : ℕ) → d ≡ stops n → 21 ≤ n) →
+told_rows : (u : Lent) (m : ℕ) (out : List ℕ) (t : Lent) → writes_size ≤ length out → (d : Step) → step_number d ≡ 0 → ((n : Refusal) → d ≡ stops n → 21 ≤ number n) →
     store_named u m (told d out) t ≡ stored_all u (take m (targets d)) t
 unfolding told targets step_number target
 told_rows u m out t h rests e n =
@@ -93,7 +95,7 @@ module _ (p o s : List ℕ) (policy : ℕ) (at : Position) (out : List ℕ) wher
       go true x false false z e = (eqb-true n 0 x, ltb-false (length out) writes_size z, e, refl)
 
 -- a step that stops answers 21 to 23
-stop_number_lem : (policy : ℕ) (reserve : List ℕ) (T : Tables) (p : Position) → Distinct T → (n : ℕ) → step_at (settings_of policy reserve) T p ≡ stops n → 21 ≤ n
+stop_number_lem : (policy : ℕ) (reserve : List ℕ) (T : Tables) (p : Position) → Distinct T → (n : Refusal) → step_at (settings_of policy reserve) T p ≡ stops n → 21 ≤ number n
 stop_number_lem policy reserve T p sound n e = (subst (Makes (settings_of policy reserve) T p) e (step_makes (settings_of policy reserve) T p sound)).0
 
 pub every_named : EveryNamed

@@ -1,4 +1,5 @@
 -- The writes of a step as numbers: what its export hands out. Document 02, 2026-09.
+use Rattle.refusals.specs.Numbers.{number}
 use Rattle.std.specs.Prelude.{ℕ, ◌+◌, ◌*◌, List, [], ◌∷◌, ◌++◌, cond, eqb, ltb, length, take, replicate}
 use Rattle.std.proofs.lemmas.List.Edits.{sets}
 use Rattle.tables.specs.Check.{check_number}
@@ -42,7 +43,7 @@ writes_numbers l = length l ∷ take (2 * most_writes) (row_numbers l ++ replica
 unfoldable pub step_number : Step → ℕ
 step_number Rests = 0
 step_number (Repairs c x y z) = 0
-step_number (Stops n) = n
+step_number (Stops e) = number e
 
 -- "at the end it is 16, and a short out is 17, before 21 to 23"
 unfoldable pub writes_answer : List ℕ → List ℕ → List ℕ → ℕ → Position → List ℕ → ℕ
@@ -57,7 +58,7 @@ writes_answer parents objects reserve policy at out =
 unfoldable pub told : Step → List ℕ → List ℕ
 told Rests out = sets out 0 (writes_numbers (targets Rests))
 told (Repairs c x y z) out = sets out 0 (writes_numbers (targets (Repairs c x y z)))
-told (Stops n) out = out
+told (Stops e) out = out
 
 unfoldable pub writes_out : List ℕ → List ℕ → List ℕ → ℕ → Position → List ℕ → List ℕ
 writes_out parents objects reserve policy at out =

@@ -87,7 +87,7 @@ fn tell(out: &mut [u64], d: Step) -> u32
             put_writes(out, x, y, z);
             0
         }
-        Step::Stops(n) => n,
+        Step::Stops(stop) => stop.number(),
     }
 }
 
