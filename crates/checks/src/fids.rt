@@ -19,9 +19,7 @@ pub fn good_parent(row: &[u8]) -> bool
 pub fn good_parents(parents: &[u8]) -> bool
     ensures { result ≡ all (when_used good_parent) (parent_rows parents.now) }
 {
-    parents
-        .chunks_exact(PARENT_SIZE)
-        .all(|row| good_parent(row))
+    parents.chunks_exact(PARENT_SIZE).all(good_parent)
 }
 
 // No claim, or one of a good sequence and id, at any index.
@@ -58,9 +56,7 @@ pub fn good_object(row: &[u8]) -> bool
 pub fn good_objects(objects: &[u8]) -> bool
     ensures { result ≡ all (when_used good_object) (object_rows objects.now) }
 {
-    objects
-        .chunks_exact(OBJECT_SIZE)
-        .all(|row| good_object(row))
+    objects.chunks_exact(OBJECT_SIZE).all(good_object)
 }
 
 // Whether an entry of the reserve is a good FID.
@@ -77,7 +73,7 @@ pub fn good_reserve(reserve: &[u8]) -> bool
 {
     reserve
         .chunks_exact(ENTRY_SIZE)
-        .all(|entry| good_entry(entry))
+        .all(good_entry)
 }
 
 // Whether the rows of both tables are good.

@@ -20,7 +20,5 @@ pub fn good_layout(row: &[u8]) -> bool
 pub fn good_layouts(parents: &[u8]) -> bool
     ensures { result ≡ good_layouts parents.now }
 {
-    parents
-        .chunks_exact(PARENT_SIZE)
-        .all(|row| good_layout(row))
+    parents.chunks_exact(PARENT_SIZE).all(good_layout)
 }
