@@ -1,18 +1,14 @@
 -- The class at a position as numbers, case by case. Assumes nothing.
 use mathlib.Core.Path.{◌≡◌, refl}
 use mathlib.Core.List.{List}
-use mathlib.Core.Bool.{Bool, true, false, cond}
 use Prim.Native.Nat.{ℕ, ◌≤◌, ◌<◌}
-use borrow.Author.Tests.{eqb-false}
-use native.Mathlib.Omega.{arith}
-use lib.Dec.{eqb}
 use lib.ListN.{length}
 use lib.Seq.{sets}
-use Rattle.tables.specs.Bytes.{parse}
-use Rattle.tables.specs.Check.{tables_number}
-use Rattle.tables.specs.declared.Position.{Position}
+use Rattle.std.specs.Prelude.{Result, Ok, Err}
+use Rattle.refusals.specs.Numbers.{number}
+use Rattle.refusals.specs.declared.Refusal.{Refusal}
+use Rattle.tables.proofs.CheckLaws.{refusal_not}
 use Rattle.rules.specs.Classes.{only, header_numbers, slot_numbers, object_numbers, class_numbers}
-use Rattle.rules.specs.Steps.{class_at}
 use Rattle.rules.specs.declared.Class.{Class}
 use Rattle.rules.specs.declared.Class.TheVariants.{Header as OfHeader, Slot as OfSlot, Object as OfObject}
 use Rattle.rules.specs.declared.HeaderClass.{HeaderClass}
@@ -21,27 +17,10 @@ use Rattle.rules.specs.declared.SlotClass.{SlotClass}
 use Rattle.rules.specs.declared.SlotClass.TheVariants.{CLEAN, HOLE, MULTIPLE, DANGLING, BLANK, UNMATCHED, OWNER, WRONGOST as WRONG-OST}
 use Rattle.rules.specs.declared.ObjectClass.{ObjectClass}
 use Rattle.rules.specs.declared.ObjectClass.TheVariants.{SPARE, EMPTY, ORPHAN, CONFLICT, KEPT, UNUSED}
-use Rattle.classify.specs.Answer.{has_class, class_answer, class_number}
-use Rattle.classify.specs.declared.ClassAnswer.{ClassAnswer}
-use Rattle.classify.specs.declared.ClassAnswer.TheVariants.{NoClass, ClassIs}
+use Rattle.classify.specs.Answer.{class_number}
 use Rattle.capi_out.specs.Out.{out_answer, out_numbers}
 use Rattle.capi_class.specs.Classes.{told_numbers}
 use Rattle.capi_out.proofs.OutLaws.{out_refused, out_short, out_done}
-
--- a refusal has a number of its own
-class_refusal : (t n : ℕ) (b d : Bool) (c : Class) → eqb t 0 ≡ b → cond b (cond d (ClassIs c) (NoClass 16)) (NoClass t) ≡ NoClass n → n ≡ 0 → ⊥
-class_refusal t n true true c e q z = let k : ◌≡◌ {A = ℕ} 0 1 = cc in absurd (omega (arith, k))
-class_refusal t n true false c e q z = let k : 16 ≡ n = cc in absurd (omega (arith, k))
-class_refusal t n false d c e q z = let k : t ≡ n = cc in eqb-false t 0 e (omega arith)
-
-pub class_none : (parents objects : List ℕ) (at : Position) (out : List ℕ) (n : ℕ) → class_answer parents objects at ≡ NoClass n →
-    (n ≡ out_answer (class_number (class_answer parents objects at)) (told_numbers (class_answer parents objects at)) out)
-    × (out ≡ out_numbers (class_number (class_answer parents objects at)) (told_numbers (class_answer parents objects at)) out)
-unfolding class_number class_answer
-class_none parents objects at out n e =
-    let t = tables_number parents objects in
-    out_refused (class_number (class_answer parents objects at)) (told_numbers (class_answer parents objects at)) out n (rw e)
-    (class_refusal t n (eqb t 0) (has_class parents objects at) (class_at (parse parents objects) at) refl e)
 
 -- the numbers of a class are four
 header_four : (c : HeaderClass) → length (header_numbers c) ≡ 4
@@ -76,18 +55,26 @@ class_four (OfHeader c) = header_four c
 class_four (OfSlot c) = slot_four c
 class_four (OfObject c) = object_four c
 
-module _ (A : ClassAnswer) (out : List ℕ) (c : Class) (e : A ≡ ClassIs c) where
-  zero_class : class_number A ≡ 0
+module _ (A : Result Class Refusal) (out : List ℕ) where
+  -- the answer, and what out holds then
+  abbrev pub Told : ℕ → List ℕ → Type 0
+  Told n x = (n ≡ out_answer (class_number A) (told_numbers A) out) × (x ≡ out_numbers (class_number A) (told_numbers A) out)
+
+  pub class_none : (e : Refusal) → Err e ≡ A → Told (number e) out
   unfolding class_number
-  zero_class = rw e
+  class_none e h = out_refused (class_number A) (told_numbers A) out (number e) (rw (← h)) (refusal_not e)
 
-  told_are : told_numbers A ≡ class_numbers c
-  unfolding told_numbers
-  told_are = rw e
+  module _ (c : Class) (e : Ok c ≡ A) where
+    zero_class : class_number A ≡ 0
+    unfolding class_number
+    zero_class = rw (← e)
 
-  pub class_short : length out < 4 → (17 ≡ out_answer (class_number A) (told_numbers A) out) × (out ≡ out_numbers (class_number A) (told_numbers A) out)
-  class_short h = out_short (class_number A) (told_numbers A) out zero_class (rw (told_are, class_four c) h)
+    told_are : told_numbers A ≡ class_numbers c
+    unfolding told_numbers
+    told_are = rw (← e)
 
-  pub class_done : (x : List ℕ) → 4 ≤ length out → x ≡ sets out 0 (class_numbers c) →
-      (0 ≡ out_answer (class_number A) (told_numbers A) out) × (x ≡ out_numbers (class_number A) (told_numbers A) out)
-  class_done x h p = out_done (class_number A) (told_numbers A) out x zero_class (rw (told_are, class_four c) h) (rw told_are p)
+    pub class_short : length out < 4 → Told 17 out
+    class_short h = out_short (class_number A) (told_numbers A) out zero_class (rw (told_are, class_four c) h)
+
+    pub class_done : (x : List ℕ) → 4 ≤ length out → x ≡ sets out 0 (class_numbers c) → Told 0 x
+    class_done x h p = out_done (class_number A) (told_numbers A) out x zero_class (rw (told_are, class_four c) h) (rw told_are p)

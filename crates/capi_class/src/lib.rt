@@ -3,42 +3,29 @@
 
 ghost use Rattle.std.specs.Prelude.{◌≡◌, ◌+◌, ◌≤◌, length};
 ghost use Rattle.std.proofs.lemmas.List.Edits.{sets};
+ghost use Rattle.refusals.specs.Numbers.{answer};
 ghost use Rattle.tables.specs.Positions.{place};
 ghost use Rattle.rules.specs.Classes.{only, header_numbers, slot_numbers, object_numbers, class_numbers};
 ghost use Rattle.classify.specs.Answer.{class_answer, class_number};
 ghost use Rattle.capi_out.specs.Out.{out_answer, out_numbers};
-ghost use Rattle.capi_class.specs.Classes.{listed, told_numbers};
+ghost use Rattle.capi_class.specs.Classes.{told_numbers};
 
-use classify::ClassAnswer;
+use refusals::Refusal;
 use rules::{Class, HeaderClass, ObjectClass, SlotClass};
 use tables::Position;
 
 // The numbers that a class is told by.
 pub const CLASS_SIZE: usize = 4;
 
-// The numbers of a class: its own, and the sequence, id and index that were claimed.
-#[derive(Clone, Copy)]
-struct ClassNumbers {
-    class: u64,
-    seq: u64,
-    oid: u64,
-    index: u64,
-}
-
 // A class that carries nothing.
-fn bare(class: u64) -> ClassNumbers
-    ensures { listed result ≡ only class }
+fn bare(class: u64) -> [u64; CLASS_SIZE]
+    ensures { result ≡ only class }
 {
-    ClassNumbers {
-        class: class,
-        seq: 0,
-        oid: 0,
-        index: 0,
-    }
+    [class, 0, 0, 0]
 }
 
-fn header_numbers(c: HeaderClass) -> ClassNumbers
-    ensures { listed result ≡ header_numbers c }
+fn header_numbers(c: HeaderClass) -> [u64; CLASS_SIZE]
+    ensures { result ≡ header_numbers c }
 {
     match c {
         HeaderClass::CLEAN => bare(0),
@@ -47,8 +34,8 @@ fn header_numbers(c: HeaderClass) -> ClassNumbers
     }
 }
 
-fn slot_numbers(c: SlotClass) -> ClassNumbers
-    ensures { listed result ≡ slot_numbers c }
+fn slot_numbers(c: SlotClass) -> [u64; CLASS_SIZE]
+    ensures { result ≡ slot_numbers c }
 {
     match c {
         SlotClass::CLEAN => bare(0),
@@ -58,20 +45,15 @@ fn slot_numbers(c: SlotClass) -> ClassNumbers
         SlotClass::BLANK => bare(5),
         SlotClass::UNMATCHED(f, i) => {
             let claimed = f.0;
-            ClassNumbers {
-                class: 6,
-                seq: claimed.seq,
-                oid: claimed.oid as u64,
-                index: i as u64,
-            }
+            [6, claimed.seq, claimed.oid as u64, i as u64]
         }
         SlotClass::OWNER => bare(7),
         SlotClass::WRONGOST => bare(14),
     }
 }
 
-fn object_numbers(c: ObjectClass) -> ClassNumbers
-    ensures { listed result ≡ object_numbers c }
+fn object_numbers(c: ObjectClass) -> [u64; CLASS_SIZE]
+    ensures { result ≡ object_numbers c }
 {
     match c {
         ObjectClass::SPARE => bare(8),
@@ -83,8 +65,9 @@ fn object_numbers(c: ObjectClass) -> ClassNumbers
     }
 }
 
-fn class_numbers(c: Class) -> ClassNumbers
-    ensures { listed result ≡ class_numbers c }
+// The numbers of a class: its own, and the sequence, id and index that were claimed.
+fn class_numbers(c: Class) -> [u64; CLASS_SIZE]
+    ensures { result ≡ class_numbers c }
 {
     match c {
         Class::Header(h) => header_numbers(h),
@@ -98,8 +81,7 @@ pub fn put_class(out: &mut [u64], at: usize, c: Class)
     requires { at + 4 ≤ length out.old }
     ensures { out.new ≡ sets out.old at (class_numbers c) }
 {
-    let n = class_numbers(c);
-    capi_out::put_four(out, at, n.class, n.seq, n.oid, n.index);
+    capi_out::put_all(out, at, &class_numbers(c));
 }
 
 // The class at a position: 4 numbers into out.
@@ -110,24 +92,14 @@ pub fn class_at(
     row: u64,
     part: u64,
     out: &mut [u64],
-) -> u32
-    ensures answer { result ≡ out_answer (class_number (class_answer parents.now objects.now (place stage row part))) (told_numbers (class_answer parents.now objects.now (place stage row part))) out.old }
+) -> Result<(), Refusal>
+    ensures answer { answer result ≡ out_answer (class_number (class_answer parents.now objects.now (place stage row part))) (told_numbers (class_answer parents.now objects.now (place stage row part))) out.old }
     ensures out { out.new ≡ out_numbers (class_number (class_answer parents.now objects.now (place stage row part))) (told_numbers (class_answer parents.now objects.now (place stage row part))) out.old }
 {
-    let at = Position {
-        stage: stage,
-        row: row,
-        part: part,
-    };
-    let told = classify::class_at(parents, objects, at);
-    match told {
-        ClassAnswer::NoClass(n) => n,
-        ClassAnswer::ClassIs(c) => {
-            if out.len() < CLASS_SIZE {
-                return 17;
-            }
-            put_class(out, 0, c);
-            0
-        }
+    let class = classify::class_at(parents, objects, Position { stage, row, part })?;
+    if out.len() < CLASS_SIZE {
+        return Err(Refusal::TooShort);
     }
+    put_class(out, 0, class);
+    Ok(())
 }

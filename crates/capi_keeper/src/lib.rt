@@ -4,6 +4,7 @@
 ghost use Rattle.std.specs.Prelude.{◌≡◌, ◌≤◌, length};
 ghost use Rattle.std.proofs.lemmas.List.Edits.{sets};
 ghost use Rattle.wire.specs.Numbers.{max_word};
+ghost use Rattle.refusals.specs.Numbers.{answer};
 ghost use Rattle.tables.specs.Bytes.{parse};
 ghost use Rattle.tables.specs.Check.{Sound};
 ghost use Rattle.rules.specs.Keeper.{keeper};
@@ -12,6 +13,7 @@ ghost use Rattle.capi_out.specs.Out.{out_answer, out_numbers};
 ghost use Rattle.capi_keeper.specs.Keepers.{asked, good_asked, keeper_number, place_numbers, keeper_numbers};
 
 use fid::{Fid, OstFid};
+use refusals::Refusal;
 use rules::Search;
 use wire::MAX_WORD;
 
@@ -23,39 +25,33 @@ fn asked_fid(sequence: u64, id: u64) -> OstFid
     requires { id ≤ max_word }
     ensures { result ≡ asked sequence id }
 {
-    let f = Fid {
+    OstFid(Fid {
         seq: sequence,
         oid: id as u32,
         ver: 0,
-    };
-    OstFid(f)
+    })
 }
 
 // Whether it is good, and its id has 32 bits.
 fn good_asked(sequence: u64, id: u64) -> bool
     ensures { result ≡ good_asked sequence id }
 {
-    if MAX_WORD < id {
-        return false;
-    }
-    fid::good_object(asked_fid(sequence, id))
+    id <= MAX_WORD && fid::good_object(asked_fid(sequence, id))
 }
 
 // The check of tables and FID: 0, 11 or 13 to 15. A bad FID asked for is 14, as one in the tables is.
-fn check_asked(parents: &[u8], objects: &[u8], sequence: u64, id: u64) -> u32
-    ensures { result ≡ keeper_number parents.now objects.now sequence id }
+fn check_asked(parents: &[u8], objects: &[u8], sequence: u64, id: u64) -> Result<(), Refusal>
+    ensures { answer result ≡ keeper_number parents.now objects.now sequence id }
 {
-    let number = checks::check_tables(parents, objects);
+    let tables = checks::check_tables(parents, objects);
     if good_asked(sequence, id) {
-        return number;
+        return tables;
     }
-    if number == 11 {
-        return 11;
+    match tables {
+        Err(Refusal::BadTable) => Err(Refusal::BadTable),
+        Err(Refusal::BadLayout) => Err(Refusal::BadLayout),
+        _ => Err(Refusal::BadFid),
     }
-    if number == 13 {
-        return 13;
-    }
-    14
 }
 
 // The search for the keeper of an object, present or not.
@@ -82,18 +78,15 @@ fn put_search(out: &mut [u64], found: Search)
 }
 
 // The keeper of an object: 4 numbers into out.
-pub fn keeper_of(parents: &[u8], objects: &[u8], sequence: u64, id: u64, out: &mut [u64]) -> u32
-    ensures answer { result ≡ out_answer (keeper_number parents.now objects.now sequence id) (keeper_numbers parents.now objects.now sequence id) out.old }
+pub fn keeper_of(parents: &[u8], objects: &[u8], sequence: u64, id: u64, out: &mut [u64]) -> Result<(), Refusal>
+    ensures answer { answer result ≡ out_answer (keeper_number parents.now objects.now sequence id) (keeper_numbers parents.now objects.now sequence id) out.old }
     ensures out { out.new ≡ out_numbers (keeper_number parents.now objects.now sequence id) (keeper_numbers parents.now objects.now sequence id) out.old }
 {
-    let number = check_asked(parents, objects, sequence, id);
-    if number != 0 {
-        return number;
-    }
+    check_asked(parents, objects, sequence, id)?;
     if out.len() < KEEPER_SIZE {
-        return 17;
+        return Err(Refusal::TooShort);
     }
     let found = search_of(parents, objects, asked_fid(sequence, id));
     put_search(out, found);
-    0
+    Ok(())
 }

@@ -12,13 +12,18 @@ pub fn put(out: &mut [u64], at: usize, a: u64)
     out[at] = a;
 }
 
+// Stores numbers, from a place on.
+pub fn put_all(out: &mut [u64], at: usize, numbers: &[u64])
+    requires { at + length numbers.now ≤ length out.old }
+    ensures { out.new ≡ sets out.old at numbers.now }
+{
+    out[at..at + numbers.len()].copy_from_slice(numbers);
+}
+
 // Stores four numbers, from a place on.
 pub fn put_four(out: &mut [u64], at: usize, a: u64, b: u64, c: u64, d: u64)
     requires { at + 4 ≤ length out.old }
     ensures { out.new ≡ sets out.old at (a ∷ b ∷ c ∷ d ∷ []) }
 {
-    put(out, at, a);
-    put(out, at + 1, b);
-    put(out, at + 2, c);
-    put(out, at + 3, d);
+    put_all(out, at, &[a, b, c, d]);
 }

@@ -14,20 +14,11 @@ pub fn good_layout(row: &[u8]) -> bool
     if !rows::is_used(row) {
         return true;
     }
-    if LAYOUT_ROOM < rows::layout_len(row) as usize {
-        return false;
-    }
-    layout::accepted(rows::layout_of(row))
+    rows::layout_len(row) as usize <= LAYOUT_ROOM && layout::accepted(rows::layout_of(row))
 }
 
 pub fn good_layouts(parents: &[u8]) -> bool
     ensures { result ≡ good_layouts parents.now }
 {
-    let n = parents.len() / PARENT_SIZE;
-    for r in 0..n {
-        if !good_layout(rows::row_at(parents, PARENT_SIZE, r)) {
-            return false;
-        }
-    }
-    true
+    parents.chunks_exact(PARENT_SIZE).all(good_layout)
 }

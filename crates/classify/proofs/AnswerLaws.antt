@@ -6,9 +6,15 @@ use Prim.Native.Nat.{ℕ, suc, ◌/◌, ◌<◌}
 use native.Mathlib.Decide.{ℕ_discrete}
 use borrow.Author.Tests.{eq-eqb, ne_eqb}
 use lib.ListN.{length}
+use Rattle.std.specs.Prelude.{Ok, Err}
+use Rattle.refusals.specs.Numbers.{number, told, refusal}
+use Rattle.refusals.specs.declared.Refusal.{Refusal}
+use Rattle.refusals.specs.declared.Refusal.TheVariants.{NoPlace}
+use Rattle.refusals.proofs.NumberLaws.{told_number}
+use Rattle.tables.proofs.CheckLaws.{refusal_not, tables_refused, tables_accepted}
 use Rattle.tables.specs.Bytes.{parent_size, object_size, parse, parse_parents}
 use Rattle.tables.specs.Positions.{row_at, is_position, is_end}
-use Rattle.tables.specs.Check.{tables_number, Sound}
+use Rattle.tables.specs.Check.{tables_number}
 use Rattle.tables.specs.declared.Position.{Position}
 use Rattle.tables.proofs.PositionLaws.{position_one, position_two, position_end, one_row, two_row}
 use Rattle.rules.specs.Classes.{header_class, slot_class, object_class}
@@ -19,8 +25,7 @@ use Rattle.rules.specs.declared.HeaderClass.{HeaderClass}
 use Rattle.rules.specs.declared.SlotClass.{SlotClass}
 use Rattle.rules.specs.declared.ObjectClass.{ObjectClass}
 use Rattle.rules.proofs.Tests.{clash}
-use Rattle.classify.specs.declared.ClassAnswer.TheVariants.{NoClass, ClassIs}
-use Rattle.classify.specs.Answer.{has_class, class_answer}
+use Rattle.classify.specs.Answer.{has_class, class_refused, class_answer}
 
 -- ## The row of a position lies in its table
 
@@ -52,24 +57,22 @@ module _ (p o : List ℕ) (at : Position) where
 
 -- ## The answer
 
-module _ (p o : List ℕ) (at : Position) (n : ℕ) (e : n ≡ tables_number p o) where
-  pub answer_refused : (n ≡ 0 → ⊥) → NoClass n ≡ class_answer p o at
-  unfolding class_answer
-  answer_refused d = rw (← e, ne_eqb n 0 d)
+module _ (p o : List ℕ) (at : Position) where
+  pub answer_refused : (e : Refusal) → Err e ≡ told (tables_number p o) (tt {0}) → Err e ≡ class_answer p o at
+  unfolding class_answer class_refused
+  answer_refused e h =
+      let n = tables_refused p o e h in
+      rw (← n, ne_eqb (number e) 0 (refusal_not e)) (sym (told_number e (class_at (parse p o) at)))
 
-  pub sound_is : n ≡ 0 → Sound p o
-  unfolding Sound
-  sound_is h = sym e ∙ h
+  module _ (h : Ok (tt {0}) ≡ told (tables_number p o) (tt {0})) where
+    pub answer_nowhere : is_position (parse p o) at ≡ false → Err NoPlace ≡ class_answer p o at
+    unfolding class_answer class_refused has_class told refusal
+    answer_nowhere k = let n = tables_accepted p o h in rw (← n, k)
 
-  module _ (h : n ≡ 0) where
-    pub answer_nowhere : is_position (parse p o) at ≡ false → NoClass 16 ≡ class_answer p o at
-    unfolding class_answer has_class
-    answer_nowhere k = rw (← e, eq-eqb n 0 h, k)
+    pub answer_end : is_position (parse p o) at ≡ true → is_end at ≡ true → Err NoPlace ≡ class_answer p o at
+    unfolding class_answer class_refused has_class told refusal
+    answer_end k m = let n = tables_accepted p o h in rw (← n, k, m)
 
-    pub answer_end : is_position (parse p o) at ≡ true → is_end at ≡ true → NoClass 16 ≡ class_answer p o at
-    unfolding class_answer has_class
-    answer_end k m = rw (← e, eq-eqb n 0 h, k, m)
-
-    pub answer_class : is_position (parse p o) at ≡ true → is_end at ≡ false → (c : Class) → c ≡ class_at (parse p o) at → ClassIs c ≡ class_answer p o at
-    unfolding class_answer has_class
-    answer_class k m c q = rw (← e, eq-eqb n 0 h, k, m, q)
+    pub answer_class : is_position (parse p o) at ≡ true → is_end at ≡ false → (c : Class) → c ≡ class_at (parse p o) at → Ok c ≡ class_answer p o at
+    unfolding class_answer class_refused has_class told
+    answer_class k m c q = let n = tables_accepted p o h in rw (← n, k, m, q)

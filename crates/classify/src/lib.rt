@@ -8,15 +8,9 @@ ghost use Rattle.tables.specs.Check.{Sound};
 ghost use Rattle.rules.specs.Steps.{class_at};
 ghost use Rattle.classify.specs.Answer.{class_answer};
 
+use refusals::Refusal;
 use rules::Class;
 use tables::Position;
-
-// What is said of the class at a position: the number of a refusal, or the class.
-#[derive(Clone, Copy)]
-pub enum ClassAnswer {
-    NoClass(u32),
-    ClassIs(Class),
-}
 
 // The class at a position of stage one or two.
 pub fn class_of(parents: &[u8], objects: &[u8], at: Position) -> Class
@@ -35,18 +29,12 @@ pub fn class_of(parents: &[u8], objects: &[u8], at: Position) -> Class
 }
 
 // The class at a position, for any bytes and any position: the tables are refused first, then the position.
-pub fn class_at(parents: &[u8], objects: &[u8], at: Position) -> ClassAnswer
+pub fn class_at(parents: &[u8], objects: &[u8], at: Position) -> Result<Class, Refusal>
     ensures { result ≡ class_answer parents.now objects.now at }
 {
-    let number = checks::check_tables(parents, objects);
-    if number != 0 {
-        return ClassAnswer::NoClass(number);
+    checks::check_tables(parents, objects)?;
+    if !positions::is_position(parents, objects, at) || positions::is_end(at) {
+        return Err(Refusal::NoPlace);
     }
-    if !positions::is_position(parents, objects, at) {
-        return ClassAnswer::NoClass(16);
-    }
-    if positions::is_end(at) {
-        return ClassAnswer::NoClass(16);
-    }
-    ClassAnswer::ClassIs(class_of(parents, objects, at))
+    Ok(class_of(parents, objects, at))
 }

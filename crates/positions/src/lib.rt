@@ -48,32 +48,20 @@ pub fn in_stage_one(parents: &[u8], row: u64, part: u64) -> bool
     ensures { result ≡ in_stage_one (parse_parents parents.now) row part }
 {
     let r = row as usize;
-    if parent_count(parents) <= r {
-        return false;
-    }
-    part <= width(parents, r) as u64
+    r < parent_count(parents) && part <= width(parents, r) as u64
 }
 
 // Whether they are a position of stage two.
 pub fn in_stage_two(objects: &[u8], row: u64, part: u64) -> bool
     ensures { result ≡ in_stage_two (parse_objects objects.now) row part }
 {
-    if object_count(objects) <= row as usize {
-        return false;
-    }
-    part == 0
+    (row as usize) < object_count(objects) && part == 0
 }
 
 pub fn is_end(at: Position) -> bool
     ensures { result ≡ is_end at }
 {
-    if at.stage != 3 {
-        return false;
-    }
-    if at.row != 0 {
-        return false;
-    }
-    at.part == 0
+    at.stage == 3 && at.row == 0 && at.part == 0
 }
 
 // Whether a position exists in sound tables.
@@ -81,13 +69,11 @@ pub fn is_position(parents: &[u8], objects: &[u8], at: Position) -> bool
     requires { Sound parents.now objects.now }
     ensures { result ≡ is_position (parse parents.now objects.now) at }
 {
-    if at.stage == 1 {
-        return in_stage_one(parents, at.row, at.part);
+    match at.stage {
+        1 => in_stage_one(parents, at.row, at.part),
+        2 => in_stage_two(objects, at.row, at.part),
+        _ => is_end(at),
     }
-    if at.stage == 2 {
-        return in_stage_two(objects, at.row, at.part);
-    }
-    is_end(at)
 }
 
 pub fn end() -> Position
@@ -146,7 +132,7 @@ pub fn after_part(parents: &[u8], objects: &[u8], row: u64, part: u64) -> Positi
     }
     Position {
         stage: 1,
-        row: row,
+        row,
         part: part + 1,
     }
 }
@@ -156,14 +142,11 @@ pub fn next_position(parents: &[u8], objects: &[u8], at: Position) -> Position
     requires { Sound parents.now objects.now × (is_position (parse parents.now objects.now) at ≡ true) }
     ensures { result ≡ next (parse parents.now objects.now) at }
 {
-    if at.stage == 1 {
-        return after_part(parents, objects, at.row, at.part);
+    match at.stage {
+        1 => after_part(parents, objects, at.row, at.part),
+        2 => from_object(objects, at.row as usize + 1),
+        _ => end(),
     }
-    if at.stage == 2 {
-        let o = at.row as usize;
-        return from_object(objects, o + 1);
-    }
-    end()
 }
 
 // The steps of stage one: one for each row and one for each slot.
@@ -171,10 +154,9 @@ pub fn row_steps(parents: &[u8]) -> u32
     requires { (good_layouts parents.now ≡ true) × (length parents.now / parent_size ≤ max_parents) }
     ensures { result ≡ row_steps (parse_parents parents.now) }
 {
-    let n = parents.len() / PARENT_SIZE;
     let mut steps: u32 = 0;
-    for r in 0..n {
-        steps = steps + 1 + row_width(rows::row_at(parents, PARENT_SIZE, r)) as u32;
+    for row in parents.chunks_exact(PARENT_SIZE) {
+        steps += 1 + row_width(row) as u32;
     }
     steps
 }

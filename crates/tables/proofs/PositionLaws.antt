@@ -1,6 +1,6 @@
 -- Positions of parsed tables, read off the bytes: the number of rows, a row's slots, and the answers case by case. Assumes nothing.
 use mathlib.Core.Path.{◌≡◌, refl, ap, ◌∙◌}
-use mathlib.Core.List.{List, [], map}
+use mathlib.Core.List.{List, [], ◌∷◌, map}
 use mathlib.Core.Bool.{Bool, true, false, ◌||◌}
 use Prim.Native.Nat.{ℕ, suc, ◌+◌, ◌-◌, ◌*◌, ◌/◌, ◌≤◌, ◌<◌}
 use native.Mathlib.Numerals.{add-one}
@@ -9,7 +9,7 @@ use borrow.Author.Tests.{eq-eqb, ne_eqb, lt-ltb, le-ltb, ltb-true}
 use lib.Dec.{leb, ltb, eqb}
 use lib.ListN.{length, get_or, take, drop, length-map, get_or-map}
 use Rattle.wire.specs.Rows.{rows}
-use Rattle.wire.proofs.RowLaws.{rows_length, rows_at, rows_start, rows_step, rows_end}
+use Rattle.wire.proofs.RowLaws.{rows_length, rows_at}
 use Rattle.wire.proofs.Both.{and_first}
 use Rattle.layout.specs.Layout.{decode_layout, stripe_count, slot_start}
 use Rattle.layout.proofs.SlotLaws.{length_slots}
@@ -176,24 +176,21 @@ module _ (T : Tables) (p : Position) where
 
 -- ## The count
 
--- the steps of the rows from row r of n on
-pub steps_from : List ℕ → ℕ → ℕ → ℕ
-steps_from p n r = row_steps (map parse_parent (rows parent_size (n - r) (drop (parent_size * r) p)))
+-- the steps of rows, one after another
+pub steps_of : List (List ℕ) → ℕ
+steps_of ls = row_steps (map parse_parent ls)
 
-module _ (p : List ℕ) where
-  pub steps_start : row_steps (parse_parents p) ≡ 0 + steps_from p (length p / parent_size) 0
-  unfolding parse_parents parent_rows steps_from
-  steps_start = ap (λ (l : List (List ℕ)). row_steps (map parse_parent l)) (rows_start parent_size (length p / parent_size) p) ∙ omega arith
+pub steps_start : (p : List ℕ) → row_steps (parse_parents p) ≡ steps_of (parent_rows p)
+unfolding parse_parents steps_of
+steps_start p = refl
 
-  pub steps_end : (n r s x : ℕ) → x ≡ s + steps_from p n r → n ≤ r → s ≡ x
-  unfolding steps_from row_steps
-  steps_end n r s x e h = let z : steps_from p n r ≡ 0 = rw (rows_end parent_size n r p h) in omega arith
+pub steps_end : (ls : List (List ℕ)) → ls ≡ [] → steps_of ls ≡ 0
+unfolding steps_of row_steps
+steps_end ls e = rw e
 
-  pub steps_step : (n r s x w : ℕ) (row : List ℕ) → x ≡ s + steps_from p n r → r < n → row ≡ take parent_size (drop (parent_size * r) p) →
-      w ≡ length (slots_of (parse_parent row)) → x ≡ s + 1 + w + steps_from p n (r + 1)
-  unfolding steps_from row_steps
-  steps_step n r s x w row e h at k =
-      let z : steps_from p n r ≡ suc w + steps_from p n (r + 1) = rw (rows_step parent_size n r p h, ← at, k) in omega arith
+pub steps_step : (ls rest : List (List ℕ)) (row : List ℕ) (w : ℕ) → ls ≡ row ∷ rest → w ≡ length (slots_of (parse_parent row)) → steps_of ls ≡ 1 + w + steps_of rest
+unfolding steps_of row_steps
+steps_step ls rest row w e k = rw (e, k) (omega arith)
 
 pub count_is : (p o : List ℕ) (m n : ℕ) → m ≡ row_steps (parse_parents p) → n ≡ length o / object_size → m + n ≡ count_steps (parse p o)
 unfolding count_steps

@@ -36,17 +36,3 @@ pub struct Position {
     pub row: u64,
     pub part: u64,
 }
-
-// What is said of the start: the number of a refusal, or the position.
-#[derive(Clone, Copy)]
-pub enum StartAnswer {
-    NoStart(u32),
-    StartIs(Position),
-}
-
-// What is said of the step count: the number of a refusal, or the count.
-#[derive(Clone, Copy)]
-pub enum StepsAnswer {
-    NoSteps(u32),
-    StepsAre(u64),
-}

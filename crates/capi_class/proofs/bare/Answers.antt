@@ -1,7 +1,6 @@
 use Rattle.rules.specs.Classes.{only}
-use Rattle.capi_class.specs.Classes.{listed}
 use Rattle.capi_class.proofs.bare.Goals as goal
 
 pub returns : goal.returns
-unfolding listed only
+unfolding only
 returns c = cc

@@ -1,6 +1,5 @@
 use mathlib.Core.Path.{sym, ap, ◌∙◌}
 use Rattle.rules.specs.Classes.{slot_numbers}
-use Rattle.capi_class.specs.Classes.{listed}
 use Rattle.capi_class.proofs.slot_numbers.Goals as goal
 
 pub returns-in-CLEAN : goal.returns-in-CLEAN
@@ -24,7 +23,7 @@ unfolding slot_numbers
 returns-in-BLANK c = c.bare-in-BLANK.ensures ∙ ap slot_numbers (sym c.in-BLANK.is)
 
 pub returns-in-UNMATCHED : goal.returns-in-UNMATCHED
-unfolding slot_numbers listed
+unfolding slot_numbers
 returns-in-UNMATCHED c = ap slot_numbers (sym c.in-UNMATCHED.is)
 
 pub returns-in-OWNER : goal.returns-in-OWNER

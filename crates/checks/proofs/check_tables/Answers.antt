@@ -1,5 +1,5 @@
 use mathlib.Core.Path.{sym, ◌∙◌}
-use Rattle.tables.proofs.CheckLaws.{tables_11, tables_13, tables_14, tables_15, tables_0}
+use Rattle.tables.proofs.CheckLaws.{tables_11, tables_13, tables_14, tables_15, tables_passed}
 use Rattle.checks.proofs.check_tables.Goals as goal
 
 pub returns-then-not-both_whole : goal.returns-then-not-both_whole
@@ -35,7 +35,7 @@ returns-then-not-all_different c =
 pub returns : goal.returns
 returns c =
     let a = c.args in
-    tables_0 a.parents.now a.objects.now
+    tables_passed a.parents.now a.objects.now
     (sym c.both_whole.ensures ∙ c.if-not-both_whole.false)
     (sym c.good_layouts.ensures ∙ c.if-not-good_layouts.false)
     (sym c.good_rows.ensures ∙ c.if-not-good_rows.false)

@@ -1,9 +1,13 @@
-use native.Mathlib.Omega.{arith}
-use Rattle.tables.proofs.PositionLaws.{one_past, one_part}
+use Rattle.std.proofs.Common.{arith}
+use Rattle.std.proofs.lemmas.Grind.{common_steps}
+use Rattle.tables.specs.Positions.{in_stage_one}
+use Rattle.tables.proofs.PositionLaws.{parsed_parents}
 use Rattle.positions.proofs.in_stage_one.Goals as goal
 
-pub returns-then-parent_count-r : goal.returns-then-parent_count-r
-returns-then-parent_count-r c = let a = c.args in one_past a.parents.now a.row a.part (omega arith)
+pub returns-then-r-parent_count : goal.returns-then-r-parent_count
+unfolding in_stage_one
+returns-then-r-parent_count c = grind (arith, common_steps, parsed_parents)
 
-pub returns : goal.returns
-returns c = let a = c.args in one_part a.parents.now a.row a.part (omega arith) _ c.width.ensures
+pub returns-else-r-parent_count : goal.returns-else-r-parent_count
+unfolding in_stage_one
+returns-else-r-parent_count c = grind (arith, common_steps, parsed_parents)

@@ -1,9 +1,13 @@
-use native.Mathlib.Omega.{arith}
-use Rattle.tables.proofs.PositionLaws.{two_past, two_part}
+use Rattle.std.proofs.Common.{arith}
+use Rattle.std.proofs.lemmas.Grind.{common_steps}
+use Rattle.tables.specs.Positions.{in_stage_two}
+use Rattle.tables.proofs.PositionLaws.{parsed_objects}
 use Rattle.positions.proofs.in_stage_two.Goals as goal
 
-pub returns-then-object_count-row : goal.returns-then-object_count-row
-returns-then-object_count-row c = let a = c.args in two_past a.objects.now a.row a.part (omega arith)
+pub returns-then-row-object_count : goal.returns-then-row-object_count
+unfolding in_stage_two
+returns-then-row-object_count c = grind (arith, common_steps, parsed_objects)
 
-pub returns : goal.returns
-returns c = let a = c.args in two_part a.objects.now a.row a.part (omega arith)
+pub returns-else-row-object_count : goal.returns-else-row-object_count
+unfolding in_stage_two
+returns-else-row-object_count c = grind (arith, common_steps, parsed_objects)

@@ -1,12 +1,12 @@
-use native.Mathlib.Omega.{arith}
-use Rattle.tables.proofs.PositionLaws.{end_stage, end_row, end_part}
+use Rattle.std.proofs.Common.{arith}
+use Rattle.std.proofs.lemmas.Grind.{common_steps}
+use Rattle.tables.specs.Positions.{is_end}
 use Rattle.positions.proofs.is_end.Goals as goal
 
-pub returns-then-at-ne3 : goal.returns-then-at-ne3
-returns-then-at-ne3 c = end_stage _ c.if-at-ne3.true
+pub returns-then-at-eq0 : goal.returns-then-at-eq0
+unfolding is_end
+returns-then-at-eq0 c = grind (arith, common_steps)
 
-pub returns-then-at-ne0 : goal.returns-then-at-ne0
-returns-then-at-ne0 c = end_row _ (omega arith) c.if-at-ne0.true
-
-pub returns : goal.returns
-returns c = end_part _ (omega arith) (omega arith)
+pub returns-else-at-eq0 : goal.returns-else-at-eq0
+unfolding is_end
+returns-else-at-eq0 c = grind (arith, common_steps)

@@ -14,13 +14,13 @@ after_part-requires c =
           (position_one (parse a.parents.now a.objects.now) a.at (omega arith) ∙ d.requires.1),
     )
 
-pub returns-then-at-eq1 : goal.returns-then-at-eq1
-returns-then-at-eq1 c =
+pub returns-in-1 : goal.returns-in-1
+returns-in-1 c =
     let a = c.args in
     c.after_part.ensures ∙ next_one (parse a.parents.now a.objects.now) a.at (omega arith)
 
-pub overflow_add-o : goal.overflow_add-o
-overflow_add-o c =
+pub overflow_add-at : goal.overflow_add-at
+overflow_add-at c =
     let d = c in
     let a = d.args in
     omega (
@@ -29,12 +29,12 @@ overflow_add-o c =
           (position_two (parse a.parents.now a.objects.now) a.at (omega arith) ∙ d.requires.1),
     )
 
-pub returns-then-at-eq2 : goal.returns-then-at-eq2
-returns-then-at-eq2 c =
+pub returns-in-2 : goal.returns-in-2
+returns-in-2 c =
     let a = c.args in
     c.from_object.ensures ∙ next_two (parse a.parents.now a.objects.now) a.at (omega arith)
 
-pub returns : goal.returns
-returns c =
+pub returns-in_default : goal.returns-in_default
+returns-in_default c =
     let a = c.args in
     c.end.ensures ∙ next_end (parse a.parents.now a.objects.now) a.at (λ e. omega arith) (λ e. omega arith)

@@ -1,13 +1,13 @@
-use mathlib.Core.Path.{ap, ◌∙◌}
-use native.Mathlib.Omega.{arith}
-use mathlib.Core.Bool.{not}
-use Rattle.tables.proofs.TestLaws.{fresh_not, fresh_is}
+use Rattle.std.proofs.Common.{arith}
+use Rattle.std.proofs.lemmas.Grind.{common_steps}
+use Rattle.tables.specs.Bytes.{claimed_fid}
+use Rattle.tables.specs.Check.{fresh_claims}
 use Rattle.checks.proofs.fids.fresh_claims.Goals as goal
 
 pub returns-then-row-ne1 : goal.returns-then-row-ne1
-returns-then-row-ne1 c = let a = c.args in fresh_not a.row.now c.if-row-ne1.true
+unfolding fresh_claims claimed_fid
+returns-then-row-ne1 c = grind (arith, common_steps)
 
-pub returns : goal.returns
-returns c =
-    let a = c.args in
-    ap not c.is_zero.ensures ∙ fresh_is a.row.now (omega arith) _ c.read_fid.ensures
+pub returns-else-row-ne1 : goal.returns-else-row-ne1
+unfolding fresh_claims claimed_fid
+returns-else-row-ne1 c = grind (arith, common_steps)

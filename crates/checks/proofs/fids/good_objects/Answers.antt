@@ -1,25 +1,9 @@
-use mathlib.Core.Path.{sym, ◌∙◌}
-use native.Mathlib.Omega.{arith}
-use Rattle.tables.specs.Bytes.{object_size, object_rows}
-use Rattle.tables.specs.Check.{when_used, good_object}
-use Rattle.tables.proofs.AllLaws.{all_start, all_end, all_pass, all_fail}
+use Rattle.std.proofs.Common.{lit<, rules}
+use Rattle.tables.specs.Bytes.{object_rows}
+use Rattle.tables.specs.Check.{good_object, when_used}
+use Rattle.tables.proofs.AllLaws.{all_chunks}
 use Rattle.checks.proofs.fids.good_objects.Goals as goal
 
-pub loop-r-init : goal.loop-r-init
-unfolding object_rows
-loop-r-init c = (omega arith, all_start (when_used good_object) object_size _ _)
-
-pub returns-then-not-good_object : goal.returns-then-not-good_object
-returns-then-not-good_object c =
-    let d = c in
-    let i = d.loop-r.invariant in
-    all_fail (when_used good_object) object_size _ _ _ _ _ i.1 (omega arith) d.row_at.ensures.0 (sym c.good_object.ensures ∙ c.if-not-good_object.true)
-
-pub loop-r-preserved : goal.loop-r-preserved
-loop-r-preserved c =
-    let d = c in
-    let i = d.loop-r.invariant in
-    (omega arith, all_pass (when_used good_object) object_size _ _ _ _ _ i.1 (omega arith) d.row_at.ensures.0 (sym c.good_object.ensures ∙ c.if-not-good_object.false))
-
 pub returns : goal.returns
-returns c = all_end (when_used good_object) object_size _ _ _ _ c.loop-r.invariant.1 (omega arith)
+unfolding object_rows
+returns c = all_chunks (when_used good_object) _ _ _ c.all.ensures.ran (lit< tt) c.chunks_exact.ensures.rest c.chunks_exact.ensures.size (λ x b q k. search rules)

@@ -1,25 +1,9 @@
-use mathlib.Core.Path.{sym, ◌∙◌}
-use native.Mathlib.Omega.{arith}
-use Rattle.tables.specs.Bytes.{parent_size, parent_rows}
-use Rattle.tables.specs.Check.{when_used, good_layout, good_layouts}
-use Rattle.tables.proofs.AllLaws.{all_start, all_end, all_pass, all_fail}
+use Rattle.std.proofs.Common.{lit<, rules}
+use Rattle.tables.specs.Bytes.{parent_rows}
+use Rattle.tables.specs.Check.{good_layout, good_layouts, when_used}
+use Rattle.tables.proofs.AllLaws.{all_chunks}
 use Rattle.checks.proofs.layouts.good_layouts.Goals as goal
 
-pub loop-r-init : goal.loop-r-init
-unfolding good_layouts parent_rows
-loop-r-init c = (omega arith, all_start (when_used good_layout) parent_size _ _)
-
-pub returns-then-not-good_layout : goal.returns-then-not-good_layout
-returns-then-not-good_layout c =
-    let d = c in
-    let i = d.loop-r.invariant in
-    all_fail (when_used good_layout) parent_size _ _ _ _ _ i.1 (omega arith) d.row_at.ensures.0 (sym c.good_layout.ensures ∙ c.if-not-good_layout.true)
-
-pub loop-r-preserved : goal.loop-r-preserved
-loop-r-preserved c =
-    let d = c in
-    let i = d.loop-r.invariant in
-    (omega arith, all_pass (when_used good_layout) parent_size _ _ _ _ _ i.1 (omega arith) d.row_at.ensures.0 (sym c.good_layout.ensures ∙ c.if-not-good_layout.false))
-
 pub returns : goal.returns
-returns c = all_end (when_used good_layout) parent_size _ _ _ _ c.loop-r.invariant.1 (omega arith)
+unfolding good_layouts parent_rows
+returns c = all_chunks (when_used good_layout) _ _ _ c.all.ensures.ran (lit< tt) c.chunks_exact.ensures.rest c.chunks_exact.ensures.size (λ x b q k. search rules)

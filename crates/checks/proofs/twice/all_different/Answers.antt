@@ -1,12 +1,13 @@
-use mathlib.Core.Path.{sym, ◌∙◌}
+use Rattle.std.proofs.Common.{arith}
+use Rattle.std.proofs.lemmas.Grind.{common_steps}
 use Rattle.tables.specs.Bytes.{parent_rows, object_rows}
-use Rattle.tables.proofs.TestLaws.{parents_twice, objects_twice}
+use Rattle.tables.specs.Check.{all_different}
 use Rattle.checks.proofs.twice.all_different.Goals as goal
 
-pub returns-then-not-none_twice : goal.returns-then-not-none_twice
-unfolding parent_rows
-returns-then-not-none_twice c = parents_twice _ _ (sym c.none_twice.ensures ∙ c.if-not-none_twice.true)
+pub returns-then-none_twice : goal.returns-then-none_twice
+unfolding all_different parent_rows object_rows
+returns-then-none_twice c = grind (arith, common_steps)
 
-pub returns : goal.returns
-unfolding parent_rows object_rows
-returns c = c.none_twice-2.ensures ∙ objects_twice _ _ (sym c.none_twice.ensures ∙ c.if-not-none_twice.false)
+pub returns-else-none_twice : goal.returns-else-none_twice
+unfolding all_different parent_rows object_rows
+returns-else-none_twice c = grind (arith, common_steps)

@@ -1,11 +1,11 @@
 use mathlib.Core.Path.{sym, ◌∙◌}
 use native.Mathlib.Omega.{arith}
 use native.Mathlib.Nat.{div-le_self}
-use mathlib.Core.Logic.{⊎_elim}
 use lib.ListN.{length}
 use Rattle.tables.proofs.AllLaws.{row_fits}
 use Rattle.tables.proofs.TwiceLaws.{none_start, none_end, none_unused, none_pass, none_fail}
 use Rattle.checks.proofs.twice.none_twice.Goals as goal
+use Rattle.checks.proofs.twice.none_twice.Goals.{else-is_used-via-then-is_used+else-has_self, else-is_used-via-else-is_used}
 
 pub loop-r-init : goal.loop-r-init
 loop-r-init c = (omega arith, none_start _ _ _)
@@ -27,16 +27,16 @@ overflow_step-r c = let a = c.args in omega (arith, div-le_self (length a.table.
 
 pub loop-r-preserved : goal.loop-r-preserved
 loop-r-preserved c =
-    let d = c in
-    let i = d.loop-r.invariant in
-    ⊎_elim
-    (λ w. (
-      omega arith,
-      none_pass _ _ _ _ _ _ i.1 (omega arith) d.row_at-row.ensures.0 (sym c.is_used.ensures ∙ w.if-is_used.true)
-          _ w.self_fid.ensures (sym w.has_self.ensures ∙ w.if-has_self.false),
-    ))
-    (λ w. (omega arith, none_unused _ _ _ _ _ _ i.1 (omega arith) d.row_at-row.ensures.0 (sym c.is_used.ensures ∙ w.if-is_used.false)))
-    c.if-is_used.branch-raw
+    let i = c.loop-r.invariant in
+    elim c.else-is_used.branch [
+      | else-is_used-via-then-is_used+else-has_self w ↦ (
+        omega arith,
+        none_pass _ _ _ _ _ _ i.1 (omega arith) c.row_at-row.ensures.0 (sym c.is_used.ensures ∙ w.if-is_used.true)
+            _ w.self_fid.ensures (sym w.has_self.ensures ∙ w.if-has_self.false),
+      )
+      | else-is_used-via-else-is_used w ↦
+          (omega arith, none_unused _ _ _ _ _ _ i.1 (omega arith) c.row_at-row.ensures.0 (sym c.is_used.ensures ∙ w.if-is_used.false))
+    ]
 
 pub returns : goal.returns
 returns c = none_end _ _ _ _ _ c.loop-r.invariant.1 (omega arith)

@@ -1,11 +1,13 @@
-use mathlib.Core.Path.{sym, ◌∙◌}
+use Rattle.std.proofs.Common.{arith}
+use Rattle.std.proofs.lemmas.Grind.{common_steps}
 use Rattle.tables.specs.Bytes.{parent_rows}
-use Rattle.tables.proofs.TestLaws.{parents_not, parents_marks}
+use Rattle.tables.specs.Check.{parents_whole}
 use Rattle.checks.proofs.whole.parents_whole.Goals as goal
 
-pub returns-then-not-whole_rows : goal.returns-then-not-whole_rows
-returns-then-not-whole_rows c = parents_not _ (sym c.whole_rows.ensures ∙ c.if-not-whole_rows.true)
+pub returns-then-whole_rows : goal.returns-then-whole_rows
+unfolding parents_whole parent_rows
+returns-then-whole_rows c = grind (arith, common_steps)
 
-pub returns : goal.returns
-unfolding parent_rows
-returns c = c.used_marks.ensures ∙ parents_marks _ (sym c.whole_rows.ensures ∙ c.if-not-whole_rows.false)
+pub returns-else-whole_rows : goal.returns-else-whole_rows
+unfolding parents_whole parent_rows
+returns-else-whole_rows c = grind (arith, common_steps)

@@ -1,14 +1,12 @@
-use native.Mathlib.Omega.{arith}
-use native.Mathlib.Nat.{mul-div-le}
-use lib.ListN.{length}
-use Rattle.tables.proofs.TestLaws.{whole_not, whole_most}
+use Rattle.std.proofs.Common.{arith}
+use Rattle.std.proofs.lemmas.Grind.{common_steps}
+use Rattle.tables.specs.Check.{whole_rows}
 use Rattle.checks.proofs.whole.whole_rows.Goals as goal
 
-pub overflow_mul-size : goal.overflow_mul-size
-overflow_mul-size c = let a = c.args in omega (arith, mul-div-le (length a.table.now) a.size)
-
 pub returns-then-size-n : goal.returns-then-size-n
-returns-then-size-n c = whole_not _ _ c.args.table.now c.if-size-n.true
+unfolding whole_rows
+returns-then-size-n c = grind (arith, common_steps)
 
-pub returns : goal.returns
-returns c = whole_most _ _ c.args.table.now (omega arith)
+pub returns-else-size-n : goal.returns-else-size-n
+unfolding whole_rows
+returns-else-size-n c = grind (arith, common_steps)
