@@ -20,7 +20,8 @@ use Rattle.linkea.specs.Link.{Link, link_header, parent_at, name_at, header_of, 
 use Rattle.linkea.specs.Conditions.{some}
 use Rattle.linkea.specs.declared.LinkHeader.{LinkHeader}
 use Rattle.linkea.proofs.PlaceLaws.{or_first, or_second}
-use Rattle.linkea_write.specs.declared.Written.TheVariants.{BadRecords, TooShort, Bytes}
+use Rattle.std.specs.Prelude.{Ok, Err}
+use Rattle.refusals.specs.declared.Refusal.TheVariants.{BadLink, TooShort}
 use Rattle.linkea_write.specs.Writer.{link_numbers, number_of, start_given, size_given, parent_given, link_given, link_ea_given, upward, bytes_given, bad_given, other_count, other_total, refused_given, write_link, left_by, write_link_bytes}
 use Rattle.linkea_write.proofs.LinkLaws.{length_link, length_link_header, links_append}
 use Rattle.linkea_write.proofs.GivenLaws.{start_of, size_of, length_name, length_links, length_upward, upward_more}
@@ -149,23 +150,23 @@ module _ (d numbers names : List ℕ) where
 -- ## The writer's answers
 
 module _ (h : LinkHeader) (numbers names dest : List ℕ) where
-  pub write_bad : refused_given h numbers names ≡ true → (BadRecords ≡ write_link h numbers names dest) × (dest ≡ write_link_bytes h numbers names dest)
+  pub write_bad : refused_given h numbers names ≡ true → (Err BadLink ≡ write_link h numbers names dest) × (dest ≡ write_link_bytes h numbers names dest)
   unfolding write_link write_link_bytes left_by
   write_bad w = (rw w, rw w)
 
   pub write_short : refused_given h numbers names ≡ false → length dest < h.total →
-      (TooShort ≡ write_link h numbers names dest) × (dest ≡ write_link_bytes h numbers names dest)
+      (Err TooShort ≡ write_link h numbers names dest) × (dest ≡ write_link_bytes h numbers names dest)
   unfolding write_link write_link_bytes left_by
   write_short w k = let t : ltb (length dest) h.total ≡ true = lt-ltb (length dest) h.total k in (rw (w, t), rw (w, t))
 
   pub write_is : refused_given h numbers names ≡ false → h.total ≤ length dest →
-      (write_link h numbers names dest ≡ Bytes h.total) × (write_link_bytes h numbers names dest ≡ sets dest 0 (encode_link_ea (link_ea_given h numbers names)))
+      (write_link h numbers names dest ≡ Ok h.total) × (write_link_bytes h numbers names dest ≡ sets dest 0 (encode_link_ea (link_ea_given h numbers names)))
   unfolding write_link write_link_bytes left_by
   write_is w k = let t : ltb (length dest) h.total ≡ false = le-ltb (length dest) h.total k in (rw (w, t), rw (w, t))
 
   pub write_done : (x y : List ℕ) → refused_given h numbers names ≡ false → h.total ≤ length dest → x ≡ sets dest 0 (encode_link_header h) →
       y ≡ sets x link_header (encode_links (map (link_given numbers names) (upward h.count 0))) →
-      (Bytes h.total ≡ write_link h numbers names dest) × (y ≡ write_link_bytes h numbers names dest)
+      (Ok h.total ≡ write_link h numbers names dest) × (y ≡ write_link_bytes h numbers names dest)
   unfolding encode_link_ea link_ea_given
   write_done x y w k p q =
       let r = write_is w k in
@@ -175,12 +176,12 @@ module _ (h : LinkHeader) (numbers names dest : List ℕ) where
       (sym r.0, e ∙ ap (λ (g : LinkHeader). sets dest 0 (encode_link_header g ++ s)) (sym f.header) ∙ sym r.1)
 
   -- the bytes that the writer says it wrote, of records that it takes and into a destination with room
-  pub write_took : (b : ℕ) → write_link h numbers names dest ≡ Bytes b → (refused_given h numbers names ≡ false) × (h.total ≤ length dest) × (b ≡ h.total)
+  pub write_took : (b : ℕ) → write_link h numbers names dest ≡ Ok b → (refused_given h numbers names ≡ false) × (h.total ≤ length dest) × (b ≡ h.total)
   unfolding write_link
   write_took b = go (refused_given h numbers names) (ltb (length dest) h.total) refl refl
     where
       go : (u v : Bool) → refused_given h numbers names ≡ u → ltb (length dest) h.total ≡ v →
-          cond u BadRecords (cond v TooShort (Bytes h.total)) ≡ Bytes b →
+          cond u (Err BadLink) (cond v (Err TooShort) (Ok h.total)) ≡ Ok b →
           (refused_given h numbers names ≡ false) × (h.total ≤ length dest) × (b ≡ h.total)
       go false false p q e = (p, ltb-false (length dest) h.total q, cc)
       go false true p q e = let z : ◌≡◌ {A = ℕ} 0 1 = cc in absurd (omega (arith, z))

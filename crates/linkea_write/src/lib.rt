@@ -13,6 +13,7 @@ use linkea::{
     COUNT_AT, LINK_HEADER, LINK_MAGIC, LinkHeader, NAME_AT, PADDING_AT, PARENT_AT, TIME_AT,
     TOTAL_AT,
 };
+use refusals::Refusal;
 use wire::MAX_WORD;
 
 // The numbers of a record that is handed in: sequence, id and version of the parent, where the name starts, its length.
@@ -27,14 +28,6 @@ const SIZE_AT: usize = START_AT + 1;
 const LONGEST_RECORD: u64 = 65535;
 
 const LONGEST_NAME: u64 = LONGEST_RECORD - NAME_AT as u64;
-
-// What the writer says: refused records, a short destination, or the bytes written.
-#[derive(Clone, Copy)]
-pub enum Written {
-    BadRecords,
-    TooShort,
-    Bytes(usize),
-}
 
 // The parent of the j-th record, whose id and version fit their fields.
 fn parent_given(numbers: &[u64], j: usize) -> MdtFid
@@ -171,18 +164,23 @@ fn write_records(dest: &mut [u8], numbers: &[u64], names: &[u8], count: usize)
     }
 }
 
-// Writes a linkEA at the start of the destination: 31 for what it is handed, then 17 for the room.
-pub fn write(h: LinkHeader, numbers: &[u64], names: &[u8], dest: &mut [u8]) -> Written
+// Writes a linkEA at the start of the destination and gives the bytes written: 31 for what it is handed, then 17 for the room.
+pub fn write(
+    h: LinkHeader,
+    numbers: &[u64],
+    names: &[u8],
+    dest: &mut [u8],
+) -> Result<usize, Refusal>
     ensures answer { result ≡ write_link h numbers.now names.now dest.old }
     ensures bytes { dest.new ≡ write_link_bytes h numbers.now names.now dest.old }
 {
     if refused_given(h, numbers, names) {
-        return Written::BadRecords;
+        return Err(Refusal::BadLink);
     }
     if (dest.len() as u64) < h.total {
-        return Written::TooShort;
+        return Err(Refusal::TooShort);
     }
     write_header(dest, h);
     write_records(dest, numbers, names, h.count as usize);
-    Written::Bytes(h.total as usize)
+    Ok(h.total as usize)
 }
