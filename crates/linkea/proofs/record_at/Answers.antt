@@ -9,9 +9,6 @@ use Rattle.linkea.proofs.record_at.Goals as goal
 pub returns-then-refused : goal.returns-then-refused
 returns-then-refused c = let a = c.args in record_refused a.l.now a.p (sym c.refused.ensures ∙ c.if-refused.true)
 
-pub begins-requires : goal.begins-requires
-begins-requires c = sym c.refused.ensures ∙ c.if-refused.false
-
 pub returns-then-not-begins : goal.returns-then-not-begins
 returns-then-not-begins c =
     let b = c in

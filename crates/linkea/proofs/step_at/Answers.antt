@@ -17,9 +17,6 @@ returns-then-bad_record c =
     let a = c.args in
     step_bad a.l.now a.p (omega arith) (omega arith) (sym c.bad_record.ensures ∙ c.if-bad_record.true)
 
-pub found_at-requires : goal.found_at-requires
-found_at-requires c = (omega arith, sym c.bad_record.ensures ∙ c.if-bad_record.false)
-
 pub returns : goal.returns
 returns c =
     let a = c.args in
