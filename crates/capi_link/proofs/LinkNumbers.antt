@@ -1,9 +1,9 @@
 -- LinkEA values as numbers, case by case. Assumes nothing.
 use mathlib.Core.Path.{◌≡◌, refl, sym, ◌∙◌}
 use mathlib.Core.List.{List, [], ◌∷◌}
-use mathlib.Core.Bool.{Bool, true, false, cond, ◌&&◌}
+use mathlib.Core.Bool.{Bool, true, false, cond}
 use Prim.Native.Nat.{ℕ, ◌≤◌, ◌<◌}
-use borrow.Author.Tests.{eq-eqb, ne_eqb, le-leb, lt-leb, eqb-true, eqb-false, leb-true}
+use borrow.Author.Tests.{eq-eqb, ne_eqb, le-leb, lt-leb, eqb-true, eqb-false}
 use native.Mathlib.Omega.{arith}
 use lib.Dec.{eqb, leb, ltb}
 use lib.ListN.{length, get_or, set}
@@ -14,7 +14,6 @@ use Rattle.refusals.specs.declared.Refusal.{Refusal}
 use Rattle.refusals.specs.declared.Refusal.TheVariants.{BadLink, TooShort}
 use Rattle.refusals.proofs.NumberLaws.{told_number, told_ok}
 use Rattle.wire.specs.Numbers.{max_word}
-use Rattle.wire.proofs.Both.{and_first, and_second}
 use Rattle.linkea.specs.Answers.{read_link, reading_number, read_record, record_number}
 use Rattle.linkea.specs.declared.LinkHeader.{LinkHeader}
 use Rattle.linkea.specs.declared.Found.{Found}
@@ -69,11 +68,6 @@ module _ (l out : List ℕ) where
     unfolding header_fields
     read_done x k q = out_done (reading_number (read_link l)) (read_fields (read_link l)) out x read_number (rw read_fields_lem k) (rw read_fields_lem q)
 
-pub found_put : (l x y z : List ℕ) (f : Found) → x ≡ sets l 0 (f.parent.0.seq ∷ f.parent.0.oid ∷ f.parent.0.ver ∷ f.start ∷ []) →
-    y ≡ set x 4 f.size → z ≡ set y 5 f.next → z ≡ sets l 0 (found_fields f)
-unfolding found_fields found_numbers
-found_put l x y z f p q r = rw (r, q, p)
-
 module _ (l : List ℕ) (p : ℕ) (out : List ℕ) where
   abbrev pub RecordLeaves : ℕ → List ℕ → Type 0
   RecordLeaves a o =
@@ -119,29 +113,6 @@ module _ (l : List ℕ) where
   pub fit_padding : length l ≡ header_numbers → get_or l 0 0 ≤ max_word → get_or l 2 0 ≤ max_word → leb (get_or l 3 0) max_word ≡ fields_fit l
   unfolding fields_fit
   fit_padding h k t = rw (eq-eqb (length l) header_numbers h, le-leb (get_or l 0 0) max_word k, le-leb (get_or l 2 0) max_word t)
-
--- four numbers that fit
-pub record FitFields (l : List ℕ) : Type 0 where
-  pub four : length l ≡ header_numbers
-  pub count : get_or l 0 0 ≤ max_word
-  pub time : get_or l 2 0 ≤ max_word
-  pub padding : get_or l 3 0 ≤ max_word
-
-pub fit_fields : (l : List ℕ) → fields_fit l ≡ true → FitFields l
-unfolding fields_fit
-fit_fields l f =
-    let a : Bool = eqb (length l) header_numbers in
-    let b : Bool = leb (get_or l 0 0) max_word in
-    let c : Bool = leb (get_or l 2 0) max_word in
-    let d : Bool = leb (get_or l 3 0) max_word in
-    let abc : (a && b && c) ≡ true = and_first (a && b && c) d f in
-    let ab : (a && b) ≡ true = and_first (a && b) c abc in
-    record {
-      four = eqb-true (length l) header_numbers (and_first a b ab);
-      count = leb-true (get_or l 0 0) max_word (and_second a b ab);
-      time = leb-true (get_or l 2 0) max_word (and_second (a && b) c abc);
-      padding = leb-true (get_or l 3 0) max_word (and_second (a && b && c) d f);
-    }
 
 pub header_none : (l : List ℕ) → fields_fit l ≡ false → None ≡ header_given l
 unfolding header_given

@@ -27,14 +27,12 @@ pub fn link_read(link: &[u8], out: &mut [u64]) -> Result<(), Refusal>
     if out.len() < HEADER_NUMBERS {
         return Err(Refusal::TooShort);
     }
-    capi_out::put_four(
-        out,
-        0,
+    out[..HEADER_NUMBERS].copy_from_slice(&[
         h.count as u64,
         h.total,
         h.time as u64,
         h.padding as u64,
-    );
+    ]);
     Ok(())
 }
 
@@ -44,16 +42,14 @@ fn put_found(out: &mut [u64], x: Found)
     ensures { out.new ≡ sets out.old 0 (found_fields x) }
 {
     let parent = x.parent.0;
-    capi_out::put_four(
-        out,
-        0,
+    out[..RECORD_NUMBERS].copy_from_slice(&[
         parent.seq,
         parent.oid as u64,
         parent.ver as u64,
         x.start as u64,
-    );
-    capi_out::put(out, 4, x.size as u64);
-    capi_out::put(out, 5, x.next as u64);
+        x.size as u64,
+        x.next as u64,
+    ]);
 }
 
 // Reads the record at a place: 6 numbers into out.
@@ -110,7 +106,7 @@ fn write_given(
         return Err(Refusal::TooShort);
     }
     let n = linkea_write::write(h, records, names, dest)?;
-    capi_out::put(out, 0, n as u64);
+    out[0] = n as u64;
     Ok(())
 }
 

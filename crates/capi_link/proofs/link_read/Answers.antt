@@ -1,5 +1,7 @@
-use Rattle.std.proofs.Common.{sym}
+use Rattle.std.proofs.Common.{◌++◌, drop, sym, ap, ◌∙◌}
 use Rattle.std.proofs.lemmas.Result.{err_from_is_err_and}
+use Rattle.wire.proofs.Splice.{sets_front}
+use Rattle.capi_link.specs.Links.{header_fields}
 use Rattle.capi_link.proofs.LinkNumbers.{read_bad, read_short, read_done}
 use Rattle.capi_link.proofs.link_read.Goals as goal
 
@@ -15,6 +17,9 @@ returns-then-out-lt-HEADER_NUMBERS c =
     record { answer = whole.0; out = whole.1 }
 
 pub returns : goal.returns
+unfolding header_fields
 returns c =
-    let whole = read_done _ _ c.in_ok-h.h (sym c.in_ok-h.ensures) _ c.if-out-lt-HEADER_NUMBERS.false c.put_four.ensures in
+    let o = c.args.out.now in
+    let e = ap (λ s. s ++ drop 4 o) c.copy_from_slice.ensures.after ∙ sym (sets_front (header_fields c.in_ok-h.h) o c.if-out-lt-HEADER_NUMBERS.false) in
+    let whole = read_done _ c.args.out.now c.in_ok-h.h (sym c.in_ok-h.ensures) _ c.if-out-lt-HEADER_NUMBERS.false e in
     record { answer = whole.0; out = whole.1 }

@@ -1,4 +1,4 @@
-use Rattle.std.proofs.Common.{sym, ◌∙◌}
+use Rattle.std.proofs.Common.{refl, sym, ◌∙◌}
 use Rattle.std.proofs.lemmas.Result.{err_from_is_err_and}
 use Rattle.capi_link.proofs.LinkNumbers.{write_refused, write_unplaced, write_wrong, write_done, empty_short, full_long}
 use Rattle.capi_link.proofs.write_given.Goals as goal
@@ -21,5 +21,5 @@ returns-in_err-n c =
 
 pub returns : goal.returns
 returns c =
-    let whole = write_done _ _ _ _ _ c.in_ok-n.n _ _ (sym c.in_ok-n.ensures.answer) (full_long _ (sym c.is_empty.ensures ∙ c.if-is_empty.false)) c.in_ok-n.ensures.bytes c.put.ensures in
+    let whole = write_done _ _ _ _ _ c.in_ok-n.n _ _ (sym c.in_ok-n.ensures.answer) (full_long _ (sym c.is_empty.ensures ∙ c.if-is_empty.false)) c.in_ok-n.ensures.bytes refl in
     record { answer = whole.0; dest = whole.1.0; out = whole.1.1 }
