@@ -1,27 +1,44 @@
 -- LinkEA values as numbers, case by case. Assumes nothing.
-use mathlib.Core.Path.{◌≡◌, refl, ◌∙◌}
+use mathlib.Core.Path.{◌≡◌, refl, sym, ◌∙◌}
 use mathlib.Core.List.{List, [], ◌∷◌}
-use mathlib.Core.Bool.{Bool, true, false, cond, ◌&&◌}
+use mathlib.Core.Bool.{Bool, true, false, cond}
 use Prim.Native.Nat.{ℕ, ◌≤◌, ◌<◌}
-use borrow.Author.Tests.{eq-eqb, ne_eqb, le-leb, lt-leb, eqb-true, leb-true}
+use borrow.Author.Tests.{eq-eqb, ne_eqb, le-leb, lt-leb, eqb-true, eqb-false}
 use native.Mathlib.Omega.{arith}
 use lib.Dec.{eqb, leb, ltb}
 use lib.ListN.{length, get_or, set}
 use lib.Seq.{sets}
+use Rattle.std.specs.Prelude.{Option, Some, None, Result, Ok, Err, ok_or}
+use Rattle.refusals.specs.Numbers.{number}
+use Rattle.refusals.specs.declared.Refusal.{Refusal}
+use Rattle.refusals.specs.declared.Refusal.TheVariants.{BadLink, TooShort}
+use Rattle.refusals.proofs.NumberLaws.{told_number, told_ok}
 use Rattle.wire.specs.Numbers.{max_word}
-use Rattle.wire.proofs.Both.{and_first, and_second}
 use Rattle.linkea.specs.Answers.{read_link, reading_number, read_record, record_number}
 use Rattle.linkea.specs.declared.LinkHeader.{LinkHeader}
 use Rattle.linkea.specs.declared.Found.{Found}
-use Rattle.linkea.specs.declared.Reading.TheVariants.{Refused, Accepted}
-use Rattle.linkea.specs.declared.RecordRead.TheVariants.{BadLink, NoRecord, RecordIs}
 use Rattle.linkea_write.specs.RoundTrip.{found_numbers}
 use Rattle.linkea_write.specs.Writer.{refused_given, write_link, written_number, left_by, write_link_bytes}
-use Rattle.linkea_write.specs.declared.Written.TheVariants.{BadRecords, TooShort, Bytes}
-use Rattle.capi_link.specs.declared.HeaderGiven.TheVariants.{NotHeader, HeaderIs}
 use Rattle.capi_out.specs.Out.{out_answer, out_numbers}
 use Rattle.capi_out.proofs.OutLaws.{out_refused, out_short, out_done}
 use Rattle.capi_link.specs.Links.{header_numbers, header_fields, read_fields, record_numbers, found_fields, record_fields, fields_fit, fields_header, header_given, given_number, given_values, given_answer, given_dest, given_out, write_answer, write_dest, write_out}
+
+-- no refusal has number 0
+not_zero : (e : Refusal) → number e ≡ 0 → ⊥
+not_zero e z =
+    let c : ◌≡◌ {A = Result ℕ Refusal} (Err e) (Ok 0) = sym (told_number e 0) ∙ told_ok (number e) 0 z in
+    let y : ◌≡◌ {A = ℕ} 0 1 = cc in
+    omega (arith, y)
+
+pub empty_short : (l : List ℕ) → eqb (length l) 0 ≡ true → length l < 1
+empty_short l e = let n = eqb-true (length l) 0 e in omega arith
+
+pub full_long : (l : List ℕ) → eqb (length l) 0 ≡ false → 1 ≤ length l
+full_long l e = let n = eqb-false (length l) 0 e in omega (arith, n)
+
+-- no value is 31
+pub none_refused : {A : Type 0} (o : Option A) (e : Refusal) → o ≡ None → Err e ≡ ok_or o BadLink → e ≡ BadLink
+none_refused {A = A} o e n h = let r : ◌≡◌ {A = Result A Refusal} (Err e) (Err BadLink) = h ∙ rw n in cc
 
 -- ## Reading
 
@@ -30,11 +47,11 @@ module _ (l out : List ℕ) where
   ReadLeaves a o =
       (a ≡ out_answer (reading_number (read_link l)) (read_fields (read_link l)) out) × (o ≡ out_numbers (reading_number (read_link l)) (read_fields (read_link l)) out)
 
-  pub read_bad : read_link l ≡ Refused → ReadLeaves 31 out
+  pub read_bad : (n : Refusal) → read_link l ≡ Err n → ReadLeaves (number n) out
   unfolding reading_number
-  read_bad e = out_refused (reading_number (read_link l)) (read_fields (read_link l)) out 31 (rw e) (λ z. omega (arith, z))
+  read_bad n e = out_refused (reading_number (read_link l)) (read_fields (read_link l)) out (number n) (rw e) (not_zero n)
 
-  module _ (h : LinkHeader) (e : read_link l ≡ Accepted h) where
+  module _ (h : LinkHeader) (e : read_link l ≡ Ok h) where
     read_number : reading_number (read_link l) ≡ 0
     unfolding reading_number
     read_number = rw e
@@ -51,29 +68,17 @@ module _ (l out : List ℕ) where
     unfolding header_fields
     read_done x k q = out_done (reading_number (read_link l)) (read_fields (read_link l)) out x read_number (rw read_fields_lem k) (rw read_fields_lem q)
 
-pub found_put : (l x y z : List ℕ) (f : Found) → x ≡ sets l 0 (f.parent.0.seq ∷ f.parent.0.oid ∷ f.parent.0.ver ∷ f.start ∷ []) →
-    y ≡ set x 4 f.size → z ≡ set y 5 f.next → z ≡ sets l 0 (found_fields f)
-unfolding found_fields found_numbers
-found_put l x y z f p q r = rw (r, q, p)
-
 module _ (l : List ℕ) (p : ℕ) (out : List ℕ) where
   abbrev pub RecordLeaves : ℕ → List ℕ → Type 0
   RecordLeaves a o =
       (a ≡ out_answer (record_number (read_record l p)) (record_fields (read_record l p)) out)
       × (o ≡ out_numbers (record_number (read_record l p)) (record_fields (read_record l p)) out)
 
-  record_refused : (k : ℕ) → record_number (read_record l p) ≡ k → (k ≡ 0 → ⊥) → RecordLeaves k out
-  record_refused k e z = out_refused (record_number (read_record l p)) (record_fields (read_record l p)) out k e z
-
-  pub record_bad : read_record l p ≡ BadLink → RecordLeaves 31 out
+  pub record_bad : (n : Refusal) → read_record l p ≡ Err n → RecordLeaves (number n) out
   unfolding record_number
-  record_bad e = record_refused 31 (rw e) (λ z. omega (arith, z))
+  record_bad n e = out_refused (record_number (read_record l p)) (record_fields (read_record l p)) out (number n) (rw e) (not_zero n)
 
-  pub record_none : read_record l p ≡ NoRecord → RecordLeaves 16 out
-  unfolding record_number
-  record_none e = record_refused 16 (rw e) (λ z. omega (arith, z))
-
-  module _ (x : Found) (e : read_record l p ≡ RecordIs x) where
+  module _ (x : Found) (e : read_record l p ≡ Ok x) where
     record_number_lem : record_number (read_record l p) ≡ 0
     unfolding record_number
     record_number_lem = rw e
@@ -109,51 +114,28 @@ module _ (l : List ℕ) where
   unfolding fields_fit
   fit_padding h k t = rw (eq-eqb (length l) header_numbers h, le-leb (get_or l 0 0) max_word k, le-leb (get_or l 2 0) max_word t)
 
--- four numbers that fit
-pub record FitFields (l : List ℕ) : Type 0 where
-  pub four : length l ≡ header_numbers
-  pub count : get_or l 0 0 ≤ max_word
-  pub time : get_or l 2 0 ≤ max_word
-  pub padding : get_or l 3 0 ≤ max_word
-
-pub fit_fields : (l : List ℕ) → fields_fit l ≡ true → FitFields l
-unfolding fields_fit
-fit_fields l f =
-    let a : Bool = eqb (length l) header_numbers in
-    let b : Bool = leb (get_or l 0 0) max_word in
-    let c : Bool = leb (get_or l 2 0) max_word in
-    let d : Bool = leb (get_or l 3 0) max_word in
-    let abc : (a && b && c) ≡ true = and_first (a && b && c) d f in
-    let ab : (a && b) ≡ true = and_first (a && b) c abc in
-    record {
-      four = eqb-true (length l) header_numbers (and_first a b ab);
-      count = leb-true (get_or l 0 0) max_word (and_second a b ab);
-      time = leb-true (get_or l 2 0) max_word (and_second (a && b) c abc);
-      padding = leb-true (get_or l 3 0) max_word (and_second (a && b && c) d f);
-    }
-
-pub header_none : (l : List ℕ) → fields_fit l ≡ false → NotHeader ≡ header_given l
+pub header_none : (l : List ℕ) → fields_fit l ≡ false → None ≡ header_given l
 unfolding header_given
 header_none l f = rw f
 
-pub header_is : (l : List ℕ) → fields_fit l ≡ true → HeaderIs (record { count = get_or l 0 0; total = get_or l 1 0; time = get_or l 2 0; padding = get_or l 3 0 }) ≡ header_given l
+pub header_is : (l : List ℕ) → fields_fit l ≡ true → Some (record { count = get_or l 0 0; total = get_or l 1 0; time = get_or l 2 0; padding = get_or l 3 0 }) ≡ header_given l
 unfolding header_given fields_header
 header_is l f = rw f
 
-given_fits : (l : List ℕ) (b : Bool) (h : LinkHeader) → fields_fit l ≡ b → cond b (HeaderIs (fields_header l)) NotHeader ≡ HeaderIs h → (fields_fit l ≡ true) × (fields_header l ≡ h)
+given_fits : (l : List ℕ) (b : Bool) (h : LinkHeader) → fields_fit l ≡ b → cond b (Some (fields_header l)) None ≡ Some h → (fields_fit l ≡ true) × (fields_header l ≡ h)
 given_fits l true h f e = (f, cc)
 given_fits l false h f e = let z : ◌≡◌ {A = ℕ} 0 1 = cc in absurd (omega (arith, z))
 
 -- a header that was given is that of the fields, which fit
-pub given_is : (l : List ℕ) (h : LinkHeader) → header_given l ≡ HeaderIs h → (fields_fit l ≡ true) × (fields_header l ≡ h)
+pub given_is : (l : List ℕ) (h : LinkHeader) → header_given l ≡ Some h → (fields_fit l ≡ true) × (fields_header l ≡ h)
 unfolding header_given
 given_is l h e = given_fits l (fields_fit l) h refl e
 
-given_not : (l : List ℕ) (b : Bool) → fields_fit l ≡ b → cond b (HeaderIs (fields_header l)) NotHeader ≡ NotHeader → fields_fit l ≡ false
+given_not : (l : List ℕ) (b : Bool) → fields_fit l ≡ b → cond b (Some (fields_header l)) None ≡ None → fields_fit l ≡ false
 given_not l true f e = let z : ◌≡◌ {A = ℕ} 0 1 = cc in absurd (omega (arith, z))
 given_not l false f e = f
 
-pub given_none : (l : List ℕ) → header_given l ≡ NotHeader → fields_fit l ≡ false
+pub given_none : (l : List ℕ) → header_given l ≡ None → fields_fit l ≡ false
 unfolding header_given
 given_none l e = given_not l (fields_fit l) refl e
 
@@ -185,25 +167,22 @@ module _ (h : LinkHeader) (records names dest out : List ℕ) where
           (r.0, (rw (← r.0), r.1))
       go true e = refused 17 (rw (w, e)) (λ z. omega (arith, z))
 
-  pub write_full : (d : List ℕ) → write_link h records names dest ≡ TooShort → d ≡ write_link_bytes h records names dest → LeavesGiven 17 d out
+  pub write_wrong : (n : Refusal) (d : List ℕ) → write_link h records names dest ≡ Err n → d ≡ write_link_bytes h records names dest →
+      LeavesGiven (number n) d out
   unfolding given_number written_number write_link_bytes left_by
-  write_full d w q = let e : d ≡ dest = q ∙ rw w in rw e (refused 17 (rw w) (λ z. omega (arith, z)))
-
-  pub write_wrong : (d : List ℕ) → write_link h records names dest ≡ BadRecords → d ≡ write_link_bytes h records names dest → LeavesGiven 31 d out
-  unfolding given_number written_number write_link_bytes left_by
-  write_wrong d w q = let e : d ≡ dest = q ∙ rw w in rw e (refused 31 (rw w) (λ z. omega (arith, z)))
+  write_wrong n d w q = let e : d ≡ dest = q ∙ rw w in rw e (refused (number n) (rw w) (not_zero n))
 
   -- the bytes written are the total
-  written_total : (b : ℕ) → write_link h records names dest ≡ Bytes b → h.total ≡ b
+  written_total : (b : ℕ) → write_link h records names dest ≡ Ok b → h.total ≡ b
   unfolding write_link
   written_total b w = go (refused_given h records names) (ltb (length dest) h.total) w
     where
-      go : (r t : Bool) → cond r BadRecords (cond t TooShort (Bytes h.total)) ≡ Bytes b → h.total ≡ b
+      go : (r t : Bool) → cond r (Err BadLink) (cond t (Err TooShort) (Ok h.total)) ≡ Ok b → h.total ≡ b
       go true t e = let z : ◌≡◌ {A = ℕ} 0 1 = cc in absurd (omega (arith, z))
       go false true e = let z : ◌≡◌ {A = ℕ} 0 1 = cc in absurd (omega (arith, z))
       go false false e = cc
 
-  pub write_done : (b : ℕ) (d o : List ℕ) → write_link h records names dest ≡ Bytes b → 1 ≤ length out → d ≡ write_link_bytes h records names dest →
+  pub write_done : (b : ℕ) (d o : List ℕ) → write_link h records names dest ≡ Ok b → 1 ≤ length out → d ≡ write_link_bytes h records names dest →
       o ≡ set out 0 b → LeavesGiven 0 d o
   unfolding given_answer given_dest given_out given_number given_values written_number
   write_done b d o w k p q =
@@ -216,10 +195,10 @@ module _ (fields records names dest out : List ℕ) where
   Leaves a d o =
       (a ≡ write_answer fields records names dest out) × ((d ≡ write_dest fields records names dest out) × (o ≡ write_out fields records names dest out))
 
-  pub write_none : header_given fields ≡ NotHeader → Leaves 31 dest out
+  pub write_none : header_given fields ≡ None → Leaves 31 dest out
   unfolding write_answer write_dest write_out
   write_none e = let f = given_none fields e in (rw f, (rw f, rw f))
 
-  pub write_header : (h : LinkHeader) (a : ℕ) (d o : List ℕ) → header_given fields ≡ HeaderIs h → LeavesGiven h records names dest out a d o → Leaves a d o
+  pub write_header : (h : LinkHeader) (a : ℕ) (d o : List ℕ) → header_given fields ≡ Some h → LeavesGiven h records names dest out a d o → Leaves a d o
   unfolding write_answer write_dest write_out
   write_header h a d o g w = let f = given_is fields h g in (rw (f.0, f.1) w.0, (rw (f.0, f.1) w.1.0, rw (f.0, f.1) w.1.1))

@@ -15,12 +15,12 @@ use Rattle.linkea.specs.Link.{count_at, time_at, padding_at, link_header, decode
 use Rattle.linkea.specs.Conditions.{refused_link}
 use Rattle.linkea.specs.Answers.{read_link, read_record}
 use Rattle.linkea.specs.declared.LinkHeader.{LinkHeader}
-use Rattle.linkea.specs.declared.Reading.TheVariants.{Refused, Accepted}
-use Rattle.linkea.specs.declared.RecordRead.{RecordRead}
-use Rattle.linkea.specs.declared.RecordRead.TheVariants.{BadLink, NoRecord, RecordIs}
+use Rattle.linkea.specs.declared.Found.{Found}
 use Rattle.linkea_write.specs.Writer.{link_numbers, written_number, write_link, write_link_bytes}
 use Rattle.linkea_write.specs.RoundTrip.{found_numbers, read_numbers, read_next, records_read, EveryLinkBack}
-use Rattle.linkea_write.specs.declared.Written.TheVariants.{Bytes as Wrote}
+use Rattle.std.specs.Prelude.{Result, Ok, Err}
+use Rattle.refusals.specs.declared.Refusal.{Refusal}
+use Rattle.refusals.specs.declared.Refusal.TheVariants.{BadLink}
 use Rattle.linkea.proofs.RecordLaws.{good_link}
 use Rattle.linkea_write.proofs.RoundTrips.{every_link_back}
 use Rattle.capi_out.specs.Out.{out_answer, out_numbers}
@@ -28,11 +28,10 @@ use Rattle.capi_link.specs.Links.{header_fields, found_fields, record_fields, fi
 use Rattle.capi_link.specs.Back.{records_handed, EveryNumbersBack}
 
 -- the five that the writer takes
-five : (x : RecordRead) → take link_numbers (record_fields x) ≡ read_numbers x
+five : (x : Result Found Refusal) → take link_numbers (record_fields x) ≡ read_numbers x
 unfolding record_fields found_fields found_numbers read_numbers
-five BadLink = refl
-five NoRecord = refl
-five (RecordIs x) = refl
+five (Err e) = refl
+five (Ok x) = refl
 
 handed : (n : ℕ) (l : List ℕ) (p : ℕ) → records_handed n l p ≡ records_read n l p
 unfolding records_handed records_read
@@ -41,20 +40,20 @@ handed (suc n) l p =
     rw (five (read_record l p)) (ap (λ (s : List ℕ). read_numbers (read_record l p) ++ s) (handed n l (read_next (read_record l p) p)))
 
 -- the header that is read is the one in the bytes
-header_is : (l : List ℕ) (h : LinkHeader) → read_link l ≡ Accepted h → decode_link_header l ≡ h
+header_is : (l : List ℕ) (h : LinkHeader) → read_link l ≡ Ok h → decode_link_header l ≡ h
 unfolding read_link
 header_is l h e = go (refused_link l) e
   where
-    go : (b : Bool) → cond b Refused (Accepted (decode_link_header l)) ≡ Accepted h → decode_link_header l ≡ h
+    go : (b : Bool) → cond b (Err BadLink) (Ok (decode_link_header l)) ≡ Ok h → decode_link_header l ≡ h
     go true e = let z : ◌≡◌ {A = ℕ} 0 1 = cc in absurd (omega (arith, z))
     go false e = cc
 
 -- of which the total is the length
-read_total : (l : List ℕ) (h : LinkHeader) → read_link l ≡ Accepted h → (decode_link_header l).total ≡ length l
+read_total : (l : List ℕ) (h : LinkHeader) → read_link l ≡ Ok h → (decode_link_header l).total ≡ length l
 unfolding read_link
 read_total l h e = go (refused_link l) refl e
   where
-    go : (b : Bool) → refused_link l ≡ b → cond b Refused (Accepted (decode_link_header l)) ≡ Accepted h → (decode_link_header l).total ≡ length l
+    go : (b : Bool) → refused_link l ≡ b → cond b (Err BadLink) (Ok (decode_link_header l)) ≡ Ok h → (decode_link_header l).total ≡ length l
     go true f e = let z : ◌≡◌ {A = ℕ} 0 1 = cc in absurd (omega (arith, z))
     go false f e = (good_link l f).total
 
@@ -74,7 +73,7 @@ header_fits l b =
     )
 
 -- with a place for it, the number that the writer gives is handed out
-module _ (h : LinkHeader) (records names dest out : List ℕ) (n : ℕ) (w : write_link h records names dest ≡ Wrote n) (t : h.total ≡ n) (k : 1 ≤ length out) where
+module _ (h : LinkHeader) (records names dest out : List ℕ) (n : ℕ) (w : write_link h records names dest ≡ Ok n) (t : h.total ≡ n) (k : 1 ≤ length out) where
   answers : given_answer h records names dest out ≡ 0
   unfolding given_answer given_number given_values written_number out_answer
   answers = rw (w, le-leb 1 (length out) k)

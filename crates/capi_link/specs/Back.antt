@@ -1,11 +1,10 @@
 -- What the two reading exports hand out goes through the writing export as the same bytes. Document 02, 2026-01: "What was read is written back byte for
 -- byte".
-use Rattle.std.specs.Prelude.{ℕ, zero, suc, ◌≤◌, ◌≡◌, List, [], ◌∷◌, ◌++◌, length, take, drop}
+use Rattle.std.specs.Prelude.{ℕ, zero, suc, ◌≤◌, ◌≡◌, List, [], ◌∷◌, ◌++◌, length, take, drop, Ok}
 use Rattle.wire.specs.Numbers.{Bytes}
 use Rattle.linkea.specs.Link.{link_header}
 use Rattle.linkea.specs.Answers.{read_link, read_record}
 use Rattle.linkea.specs.declared.LinkHeader.{LinkHeader}
-use Rattle.linkea.specs.declared.Reading.TheVariants.{Accepted}
 use Rattle.linkea_write.specs.Writer.{link_numbers}
 use Rattle.linkea_write.specs.RoundTrip.{read_next}
 use Rattle.capi_link.specs.Links.{header_fields, record_fields, write_answer, write_dest, write_out}
@@ -25,5 +24,5 @@ pub record NumbersBack (l : List ℕ) (h : LinkHeader) (dest out : List ℕ) : T
 -- of every link_ea that is read, and every destination with room for it
 unfoldable pub EveryNumbersBack : Type 0
 EveryNumbersBack =
-    (l : List ℕ) (h : LinkHeader) (dest out : List ℕ) → Bytes l → read_link l ≡ Accepted h → length l ≤ length dest → 1 ≤ length out →
+    (l : List ℕ) (h : LinkHeader) (dest out : List ℕ) → Bytes l → read_link l ≡ Ok h → length l ≤ length dest → 1 ≤ length out →
     NumbersBack l h dest out

@@ -1,16 +1,11 @@
 -- LinkEA values as numbers: read, one record of them, and written. Document 02, 2026-01.
-use Rattle.std.specs.Prelude.{ℕ, ◌+◌, List, [], ◌∷◌, ◌++◌, Bool, cond, ◌&&◌, leb, eqb, length, get_or}
+use Rattle.std.specs.Prelude.{ℕ, ◌+◌, List, [], ◌∷◌, ◌++◌, Bool, cond, ◌&&◌, leb, eqb, length, get_or, Option, Some, None, Result, Ok, Err}
+use Rattle.refusals.specs.declared.Refusal.{Refusal}
 use Rattle.wire.specs.Numbers.{max_word}
 use Rattle.linkea.specs.declared.LinkHeader.{LinkHeader}
 use Rattle.linkea.specs.declared.Found.{Found}
-use Rattle.linkea.specs.declared.Reading.{Reading}
-use Rattle.linkea.specs.declared.Reading.TheVariants.{Refused, Accepted}
-use Rattle.linkea.specs.declared.RecordRead.{RecordRead}
-use Rattle.linkea.specs.declared.RecordRead.TheVariants.{BadLink, NoRecord, RecordIs}
 use Rattle.linkea_write.specs.RoundTrip.{found_numbers}
 use Rattle.linkea_write.specs.Writer.{link_numbers, write_link, written_number, write_link_bytes}
-use Rattle.capi_link.specs.declared.HeaderGiven.{HeaderGiven}
-use Rattle.capi_link.specs.declared.HeaderGiven.TheVariants.{NotHeader, HeaderIs}
 use Rattle.capi_out.specs.Out.{out_answer, out_numbers}
 
 -- ## Reading
@@ -22,9 +17,9 @@ header_numbers = 4
 unfoldable pub header_fields : LinkHeader → List ℕ
 header_fields h = h.count ∷ h.total ∷ h.time ∷ h.padding ∷ []
 
-unfoldable pub read_fields : Reading → List ℕ
-read_fields Refused = []
-read_fields (Accepted h) = header_fields h
+unfoldable pub read_fields : Result LinkHeader Refusal → List ℕ
+read_fields (Err e) = []
+read_fields (Ok h) = header_fields h
 
 -- "parent sequence, id, version, name start, name length, next place": the five that the writer takes, and one more
 abbrev pub record_numbers : ℕ
@@ -33,10 +28,9 @@ record_numbers = link_numbers + 1
 unfoldable pub found_fields : Found → List ℕ
 found_fields x = found_numbers x ++ (x.next ∷ [])
 
-unfoldable pub record_fields : RecordRead → List ℕ
-record_fields BadLink = []
-record_fields NoRecord = []
-record_fields (RecordIs x) = found_fields x
+unfoldable pub record_fields : Result Found Refusal → List ℕ
+record_fields (Err e) = []
+record_fields (Ok x) = found_fields x
 
 -- ## Writing
 
@@ -47,8 +41,8 @@ fields_fit l = eqb (length l) header_numbers && leb (get_or l 0 0) max_word && l
 unfoldable pub fields_header : List ℕ → LinkHeader
 fields_header l = record { count = get_or l 0 0; total = get_or l 1 0; time = get_or l 2 0; padding = get_or l 3 0 }
 
-unfoldable pub header_given : List ℕ → HeaderGiven
-header_given l = cond (fields_fit l) (HeaderIs (fields_header l)) NotHeader
+unfoldable pub header_given : List ℕ → Option LinkHeader
+header_given l = cond (fields_fit l) (Some (fields_header l)) None
 
 -- of a header that was given: number, "bytes written", answer, destination and what is handed out
 unfoldable pub given_number : LinkHeader → List ℕ → List ℕ → List ℕ → ℕ

@@ -4,11 +4,12 @@ use mathlib.Core.List.{List, [], ◌∷◌}
 use mathlib.Core.Bool.{Bool, true, false, not, ◌&&◌, ◌||◌}
 use Prim.Native.Nat.{ℕ, ◌+◌, ◌-◌, ◌≤◌, ◌<◌}
 use borrow.Author.Tests.{ltb-true, ltb-false, lt-ltb, le-ltb, le-leb, lt-leb, eqb-true, eq-eqb, ne_eqb, not-false}
-use native.Mathlib.Numerals.{add-one}
 use native.Mathlib.Omega.{arith}
 use lib.Dec.{ltb, eqb}
-use lib.ListN.{length, take, drop, get_or, drop_of_length-le}
-use lib.Seq.{drop-drop, drop-cons}
+use lib.ListN.{length, take, drop}
+use lib.Seq.{drop-drop}
+use Rattle.std.specs.Prelude.{Some, None, Ok, Err}
+use Rattle.refusals.specs.declared.Refusal.TheVariants.{BadLink, NoPlace}
 use Rattle.wire.specs.Numbers.{le, big, number}
 use Rattle.fid.specs.Fid.{decode_fid_in}
 use Rattle.fid.specs.declared.Fid.{Fid}
@@ -16,36 +17,17 @@ use Rattle.linkea.specs.Link.{link_magic, link_header, parent_at, name_at, short
 use Rattle.linkea.specs.Conditions.{some, bad_byte, slash, short_header, other_magic, past_end, count_disagrees, total_disagrees, bad_name, bad_record, refused_link}
 use Rattle.linkea.specs.Answers.{read_link, found_at, step_at, read_record}
 use Rattle.linkea.specs.declared.Found.{Found}
-use Rattle.linkea.specs.declared.Reading.TheVariants.{Refused, Accepted}
-use Rattle.linkea.specs.declared.Step.TheVariants.{Bad, End, Record}
-use Rattle.linkea.specs.declared.RecordRead.TheVariants.{BadLink, NoRecord, RecordIs}
 use Rattle.linkea.proofs.PlaceLaws.{or_first, or_second, none_meets, places_from_lem, AllGood, good_from}
 
 -- ## Bytes of a name
 
-pub is_slash : (b : ℕ) → b ≡ slash → true ≡ bad_byte b
+pub slash_bad : (b : ℕ) → b ≡ slash → eqb b slash ≡ bad_byte b
 unfolding bad_byte
-is_slash b e = rw (eq-eqb b slash e)
+slash_bad b e = rw (eq-eqb b slash e)
 
 pub is_zero : (b : ℕ) → (b ≡ slash → ⊥) → eqb b 0 ≡ bad_byte b
 unfolding bad_byte
 is_zero b e = rw (ne_eqb b slash e)
-
--- the bytes from i on
-module _ (name : List ℕ) (i : ℕ) where
-  pub bad_here : i < length name → bad_byte (get_or name i 0) ≡ true → some bad_byte (drop i name) ≡ true
-  unfolding some
-  bad_here h b = rw (drop-cons name i 0 h, b)
-
-  pub bad_next : i < length name → bad_byte (get_or name i 0) ≡ false → some bad_byte (drop i name) ≡ some bad_byte (drop (i + 1) name)
-  unfolding some
-  bad_next h b =
-      let e : drop i name ≡ get_or name i 0 ∷ drop (i + 1) name = drop-cons name i 0 h ∙ rw add-one in
-      rw (e, b)
-
-  pub bad_none : length name ≤ i → some bad_byte (drop i name) ≡ false
-  unfolding some
-  bad_none h = rw (drop_of_length-le name h)
 
 -- ## The record at a place
 
@@ -82,19 +64,19 @@ module _ (l : List ℕ) (p : ℕ) where
 
   -- ## The cursor
 
-  pub step_header : p < link_header → Bad ≡ step_at l p
+  pub step_header : p < link_header → Err BadLink ≡ step_at l p
   unfolding step_at
   step_header h = rw (lt-ltb p link_header h)
 
-  pub step_end : link_header ≤ p → length l ≤ p → End ≡ step_at l p
+  pub step_end : link_header ≤ p → length l ≤ p → Ok None ≡ step_at l p
   unfolding step_at
   step_end h k = rw (le-ltb p link_header h, le-leb (length l) p k)
 
-  pub step_bad : link_header ≤ p → p < length l → bad_record l p ≡ true → Bad ≡ step_at l p
+  pub step_bad : link_header ≤ p → p < length l → bad_record l p ≡ true → Err BadLink ≡ step_at l p
   unfolding step_at
   step_bad h k b = rw (le-ltb p link_header h, lt-leb (length l) p k, b)
 
-  pub step_record : link_header ≤ p → p < length l → bad_record l p ≡ false → Record (found_at l p) ≡ step_at l p
+  pub step_record : link_header ≤ p → p < length l → bad_record l p ≡ false → Ok (Some (found_at l p)) ≡ step_at l p
   unfolding step_at
   step_record h k b = rw (le-ltb p link_header h, lt-leb (length l) p k, b)
 
@@ -106,15 +88,15 @@ module _ (l : List ℕ) (p : ℕ) where
 
   -- ## The reader of one record
 
-  pub record_refused : refused_link l ≡ true → BadLink ≡ read_record l p
+  pub record_refused : refused_link l ≡ true → Err BadLink ≡ read_record l p
   unfolding read_record
   record_refused h = rw h
 
-  pub record_none : refused_link l ≡ false → some (eqb p) (places l) ≡ false → NoRecord ≡ read_record l p
+  pub record_none : refused_link l ≡ false → some (eqb p) (places l) ≡ false → Err NoPlace ≡ read_record l p
   unfolding read_record
   record_none h k = rw (h, k)
 
-  pub record_is : refused_link l ≡ false → some (eqb p) (places l) ≡ true → RecordIs (found_at l p) ≡ read_record l p
+  pub record_is : refused_link l ≡ false → some (eqb p) (places l) ≡ true → Ok (found_at l p) ≡ read_record l p
   unfolding read_record
   record_is h k = rw (h, k)
 
@@ -180,11 +162,11 @@ module _ (l : List ℕ) where
       )
       (told (some (short_record l) (places l)) (some (past_end l) (places l)) (some (bad_name l) (places l)) (eqb (decode_link_header l).count (length (places l))))
 
-  pub read_refused : refused_link l ≡ true → Refused ≡ read_link l
+  pub read_refused : refused_link l ≡ true → Err BadLink ≡ read_link l
   unfolding read_link
   read_refused h = rw h
 
-  pub read_accepted : refused_link l ≡ false → Accepted (decode_link_header l) ≡ read_link l
+  pub read_accepted : refused_link l ≡ false → Ok (decode_link_header l) ≡ read_link l
   unfolding read_link
   read_accepted h = rw h
 

@@ -8,11 +8,12 @@ use native.Mathlib.Omega.{arith}
 use lib.Dec.{ltb}
 use lib.ListN.{length, take, drop, length-map}
 use lib.Seq.{drop-drop}
+use Rattle.std.specs.Prelude.{Some, None, Ok, Err}
+use Rattle.refusals.specs.declared.Refusal.TheVariants.{BadLink}
 use Rattle.linkea.specs.Link.{Link, link_header, name_at, decode_link_header, decode_link_ea, decode_link, length_at, link_at, places}
 use Rattle.linkea.specs.Conditions.{refused_link}
 use Rattle.linkea.specs.Answers.{found_at, step_at}
 use Rattle.linkea.specs.Walk.{opening_of, onward, place_after, name_given, links_given, walked, GoodWalk, BadWalk, EveryWalk}
-use Rattle.linkea.specs.declared.Step.TheVariants.{Bad, End, Record}
 use Rattle.linkea.proofs.PlaceLaws.{from, places_from_lem, from_end, from_step, AllGood, good_here, good_on, good_record}
 use Rattle.linkea.proofs.RecordLaws.{step_header, step_end, step_record, good_link}
 
@@ -23,7 +24,7 @@ module _ (l : List ℕ) (p : ℕ) where
   from_more : p < length l → AllGood l p → length (from l p) ≡ suc (length (from l (p + length_at l p)))
   from_more h g = rw (from_step l p h (good_record l p (good_here l p h g)).short)
 
-  step_good : link_header ≤ p → p < length l → AllGood l p → step_at l p ≡ Record (found_at l p)
+  step_good : link_header ≤ p → p < length l → AllGood l p → step_at l p ≡ Ok (Some (found_at l p))
   step_good k h g = sym (step_record l p k h (good_here l p h g))
 
   next_inside : p < length l → AllGood l p → p + length_at l p ≤ length l
@@ -59,22 +60,22 @@ walks (suc m) l p k i g e = go (ltb p (length l)) refl (walks m l (p + length_at
         )
 
 -- however far a walk goes, it meets no bad record
-pub walks_well : (n : ℕ) (l : List ℕ) (p : ℕ) → link_header ≤ p → AllGood l p → step_at l (place_after n l p) ≡ Bad → ⊥
+pub walks_well : (n : ℕ) (l : List ℕ) (p : ℕ) → link_header ≤ p → AllGood l p → step_at l (place_after n l p) ≡ Err BadLink → ⊥
 unfolding place_after onward length_at found_at
 walks_well zero l p k g e = go (ltb p (length l)) refl
   where
     go : (b : Bool) → ltb p (length l) ≡ b → ⊥
     go true t =
-        let c : Record (found_at l p) ≡ Bad = sym (step_good l p k (ltb-true p (length l) t) g) ∙ e in
+        let c : Ok (Some (found_at l p)) ≡ Err BadLink = sym (step_good l p k (ltb-true p (length l) t) g) ∙ e in
         let z : ◌≡◌ {A = ℕ} 0 1 = cc in
         omega (arith, z)
     go false t =
-        let c : End ≡ Bad = step_end l p k (ltb-false p (length l) t) ∙ e in
+        let c : Ok None ≡ Err BadLink = step_end l p k (ltb-false p (length l) t) ∙ e in
         let z : ◌≡◌ {A = ℕ} 0 1 = cc in
         omega (arith, z)
 walks_well (suc m) l p k g e = go (ltb p (length l)) refl (λ q. walks_well m l q)
   where
-    go : (b : Bool) → ltb p (length l) ≡ b → ((q : ℕ) → link_header ≤ q → AllGood l q → step_at l (place_after m l q) ≡ Bad → ⊥) → ⊥
+    go : (b : Bool) → ltb p (length l) ≡ b → ((q : ℕ) → link_header ≤ q → AllGood l q → step_at l (place_after m l q) ≡ Err BadLink → ⊥) → ⊥
     go true t on =
         let h : p < length l = ltb-true p (length l) t in
         on (p + length_at l p) (omega arith) (good_on l p h g) (rw (step_good l p k h g) at e)
@@ -90,7 +91,7 @@ module _ (l : List ℕ) where
   opens_not h = rw h
 
 -- a bad step leads nowhere
-stays_put : (n : ℕ) (l : List ℕ) (p : ℕ) → step_at l p ≡ Bad → place_after n l p ≡ p
+stays_put : (n : ℕ) (l : List ℕ) (p : ℕ) → step_at l p ≡ Err BadLink → place_after n l p ≡ p
 unfolding place_after onward
 stays_put zero l p e = refl
 stays_put (suc n) l p e = rw e (stays_put n l p e)
@@ -112,7 +113,7 @@ good_walk l h =
 
 bad_walk : (l : List ℕ) → refused_link l ≡ true → BadWalk l
 bad_walk l h =
-    let b : step_at l (opening_of l) ≡ Bad = rw (opens_not l h) (sym (step_header l 0 (omega arith))) in
+    let b : step_at l (opening_of l) ≡ Err BadLink = rw (opens_not l h) (sym (step_header l 0 (omega arith))) in
     record { stays = λ n. stays_put n l (opening_of l) b; bad = b }
 
 pub every_walk : (l : List ℕ) → EveryWalk l

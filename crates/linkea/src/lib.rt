@@ -7,6 +7,7 @@ ghost use Rattle.linkea.specs.Conditions.{some, bad_byte, bad_record, refused_li
 ghost use Rattle.linkea.specs.Answers.{read_link, found_at, step_at, read_record};
 
 use fid::{FID_SIZE, MdtFid};
+use refusals::Refusal;
 
 pub const LINK_MAGIC: u32 = 0x11ea_f1df;
 
@@ -50,29 +51,6 @@ pub struct Found {
     pub next: usize,
 }
 
-// What the reader of the whole says.
-#[derive(Clone, Copy)]
-pub enum Reading {
-    Refused,
-    Accepted(LinkHeader),
-}
-
-// What the cursor says at a place: not a record, the end, or a record.
-#[derive(Clone, Copy)]
-pub enum Step {
-    Bad,
-    End,
-    Record(Found),
-}
-
-// What the reader of one record says.
-#[derive(Clone, Copy)]
-pub enum RecordRead {
-    BadLink,
-    NoRecord,
-    RecordIs(Found),
-}
-
 // The header that a linkEA begins with.
 pub fn read_header(l: &[u8]) -> LinkHeader
     requires { link_header ≤ length l.now }
@@ -90,22 +68,14 @@ pub fn read_header(l: &[u8]) -> LinkHeader
 fn bad_byte(b: u8) -> bool
     ensures { result ≡ bad_byte b }
 {
-    if b == SLASH {
-        return true;
-    }
-    b == 0
+    b == SLASH || b == 0
 }
 
 // Whether a name has a slash or a zero byte.
 pub fn bad_bytes(name: &[u8]) -> bool
     ensures { result ≡ some bad_byte name.now }
 {
-    for i in 0..name.len() {
-        if bad_byte(name[i]) {
-            return true;
-        }
-    }
-    false
+    name.iter().any(|b| bad_byte(*b))
 }
 
 // Whether a place before the end is no good record: too short, past the end, or with a bad name.
@@ -118,15 +88,10 @@ fn bad_record(l: &[u8], p: usize) -> bool
         return true;
     }
     let n = wire::be16(l, p) as usize;
-    if n < SHORTEST_RECORD {
+    if n < SHORTEST_RECORD || left < n {
         return true;
     }
-    if left < n {
-        return true;
-    }
-    let a = p + NAME_AT;
-    let e = p + n;
-    bad_bytes(&l[a..e])
+    bad_bytes(&l[p + NAME_AT..p + n])
 }
 
 // The good record at a place.
@@ -143,26 +108,27 @@ fn found_at(l: &[u8], p: usize) -> Found
     }
 }
 
-// The cursor: what stands at a place.
-pub fn step_at(l: &[u8], p: usize) -> Step
+// The cursor: the record at a place, none at or past the end, or 31 where it is no record.
+pub fn step_at(l: &[u8], p: usize) -> Result<Option<Found>, Refusal>
     ensures { result ≡ step_at l.now p }
 {
     if p < LINK_HEADER {
-        return Step::Bad;
+        return Err(Refusal::BadLink);
     }
     if l.len() <= p {
-        return Step::End;
+        return Ok(None);
     }
     if bad_record(l, p) {
-        return Step::Bad;
+        return Err(Refusal::BadLink);
     }
-    Step::Record(found_at(l, p))
+    Ok(Some(found_at(l, p)))
 }
 
 // Whether the records are good, and as many as counted.
 fn good_records(l: &[u8], count: usize) -> bool
     ensures { result ≡ (not (some (bad_record l.now) (places l.now)) && eqb count (length (places l.now))) }
 {
+    // A loop: the next place comes from the record read, so no iterator gives it.
     let mut at = LINK_HEADER;
     let mut k = 0usize;
     while at < l.len() {
@@ -193,13 +159,13 @@ pub fn refused(l: &[u8]) -> bool
 }
 
 // Reads a linkEA: its header, or 31.
-pub fn read(l: &[u8]) -> Reading
+pub fn read(l: &[u8]) -> Result<LinkHeader, Refusal>
     ensures { result ≡ read_link l.now }
 {
     if refused(l) {
-        return Reading::Refused;
+        return Err(Refusal::BadLink);
     }
-    Reading::Accepted(read_header(l))
+    Ok(read_header(l))
 }
 
 // Whether a record begins at a place of a linkEA that is not refused.
@@ -211,6 +177,7 @@ fn begins(l: &[u8], p: usize) -> bool
     if end <= p {
         return false;
     }
+    // A loop: the next place comes from the record read, so no iterator gives it.
     let mut at = LINK_HEADER;
     while at < p {
         at = at + wire::be16(l, at) as usize;
@@ -219,14 +186,14 @@ fn begins(l: &[u8], p: usize) -> bool
 }
 
 // Reads the record at a place: 31 for the whole, then 16 where none begins there.
-pub fn record_at(l: &[u8], p: usize) -> RecordRead
+pub fn record_at(l: &[u8], p: usize) -> Result<Found, Refusal>
     ensures { result ≡ read_record l.now p }
 {
     if refused(l) {
-        return RecordRead::BadLink;
+        return Err(Refusal::BadLink);
     }
     if !begins(l, p) {
-        return RecordRead::NoRecord;
+        return Err(Refusal::NoPlace);
     }
-    RecordRead::RecordIs(found_at(l, p))
+    Ok(found_at(l, p))
 }

@@ -6,27 +6,28 @@ use mathlib.Core.List.{List}
 use mathlib.Core.Bool.{Bool, true, false, cond}
 use lib.ListN.{length, take, drop}
 use lib.Dec.{ltb, leb}
+use Rattle.std.specs.Prelude.{Option, Some, None, Result, Ok, Err}
+use Rattle.refusals.specs.declared.Refusal.{Refusal}
+use Rattle.refusals.specs.declared.Refusal.TheVariants.{BadLink}
 use Rattle.linkea.specs.Link.{link_header}
 use Rattle.linkea.specs.Conditions.{bad_record}
 use Rattle.linkea.specs.Walk.{name_given}
 use Rattle.linkea.specs.Answers.{found_at, step_at}
 use Rattle.linkea.specs.declared.Found.{Found}
-use Rattle.linkea.specs.declared.Step.{Step}
-use Rattle.linkea.specs.declared.Step.TheVariants.{Bad, End, Record}
 use Rattle.linkea.proofs.PlaceLaws.{clash, good_record}
 
-is_record : Step → Bool
-is_record Bad = false
-is_record End = false
-is_record (Record x) = true
+is_record : Result (Option Found) Refusal → Bool
+is_record (Err e) = false
+is_record (Ok None) = false
+is_record (Ok (Some x)) = true
 
-record_or : Found → Step → Found
-record_or y Bad = y
-record_or y End = y
-record_or y (Record x) = x
+record_or : Found → Result (Option Found) Refusal → Found
+record_or y (Err e) = y
+record_or y (Ok None) = y
+record_or y (Ok (Some x)) = x
 
 -- a step that is a record is the one found, and the record was tested
-tested : (a b c : Bool) (y x : Found) → cond a Bad (cond b End (cond c Bad (Record y))) ≡ Record x → (c ≡ false) × (y ≡ x)
+tested : (a b c : Bool) (y x : Found) → cond a (Err BadLink) (cond b (Ok None) (cond c (Err BadLink) (Ok (Some y)))) ≡ Ok (Some x) → (c ≡ false) × (y ≡ x)
 unfolding is_record record_or
 tested true b c y x e = clash (ap is_record e)
 tested false true c y x e = clash (ap is_record e)
@@ -39,7 +40,7 @@ inside l p e =
     let g = good_record l p e in
     omega (arith, g.long, g.inside)
 
-pub found_inside : (l : List ℕ) (p : ℕ) (x : Found) → step_at l p ≡ Record x → x.start + x.size ≤ length l
+pub found_inside : (l : List ℕ) (p : ℕ) (x : Found) → step_at l p ≡ Ok (Some x) → x.start + x.size ≤ length l
 unfolding step_at
 found_inside l p x e =
     let t = tested (ltb p link_header) (leb (length l) p) (bad_record l p) (found_at l p) x e in
@@ -49,6 +50,6 @@ plus_less : (a n : ℕ) → a + n - a ≡ n
 plus_less a n = omega arith
 
 -- the part from a record's start to its end is its name
-pub name_part : (l : List ℕ) (p : ℕ) (x : Found) → Record x ≡ step_at l p → take (x.start + x.size - x.start) (drop x.start l) ≡ name_given l (step_at l p)
+pub name_part : (l : List ℕ) (p : ℕ) (x : Found) → Ok (Some x) ≡ step_at l p → take (x.start + x.size - x.start) (drop x.start l) ≡ name_given l (step_at l p)
 unfolding name_given
 name_part l p x e = ap (λ (n : ℕ). take n (drop x.start l)) (plus_less x.start x.size) ∙ ap (name_given l) e

@@ -9,7 +9,8 @@ use Rattle.linkea.specs.Link.{header_of, encode_link, encode_links, encode_link_
 use Rattle.linkea.specs.Conditions.{some, bad_byte}
 use Rattle.linkea.specs.declared.LinkHeader.{LinkHeader}
 use Rattle.linkea.proofs.Example.{example}
-use Rattle.linkea_write.specs.declared.Written.TheVariants.{BadRecords, TooShort, Bytes as Wrote}
+use Rattle.std.specs.Prelude.{Ok, Err}
+use Rattle.refusals.specs.declared.Refusal.TheVariants.{BadLink, TooShort}
 use Rattle.linkea_write.specs.Writer.{number_of, parent_given, start_given, size_given, link_given, upward, link_ea_given, wide_parent, empty_name, long_record, name_outside, bad_name_given, bad_given, other_count, other_total, refused_given, write_link, left_by, write_link_bytes}
 
 unfoldable pub header : LinkHeader
@@ -24,11 +25,11 @@ unfoldable pub numbers : ℕ → List ℕ
 numbers start = 0x200000401 ∷ 1 ∷ 0 ∷ 0 ∷ 1 ∷ 0x200000402 ∷ 7 ∷ 0 ∷ start ∷ 5 ∷ []
 
 -- written over 68 bytes, they leave the last two
-pub two_written : (write_link header (numbers 2) lent (replicate 68 7) ≡ Wrote 66) × (write_link_bytes header (numbers 2) lent (replicate 68 7) ≡ example ++ 7 ∷ 7 ∷ [])
+pub two_written : (write_link header (numbers 2) lent (replicate 68 7) ≡ Ok 66) × (write_link_bytes header (numbers 2) lent (replicate 68 7) ≡ example ++ 7 ∷ 7 ∷ [])
 unfolding header lent numbers example bytes number_bytes encode_fid_in header_of encode_link encode_links encode_link_header encode_link_ea some bad_byte number_of parent_given start_given size_given link_given upward link_ea_given wide_parent empty_name long_record name_outside bad_name_given bad_given other_count other_total refused_given write_link left_by write_link_bytes
 two_written = (refl, refl)
 
 -- a name with a slash is 31, with room or without; with good names and no room it is 17
-pub slash_refused : (write_link header (numbers 1) lent (replicate 65 7) ≡ BadRecords) × (write_link header (numbers 2) lent (replicate 65 7) ≡ TooShort)
+pub slash_refused : (write_link header (numbers 1) lent (replicate 65 7) ≡ Err BadLink) × (write_link header (numbers 2) lent (replicate 65 7) ≡ Err TooShort)
 unfolding header lent numbers bytes number_bytes encode_fid_in header_of encode_link encode_links some bad_byte number_of parent_given start_given size_given link_given upward link_ea_given wide_parent empty_name long_record name_outside bad_name_given bad_given other_count other_total refused_given write_link
 slash_refused = (refl, refl)

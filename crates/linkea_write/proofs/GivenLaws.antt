@@ -1,18 +1,16 @@
 -- Laws of records that are handed in as numbers: the tests case by case, one record and all of them. Assumes nothing.
 use mathlib.Core.Path.{◌≡◌, refl, ap}
-use mathlib.Core.List.{List, [], ◌∷◌, ◌++◌, map}
-use mathlib.Core.Bool.{Bool, true, false, not, ◌||◌}
+use mathlib.Core.List.{List, [], ◌∷◌, map}
+use mathlib.Core.Bool.{Bool, true, false, ◌||◌}
 use Prim.Native.Nat.{ℕ, zero, suc, ◌+◌, ◌-◌, ◌*◌, ◌≤◌, ◌<◌}
 use borrow.Author.Tests.{lt-ltb, le-ltb, ltb-false, eq-eqb, ne_eqb, eqb-false}
 use native.Mathlib.Omega.{arith}
-use native.Mathlib.Nat.{add-zero, sub-zero}
-use native.Mathlib.Numerals.{add-one}
 use lib.Dec.{ltb}
 use lib.ListN.{length, take, drop, get_or, length-append, length-drop}
 use lib.Seq.{length-take-le}
 use Rattle.wire.specs.Numbers.{max_word}
 use Rattle.fid.specs.declared.MdtFid.{MdtFid}
-use Rattle.linkea.specs.Link.{name_at, link_header, encode_links}
+use Rattle.linkea.specs.Link.{name_at, encode_links}
 use Rattle.linkea.specs.Conditions.{some, bad_byte}
 use Rattle.linkea.proofs.PlaceLaws.{or_first, or_second}
 use Rattle.linkea_write.specs.Writer.{link_numbers, number_of, parent_given, start_given, size_given, link_given, upward, bytes_given, wide_parent, empty_name, longest_record, long_record, name_outside, bad_name_given, bad_given}
@@ -154,27 +152,6 @@ length_name numbers names j h =
 
 -- ## All of them
 
--- a condition that none of n numbers from j on meets
-none_at : (test : ℕ → Bool) (n j i : ℕ) → some test (upward n j) ≡ false → i < n → test (j + i) ≡ false
-unfolding some upward
-none_at test zero j i h k = absurd (omega arith)
-none_at test (suc n) j zero h k = rw add-zero (or_first (test j) (some test (upward n (suc j))) h)
-none_at test (suc n) j (suc i) h k =
-    let e : j + suc i ≡ suc j + i = omega arith in
-    rw e (none_at test n (suc j) i (or_second (test j) (some test (upward n (suc j))) h) (omega arith))
-
--- from the first on
-pub none_of : (test : ℕ → Bool) (n j : ℕ) → some test (upward n 0) ≡ false → j < n → test j ≡ false
-none_of test n j h k = let e : 0 + j ≡ j = omega arith in rw e at (none_at test n 0 j h k)
-
--- and of the first of them
-pub none_first : (test : ℕ → Bool) (k n j : ℕ) → some test (upward n j) ≡ false → k ≤ n → some test (upward k j) ≡ false
-unfolding some upward
-none_first test zero n j h e = refl
-none_first test (suc k) zero j h e = absurd (omega arith)
-none_first test (suc k) (suc n) j h e =
-    rw (or_first (test j) (some test (upward n (suc j))) h) (none_first test k n (suc j) (or_second (test j) (some test (upward n (suc j))) h) (omega arith))
-
 -- a condition that implies another
 none_less : (test other : ℕ → Bool) → ((i : ℕ) → test i ≡ false → other i ≡ false) → (ns : List ℕ) → some test ns ≡ false → some other ns ≡ false
 unfolding some
@@ -189,70 +166,7 @@ not_long numbers names j h = le-ltb longest_record (name_at + size_of numbers j)
 pub none_long : (numbers names : List ℕ) (n : ℕ) → some (bad_given numbers names) (upward n 0) ≡ false → some (long_record numbers) (upward n 0) ≡ false
 none_long numbers names n h = none_less (bad_given numbers names) (long_record numbers) (not_long numbers names) (upward n 0) h
 
--- whether one from the j-th on is bad
-pub bad_from : List ℕ → List ℕ → ℕ → ℕ → Bool
-bad_from numbers names n j = some (bad_given numbers names) (upward (n - j) j)
-
-module _ (numbers names : List ℕ) (n : ℕ) where
-  pub bad_start : some (bad_given numbers names) (upward n 0) ≡ bad_from numbers names n 0
-  unfolding bad_from
-  bad_start = rw sub-zero
-
-  bad_step : (j : ℕ) → j < n → bad_from numbers names n j ≡ (bad_given numbers names j || bad_from numbers names n (j + 1))
-  unfolding bad_from some upward
-  bad_step j h = let e : n - j ≡ suc (n - (j + 1)) = omega arith in rw (e, add-one j)
-
-  pub bad_end : (j : ℕ) → some (bad_given numbers names) (upward n 0) ≡ bad_from numbers names n j → n ≤ j →
-      true ≡ not (some (bad_given numbers names) (upward n 0))
-  unfolding bad_from some upward
-  bad_end j i h = let e : n - j ≡ 0 = omega arith in rw (i, e)
-
-  module _ (j : ℕ) (b : Bool) (i : some (bad_given numbers names) (upward n 0) ≡ bad_from numbers names n j) (h : j < n) (t : b ≡ bad_given numbers names j) where
-    pub bad_stop : b ≡ true → false ≡ not (some (bad_given numbers names) (upward n 0))
-    bad_stop z = rw (i, bad_step j h, ← t, z)
-
-    pub bad_next : b ≡ false → some (bad_given numbers names) (upward n 0) ≡ bad_from numbers names n (j + 1)
-    bad_next z = rw (i, bad_step j h, ← t, z)
-
 -- ## Their bytes
-
-module _ (numbers : List ℕ) where
-  -- one record more, at the end
-  bytes_more : (n j : ℕ) → bytes_given numbers (suc n) j ≡ bytes_given numbers n j + (name_at + size_of numbers (j + n))
-  unfolding bytes_given size_given number_of
-  bytes_more zero j = let e : j + 0 ≡ j = omega arith in rw e (omega arith)
-  bytes_more (suc n) j =
-      let e : suc j + n ≡ j + suc n = omega arith in
-      omega (arith, rw e at (bytes_more n (suc j)))
-
-  pub bytes_start : link_header ≡ link_header + bytes_given numbers 0 0
-  unfolding bytes_given
-  bytes_start = refl
-
-  pub bytes_end : (t n j : ℕ) → t ≡ link_header + bytes_given numbers j 0 → j ≤ n → n ≤ j → t ≡ link_header + bytes_given numbers n 0
-  bytes_end t n j e h k = let q : n ≡ j = omega arith in rw q e
-
-  pub bytes_step : (t j : ℕ) → t ≡ link_header + bytes_given numbers j 0 → t + (name_at + size_of numbers j) ≡ link_header + bytes_given numbers (j + 1) 0
-  bytes_step t j e =
-      let z : 0 + j ≡ j = omega arith in
-      rw (add-one j) (omega (arith, rw z at (bytes_more j 0)))
-
-  bytes_least : (n m j : ℕ) → bytes_given numbers n j ≤ bytes_given numbers (n + m) j
-  bytes_least n zero j = rw add-zero (omega arith)
-  bytes_least n (suc m) j =
-      let e : n + suc m ≡ suc (n + m) = omega arith in
-      rw e (omega (arith, bytes_least n m j, bytes_more (n + m) j))
-
-  -- the j-th record ends before the end of all
-  pub bytes_inside : (n j : ℕ) → j < n → bytes_given numbers j 0 + (name_at + size_of numbers j) ≤ bytes_given numbers n 0
-  bytes_inside n j h =
-      let z : 0 + j ≡ j = omega arith in
-      let e : suc j + (n - suc j) ≡ n = omega arith in
-      omega (arith, rw z at (bytes_more j 0), rw e at (bytes_least (suc j) (n - suc j) 0))
-
-  pub long_at : (n j : ℕ) → some (long_record numbers) (upward n 0) ≡ false → j < n → name_at + size_of numbers j ≤ longest_record
-  unfolding long_record size_given number_of
-  long_at n j h k = ltb-false longest_record (name_at + size_of numbers j) (none_of (long_record numbers) n j h k)
 
 pub length_links : (numbers names : List ℕ) (n j : ℕ) → some (bad_given numbers names) (upward n j) ≡ false →
     length (encode_links (map (link_given numbers names) (upward n j))) ≡ bytes_given numbers n j
@@ -267,11 +181,3 @@ pub length_upward : (n j : ℕ) → length (upward n j) ≡ n
 unfolding upward
 length_upward zero j = refl
 length_upward (suc n) j = ap suc (length_upward n (suc j))
-
--- one number more, at the end
-pub upward_more : (n j : ℕ) → upward (suc n) j ≡ upward n j ++ ((j + n) ∷ [])
-unfolding upward
-upward_more zero j = let e : j + 0 ≡ j = omega arith in rw e
-upward_more (suc n) j =
-    let e : suc j + n ≡ j + suc n = omega arith in
-    ap (λ (ns : List ℕ). j ∷ ns) (rw e at (upward_more n (suc j)))

@@ -1,5 +1,6 @@
 pub mod LinkLaws
 pub mod GivenLaws
+pub mod ChunkLaws
 pub mod WriteLaws
 pub mod StandLaws
 pub mod ReadLaws

@@ -14,11 +14,12 @@ use Rattle.linkea.specs.Conditions.{some, bad_record, refused_link}
 use Rattle.linkea.specs.Answers.{read_link}
 use Rattle.linkea.specs.Walk.{opening_of, walked}
 use Rattle.linkea.specs.declared.LinkHeader.{LinkHeader}
-use Rattle.linkea.specs.declared.Reading.TheVariants.{Refused, Accepted}
 use Rattle.linkea.proofs.PlaceLaws.{or_first, or_second, places_from_lem, AllGood}
 use Rattle.linkea.proofs.RecordLaws.{good_link, read_accepted}
 use Rattle.linkea.proofs.WalkLaws.{every_walk}
-use Rattle.linkea_write.specs.declared.Written.TheVariants.{Bytes as Wrote}
+use Rattle.std.specs.Prelude.{Result, Ok, Err}
+use Rattle.refusals.specs.declared.Refusal.{Refusal}
+use Rattle.refusals.specs.declared.Refusal.TheVariants.{BadLink}
 use Rattle.linkea_write.specs.Writer.{link_numbers, number_of, parent_given, link_given, link_ea_given, upward, bad_given, refused_given, write_link, write_link_bytes}
 use Rattle.linkea_write.specs.RoundTrip.{records_read, EveryLinkBack, EveryWriteBack}
 use Rattle.linkea_write.proofs.LinkLaws.{FitLink, FitHeader}
@@ -29,11 +30,11 @@ use Rattle.linkea_write.proofs.ReadLaws.{numbers_at, length_numbers, links_at, g
 
 -- ## What was read, written
 
-read_taken : (l : List ℕ) (h : LinkHeader) → read_link l ≡ Accepted h → (refused_link l ≡ false) × (decode_link_header l ≡ h)
+read_taken : (l : List ℕ) (h : LinkHeader) → read_link l ≡ Ok h → (refused_link l ≡ false) × (decode_link_header l ≡ h)
 unfolding read_link
 read_taken l h = go (refused_link l) refl
   where
-    go : (b : Bool) → refused_link l ≡ b → cond b Refused (Accepted (decode_link_header l)) ≡ Accepted h → (refused_link l ≡ false) × (decode_link_header l ≡ h)
+    go : (b : Bool) → refused_link l ≡ b → cond b (Err BadLink) (Ok (decode_link_header l)) ≡ Ok h → (refused_link l ≡ false) × (decode_link_header l ≡ h)
     go false a e = (a, cc)
     go true a e = let z : ◌≡◌ {A = ℕ} 0 1 = cc in absurd (omega (arith, z))
 
@@ -63,12 +64,12 @@ module _ (l : List ℕ) (b : Bytes l) (a : refused_link l ≡ false) where
       facts_write (decode_link_header l) (numbers_at l (places l)) l e n t
 
   read_written : (dest : List ℕ) → length l ≤ length dest →
-      (write_link (decode_link_header l) (numbers_at l (places l)) l dest ≡ Wrote (length l))
+      (write_link (decode_link_header l) (numbers_at l (places l)) l dest ≡ Ok (length l))
       × (write_link_bytes (decode_link_header l) (numbers_at l (places l)) l dest ≡ sets dest 0 l)
   read_written dest k =
       let t = (good_link l a).total in
       let r = write_is (decode_link_header l) (numbers_at l (places l)) l dest read_writable (omega arith) in
-      (r.0 ∙ ap (λ (n : ℕ). Wrote n) t, r.1 ∙ ap (λ (x : LinkEA). sets dest 0 (encode_link_ea x)) (given_is l a) ∙ ap (λ (m : List ℕ). sets dest 0 m) (written_again l b a))
+      (r.0 ∙ ap {B = Result ℕ Refusal} Ok t, r.1 ∙ ap (λ (x : LinkEA). sets dest 0 (encode_link_ea x)) (given_is l a) ∙ ap (λ (m : List ℕ). sets dest 0 m) (written_again l b a))
 
 pub every_link_back : EveryLinkBack
 unfolding EveryLinkBack
@@ -107,12 +108,12 @@ fit_givens numbers names (suc n) j d h =
 
 -- the bytes of a link_ea whose records and header fit, read back
 encoded_read : (e : LinkEA) → FitLinks e.links → FitHeader (header_of e) →
-    (read_link (encode_link_ea e) ≡ Accepted (header_of e)) × (walked (header_of e).count (encode_link_ea e) (opening_of (encode_link_ea e)) ≡ e.links)
+    (read_link (encode_link_ea e) ≡ Ok (header_of e)) × (walked (header_of e).count (encode_link_ea e) (opening_of (encode_link_ea e)) ≡ e.links)
 encoded_read e f w =
     let l : List ℕ = encode_link_ea e in
     let a = encoded_accepted e f w in
     let h : decode_link_header l ≡ header_of e = header_of_back e f w in (
-      sym (read_accepted l a) ∙ ap (λ (g : LinkHeader). Accepted g) h,
+      sym (read_accepted l a) ∙ ap {B = Result LinkHeader Refusal} Ok h,
       ap (λ (g : LinkHeader). walked g.count l (opening_of l)) (sym h) ∙ ((every_walk l).accepted a).records ∙ links_back e f w,
     )
 
@@ -130,6 +131,6 @@ every_write_back h numbers names dest b d e =
     ap (λ (m : List ℕ). take b m) ((write_is h numbers names dest t.0 t.1).1 ∙ sets_front l dest (omega (arith, t.1, t.2))) ∙ take_at l (drop (length l) dest) b n in
     let r = encoded_read x g w in
     record {
-      header = rw q (r.0 ∙ ap (λ (y : LinkHeader). Accepted y) f.header);
+      header = rw q (r.0 ∙ ap {B = Result LinkHeader Refusal} Ok f.header);
       records = rw q (ap (λ (y : LinkHeader). walked y.count l (opening_of l)) (sym f.header) ∙ r.1);
     }

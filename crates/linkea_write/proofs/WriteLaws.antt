@@ -1,17 +1,15 @@
 -- Laws of the writer: what it takes, the stores of header, name and records, and its answers. Assumes nothing.
 use mathlib.Core.Path.{◌≡◌, refl, sym, ap, ◌∙◌}
-use mathlib.Core.List.{List, [], ◌∷◌, ◌++◌, append-nil, map, map-append}
+use mathlib.Core.List.{List, ◌++◌, map}
 use mathlib.Core.Bool.{Bool, true, false, cond, not, ◌||◌}
 use Prim.Native.Nat.{ℕ, ◌+◌, ◌-◌, ◌*◌, ◌≤◌, ◌<◌}
 use borrow.Author.Tests.{lt-ltb, le-ltb, ltb-false, eq-eqb, ne_eqb, eqb-true, not-false}
 use native.Mathlib.Omega.{arith}
-use native.Mathlib.Numerals.{add-one}
 use lib.Dec.{ltb, eqb}
 use lib.ListN.{length, take, drop, length-append, length-drop, length-map}
-use lib.Seq.{sets, length-sets, length-take-le}
-use borrow.Rule.Slice.PartMut.{put_mid}
+use lib.Seq.{sets, length-take-le}
 use Rattle.wire.specs.Numbers.{big, number_bytes}
-use Rattle.wire.proofs.Splice.{sets_at, sets_whole, put_sets}
+use Rattle.wire.proofs.Splice.{sets_at, sets_whole}
 use Rattle.wire.proofs.OrderLaws.{length_number}
 use Rattle.fid.specs.Fid.{encode_fid_in}
 use Rattle.fid.specs.declared.MdtFid.{MdtFid}
@@ -20,10 +18,11 @@ use Rattle.linkea.specs.Link.{Link, link_header, parent_at, name_at, header_of, 
 use Rattle.linkea.specs.Conditions.{some}
 use Rattle.linkea.specs.declared.LinkHeader.{LinkHeader}
 use Rattle.linkea.proofs.PlaceLaws.{or_first, or_second}
-use Rattle.linkea_write.specs.declared.Written.TheVariants.{BadRecords, TooShort, Bytes}
+use Rattle.std.specs.Prelude.{Ok, Err}
+use Rattle.refusals.specs.declared.Refusal.TheVariants.{BadLink, TooShort}
 use Rattle.linkea_write.specs.Writer.{link_numbers, number_of, start_given, size_given, parent_given, link_given, link_ea_given, upward, bytes_given, bad_given, other_count, other_total, refused_given, write_link, left_by, write_link_bytes}
-use Rattle.linkea_write.proofs.LinkLaws.{length_link, length_link_header, links_append}
-use Rattle.linkea_write.proofs.GivenLaws.{start_of, size_of, length_name, length_links, length_upward, upward_more}
+use Rattle.linkea_write.proofs.LinkLaws.{length_link_header}
+use Rattle.linkea_write.proofs.GivenLaws.{start_of, size_of, length_name, length_links, length_upward}
 
 -- ## What the writer takes
 
@@ -77,8 +76,8 @@ facts_write h numbers names e g t =
 
 -- length, parent and name, stored one after the other over the bytes of the record
 pub record_stores : (numbers names l a b x : List ℕ) (j : ℕ) (f : MdtFid) → bad_given numbers names j ≡ false → length l ≡ name_at + size_of numbers j →
-    f ≡ parent_given numbers j → a ≡ sets l 0 (number_bytes big 2 (length l)) → b ≡ sets a parent_at (encode_fid_in big f.0) →
-    x ≡ sets b name_at (take (start_of numbers j + (length l - name_at) - start_of numbers j) (drop (start_of numbers j) names)) →
+    f ≡ parent_given numbers j → a ≡ sets l 0 (number_bytes big 2 (name_at + size_of numbers j)) → b ≡ sets a parent_at (encode_fid_in big f.0) →
+    x ≡ sets b name_at (take (start_of numbers j + size_of numbers j - start_of numbers j) (drop (start_of numbers j) names)) →
     x ≡ encode_link (link_given numbers names j)
 unfolding encode_link link_given start_given size_given number_of
 record_stores numbers names l a b x j f g k p ea eb ex =
@@ -86,7 +85,7 @@ record_stores numbers names l a b x j f g k p ea eb ex =
     let n : List ℕ = take s (drop (start_of numbers j) names) in
     let m : List ℕ = number_bytes big 2 (name_at + s) in
     let u : List ℕ = encode_fid_in big (parent_given numbers j).0 in
-    let z : start_of numbers j + (name_at + s - name_at) - start_of numbers j ≡ s = omega arith in
+    let z : start_of numbers j + s - start_of numbers j ≡ s = omega arith in
     let e : length n ≡ s = length_name numbers names j g in
     let y : x ≡ sets l 0 ((m ++ u) ++ n) =
     rw (
@@ -94,7 +93,6 @@ record_stores numbers names l a b x j f g k p ea eb ex =
       eb,
       ea,
       p,
-      k,
       z,
       sets_at m u l 0 parent_at (length_number big 2 (name_at + s)),
       sets_at (m ++ u) n l 0 name_at (simp (length-append, length_number, length_fid)),
@@ -105,67 +103,26 @@ record_stores numbers names l a b x j f g k p ea eb ex =
 pub part_long : (l : List ℕ) (a k : ℕ) → a + k ≤ length l → length (take (a + k - a) (drop a l)) ≡ k
 part_long l a k h = let e : a + k - a ≡ k = omega arith in rw e (length-take-le k (drop a l) (rw length-drop (omega arith)))
 
--- the destination with the first j records
-pub records_done : List ℕ → List ℕ → List ℕ → ℕ → List ℕ
-records_done d numbers names j = sets d link_header (encode_links (map (link_given numbers names) (upward j 0)))
-
-module _ (d numbers names : List ℕ) where
-  pub records_start : d ≡ records_done d numbers names 0
-  unfolding records_done upward encode_links
-  records_start = refl
-
-  pub records_step : (j a : ℕ) (x y : List ℕ) → some (bad_given numbers names) (upward j 0) ≡ false → bad_given numbers names j ≡ false →
-      a ≡ link_header + bytes_given numbers j 0 → a + (name_at + size_of numbers j) ≤ length x → x ≡ records_done d numbers names j →
-      y ≡ encode_link (link_given numbers names j) →
-      put_mid a (a + (name_at + size_of numbers j) - a) x y ≡ records_done d numbers names (j + 1)
-  unfolding records_done encode_links
-  records_step j a x y g b p h e f =
-      let s : List ℕ = encode_link (link_given numbers names j) in
-      let r : List Link = map (link_given numbers names) (upward j 0) in
-      let z : 0 + j ≡ j = omega arith in
-      let n : length s ≡ name_at + size_of numbers j = length_link (link_given numbers names j) ∙ ap (λ (k : ℕ). name_at + k) (length_name numbers names j b) in
-      let m : map (link_given numbers names) (upward (j + 1) 0) ≡ r ++ (link_given numbers names j ∷ []) =
-      rw (add-one j, upward_more j 0, z, map-append) in
-      rw (
-        f,
-        put_sets a (a + (name_at + size_of numbers j)) x s (omega arith) h,
-        e,
-        p,
-        sets_at (encode_links r) s d link_header (bytes_given numbers j 0) (length_links numbers names j 0 g),
-        m,
-        links_append r (link_given numbers names j ∷ []),
-        append-nil s,
-      )
-
-  pub records_length : (j : ℕ) (x : List ℕ) → x ≡ records_done d numbers names j → length x ≡ length d
-  unfolding records_done
-  records_length j x e = ap length e ∙ length-sets d link_header (encode_links (map (link_given numbers names) (upward j 0)))
-
-  pub records_end : (j n : ℕ) (x : List ℕ) → x ≡ records_done d numbers names j → j ≤ n → n ≤ j →
-      x ≡ sets d link_header (encode_links (map (link_given numbers names) (upward n 0)))
-  unfolding records_done
-  records_end j n x e h k = let q : n ≡ j = omega arith in rw q e
-
 -- ## The writer's answers
 
 module _ (h : LinkHeader) (numbers names dest : List ℕ) where
-  pub write_bad : refused_given h numbers names ≡ true → (BadRecords ≡ write_link h numbers names dest) × (dest ≡ write_link_bytes h numbers names dest)
+  pub write_bad : refused_given h numbers names ≡ true → (Err BadLink ≡ write_link h numbers names dest) × (dest ≡ write_link_bytes h numbers names dest)
   unfolding write_link write_link_bytes left_by
   write_bad w = (rw w, rw w)
 
   pub write_short : refused_given h numbers names ≡ false → length dest < h.total →
-      (TooShort ≡ write_link h numbers names dest) × (dest ≡ write_link_bytes h numbers names dest)
+      (Err TooShort ≡ write_link h numbers names dest) × (dest ≡ write_link_bytes h numbers names dest)
   unfolding write_link write_link_bytes left_by
   write_short w k = let t : ltb (length dest) h.total ≡ true = lt-ltb (length dest) h.total k in (rw (w, t), rw (w, t))
 
   pub write_is : refused_given h numbers names ≡ false → h.total ≤ length dest →
-      (write_link h numbers names dest ≡ Bytes h.total) × (write_link_bytes h numbers names dest ≡ sets dest 0 (encode_link_ea (link_ea_given h numbers names)))
+      (write_link h numbers names dest ≡ Ok h.total) × (write_link_bytes h numbers names dest ≡ sets dest 0 (encode_link_ea (link_ea_given h numbers names)))
   unfolding write_link write_link_bytes left_by
   write_is w k = let t : ltb (length dest) h.total ≡ false = le-ltb (length dest) h.total k in (rw (w, t), rw (w, t))
 
   pub write_done : (x y : List ℕ) → refused_given h numbers names ≡ false → h.total ≤ length dest → x ≡ sets dest 0 (encode_link_header h) →
       y ≡ sets x link_header (encode_links (map (link_given numbers names) (upward h.count 0))) →
-      (Bytes h.total ≡ write_link h numbers names dest) × (y ≡ write_link_bytes h numbers names dest)
+      (Ok h.total ≡ write_link h numbers names dest) × (y ≡ write_link_bytes h numbers names dest)
   unfolding encode_link_ea link_ea_given
   write_done x y w k p q =
       let r = write_is w k in
@@ -175,12 +132,12 @@ module _ (h : LinkHeader) (numbers names dest : List ℕ) where
       (sym r.0, e ∙ ap (λ (g : LinkHeader). sets dest 0 (encode_link_header g ++ s)) (sym f.header) ∙ sym r.1)
 
   -- the bytes that the writer says it wrote, of records that it takes and into a destination with room
-  pub write_took : (b : ℕ) → write_link h numbers names dest ≡ Bytes b → (refused_given h numbers names ≡ false) × (h.total ≤ length dest) × (b ≡ h.total)
+  pub write_took : (b : ℕ) → write_link h numbers names dest ≡ Ok b → (refused_given h numbers names ≡ false) × (h.total ≤ length dest) × (b ≡ h.total)
   unfolding write_link
   write_took b = go (refused_given h numbers names) (ltb (length dest) h.total) refl refl
     where
       go : (u v : Bool) → refused_given h numbers names ≡ u → ltb (length dest) h.total ≡ v →
-          cond u BadRecords (cond v TooShort (Bytes h.total)) ≡ Bytes b →
+          cond u (Err BadLink) (cond v (Err TooShort) (Ok h.total)) ≡ Ok b →
           (refused_given h numbers names ≡ false) × (h.total ≤ length dest) × (b ≡ h.total)
       go false false p q e = (p, ltb-false (length dest) h.total q, cc)
       go false true p q e = let z : ◌≡◌ {A = ℕ} 0 1 = cc in absurd (omega (arith, z))

@@ -1,13 +1,14 @@
 -- What the link_ea writer takes, answers and leaves in the destination, refusals first. Document 02, 2026-01.
-use Rattle.std.specs.Prelude.{ℕ, zero, suc, ◌+◌, ◌*◌, List, [], ◌∷◌, map, Bool, cond, not, ◌||◌, length, take, drop, get_or, ltb, eqb}
+use Rattle.std.specs.Prelude.{ℕ, zero, suc, ◌+◌, ◌*◌, List, [], ◌∷◌, map, Bool, cond, not, ◌||◌, length, take, drop, get_or, ltb, eqb, Result, Ok, Err}
 use Rattle.std.proofs.lemmas.List.Edits.{sets}
 use Rattle.wire.specs.Numbers.{max_word}
+use Rattle.refusals.specs.Numbers.{answer}
+use Rattle.refusals.specs.declared.Refusal.{Refusal}
+use Rattle.refusals.specs.declared.Refusal.TheVariants.{BadLink, TooShort}
 use Rattle.fid.specs.declared.MdtFid.{MdtFid}
 use Rattle.linkea.specs.Link.{Link, LinkEA, name_at, header_of, encode_link_ea}
 use Rattle.linkea.specs.Conditions.{some, bad_byte}
 use Rattle.linkea.specs.declared.LinkHeader.{LinkHeader}
-use Rattle.linkea_write.specs.declared.Written.{Written}
-use Rattle.linkea_write.specs.declared.Written.TheVariants.{BadRecords, TooShort, Bytes}
 
 -- ## Records as numbers
 
@@ -91,20 +92,17 @@ unfoldable pub refused_given : LinkHeader → List ℕ → List ℕ → Bool
 refused_given h numbers names = other_count h numbers || some (bad_given numbers names) (upward h.count 0) || other_total h numbers names
 
 -- "in the writer before 17"
-unfoldable pub write_link : LinkHeader → List ℕ → List ℕ → List ℕ → Written
+unfoldable pub write_link : LinkHeader → List ℕ → List ℕ → List ℕ → Result ℕ Refusal
 write_link h numbers names dest =
-    cond (refused_given h numbers names) BadRecords (cond (ltb (length dest) h.total) TooShort (Bytes h.total))
+    cond (refused_given h numbers names) (Err BadLink) (cond (ltb (length dest) h.total) (Err TooShort) (Ok h.total))
 
-unfoldable pub written_number : Written → ℕ
-written_number BadRecords = 31
-written_number TooShort = 17
-written_number (Bytes n) = 0
+unfoldable pub written_number : Result ℕ Refusal → ℕ
+written_number r = answer r
 
 -- the destination: the linkEA's bytes in front, all else unchanged
-unfoldable pub left_by : Written → List ℕ → List ℕ → List ℕ
-left_by BadRecords written dest = dest
-left_by TooShort written dest = dest
-left_by (Bytes n) written dest = sets dest 0 written
+unfoldable pub left_by : Result ℕ Refusal → List ℕ → List ℕ → List ℕ
+left_by (Err e) written dest = dest
+left_by (Ok n) written dest = sets dest 0 written
 
 unfoldable pub write_link_bytes : LinkHeader → List ℕ → List ℕ → List ℕ → List ℕ
 write_link_bytes h numbers names dest = left_by (write_link h numbers names dest) (encode_link_ea (link_ea_given h numbers names)) dest

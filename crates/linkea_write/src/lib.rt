@@ -1,77 +1,60 @@
 // The linkEA writer, whose records are handed in as numbers, with the bytes in which their names lie.
 #![tactic(auto)]
 
-ghost use Rattle.std.specs.Prelude.{◌≡◌, false, not, map, ◌+◌, ◌*◌, ◌≤◌, length};
+ghost use Rattle.std.specs.Prelude.{◌≡◌, false, not, map, ◌+◌, ◌≤◌, ◌<◌, ◌^◌, length, sum_by};
+ghost use Rattle.std.specs.List.{list_any};
 ghost use Rattle.std.proofs.lemmas.List.Edits.{sets};
-ghost use Rattle.wire.specs.Numbers.{max_word};
 ghost use Rattle.linkea.specs.Link.{link_header, name_at, encode_link_header, encode_link, encode_links};
-ghost use Rattle.linkea.specs.Conditions.{some};
-ghost use Rattle.linkea_write.specs.Writer.{link_numbers, parent_given, size_given, link_given, upward, bytes_given, wide_parent, long_record, bad_given, refused_given, write_link, write_link_bytes};
+ghost use Rattle.linkea_write.specs.Writer.{parent_given, size_given, link_given, wide_parent, bad_given, refused_given, write_link, write_link_bytes};
 
 use fid::{Fid, MdtFid};
 use linkea::{
     COUNT_AT, LINK_HEADER, LINK_MAGIC, LinkHeader, NAME_AT, PADDING_AT, PARENT_AT, TIME_AT,
     TOTAL_AT,
 };
+use refusals::Refusal;
 use wire::MAX_WORD;
 
 // The numbers of a record that is handed in: sequence, id and version of the parent, where the name starts, its length.
 pub const LINK_NUMBERS: usize = 5;
 
-// Where the name's start and length stand among them.
-const START_AT: usize = 3;
-
-const SIZE_AT: usize = START_AT + 1;
+// Where the name's length stands among them.
+const SIZE_AT: usize = 4;
 
 // The bytes of the longest record, and of its name.
 const LONGEST_RECORD: u64 = 65535;
 
 const LONGEST_NAME: u64 = LONGEST_RECORD - NAME_AT as u64;
 
-// What the writer says: refused records, a short destination, or the bytes written.
-#[derive(Clone, Copy)]
-pub enum Written {
-    BadRecords,
-    TooShort,
-    Bytes(usize),
+// The parent of a record that is handed in, whose id and version fit their fields.
+fn parent_given(given: &[u64; LINK_NUMBERS]) -> MdtFid
+    requires { wide_parent given.now 0 ≡ false }
+    ensures { result ≡ parent_given given.now 0 }
+{
+    let [seq, oid, ver, _, _] = *given;
+    MdtFid(Fid {
+        seq,
+        oid: oid as u32,
+        ver: ver as u32,
+    })
 }
 
-// The parent of the j-th record, whose id and version fit their fields.
-fn parent_given(numbers: &[u64], j: usize) -> MdtFid
-    requires { (link_numbers * j + link_numbers ≤ length numbers.now) × (wide_parent numbers.now j ≡ false) }
-    ensures { result ≡ parent_given numbers.now j }
+// Whether its id or version doesn't fit its field.
+fn wide_parent(given: &[u64; LINK_NUMBERS]) -> bool
+    ensures { result ≡ wide_parent given.now 0 }
 {
-    let a = LINK_NUMBERS * j;
-    let f = Fid {
-        seq: numbers[a],
-        oid: numbers[a + 1] as u32,
-        ver: numbers[a + 2] as u32,
-    };
-    MdtFid(f)
+    let [_, oid, ver, _, _] = *given;
+    MAX_WORD < oid || MAX_WORD < ver
 }
 
-// Whether id or version of the j-th record doesn't fit its field.
-fn wide_parent(numbers: &[u64], j: usize) -> bool
-    requires { link_numbers * j + link_numbers ≤ length numbers.now }
-    ensures { result ≡ wide_parent numbers.now j }
+// Whether the writer refuses it.
+fn bad_given(given: &[u64; LINK_NUMBERS], names: &[u8]) -> bool
+    ensures { result ≡ bad_given given.now names.now 0 }
 {
-    let a = LINK_NUMBERS * j;
-    if MAX_WORD < numbers[a + 1] {
+    if wide_parent(given) {
         return true;
     }
-    MAX_WORD < numbers[a + 2]
-}
-
-// Whether the j-th record is one that the writer refuses.
-fn bad_given(numbers: &[u64], names: &[u8], j: usize) -> bool
-    requires { link_numbers * j + link_numbers ≤ length numbers.now }
-    ensures { result ≡ bad_given numbers.now names.now j }
-{
-    if wide_parent(numbers, j) {
-        return true;
-    }
-    let start = numbers[LINK_NUMBERS * j + START_AT];
-    let size = numbers[LINK_NUMBERS * j + SIZE_AT];
+    let [_, _, _, start, size] = *given;
     if size == 0 {
         return true;
     }
@@ -86,32 +69,24 @@ fn bad_given(numbers: &[u64], names: &[u8], j: usize) -> bool
         return true;
     }
     let a = start as usize;
-    let e = a + size as usize;
-    linkea::bad_bytes(&names[a..e])
+    linkea::bad_bytes(&names[a..a + size as usize])
 }
 
 // Whether each of the records handed in is one that the writer takes.
-fn good_given(numbers: &[u64], names: &[u8], count: usize) -> bool
-    requires { length numbers.now ≡ link_numbers * count }
-    ensures { result ≡ not (some (bad_given numbers.now names.now) (upward count 0)) }
+fn good_given(records: &[[u64; LINK_NUMBERS]], names: &[u8]) -> bool
+    ensures { result ≡ not (list_any (λ given. bad_given given names.now 0) records.now) }
 {
-    for j in 0..count {
-        if bad_given(numbers, names, j) {
-            return false;
-        }
-    }
-    true
+    !records.iter().any(|given| bad_given(given, names))
 }
 
-// The bytes of the linkEA of the records handed in, none of which is too long.
-fn total_given(numbers: &[u64], count: usize) -> u64
-    requires { (length numbers.now ≡ link_numbers * count) × (count ≤ max_word) × (some (long_record numbers.now) (upward count 0) ≡ false) }
-    ensures { result ≡ link_header + bytes_given numbers.now count 0 }
+// The bytes of the linkEA of the records handed in.
+fn total_given(records: &[[u64; LINK_NUMBERS]]) -> u64
+    requires { link_header + sum_by (λ given. name_at + size_given given 0) records.now < 2 ^ 64 }
+    ensures { result ≡ link_header + sum_by (λ given. name_at + size_given given 0) records.now }
 {
     let mut total = LINK_HEADER as u64;
-    for j in 0..count {
-        let size = numbers[LINK_NUMBERS * j + SIZE_AT];
-        total = total + (NAME_AT as u64 + size);
+    for given in records {
+        total += NAME_AT as u64 + given[SIZE_AT];
     }
     total
 }
@@ -120,14 +95,14 @@ fn total_given(numbers: &[u64], count: usize) -> u64
 pub fn refused_given(h: LinkHeader, numbers: &[u64], names: &[u8]) -> bool
     ensures { result ≡ refused_given h numbers.now names.now }
 {
-    let count = h.count as usize;
-    if numbers.len() != LINK_NUMBERS * count {
+    if numbers.len() != LINK_NUMBERS * h.count as usize {
         return true;
     }
-    if !good_given(numbers, names, count) {
+    let (records, _) = numbers.as_chunks::<LINK_NUMBERS>();
+    if !good_given(records, names) {
         return true;
     }
-    h.total != total_given(numbers, count)
+    h.total != total_given(records)
 }
 
 // Writes a header over the first bytes.
@@ -142,47 +117,53 @@ pub fn write_header(dest: &mut [u8], h: LinkHeader)
     wire::put_le32(dest, PADDING_AT, h.padding);
 }
 
-// Writes the j-th record over the bytes that it is lent.
-fn put_given(part: &mut [u8], numbers: &[u64], names: &[u8], j: usize)
-    requires { (link_numbers * j + link_numbers ≤ length numbers.now) × (bad_given numbers.now names.now j ≡ false) × (length part.old ≡ name_at + size_given numbers.now j) }
-    ensures { part.new ≡ encode_link (link_given numbers.now names.now j) }
+// Writes a record over the bytes that it is lent.
+fn put_given(part: &mut [u8], given: &[u64; LINK_NUMBERS], names: &[u8])
+    requires taken { bad_given given.now names.now 0 ≡ false }
+    requires room { length part.old ≡ name_at + size_given given.now 0 }
+    ensures { part.new ≡ encode_link (link_given given.now names.now 0) }
 {
-    let size = part.len();
-    let parent = parent_given(numbers, j);
-    let f = parent.0;
-    let a = numbers[LINK_NUMBERS * j + START_AT] as usize;
-    let e = a + (size - NAME_AT);
-    wire::put_be16(part, 0, size as u16);
-    fid::write_big(part, PARENT_AT, f);
-    wire::put_bytes(part, NAME_AT, &names[a..e]);
+    let [_, _, _, start, size] = *given;
+    let parent = parent_given(given);
+    let a = start as usize;
+    let n = size as usize;
+    wire::put_be16(part, 0, (NAME_AT + n) as u16);
+    fid::write_big(part, PARENT_AT, parent.0);
+    wire::put_bytes(part, NAME_AT, &names[a..a + n]);
 }
 
 // Writes the records one after the other, from the end of the header on.
-fn write_records(dest: &mut [u8], numbers: &[u64], names: &[u8], count: usize)
-    requires { (length numbers.now ≡ link_numbers * count) × (some (bad_given numbers.now names.now) (upward count 0) ≡ false) × (link_header + bytes_given numbers.now count 0 ≤ length dest.old) }
-    ensures { dest.new ≡ sets dest.old link_header (encode_links (map (link_given numbers.now names.now) (upward count 0))) }
+fn write_records(dest: &mut [u8], records: &[[u64; LINK_NUMBERS]], names: &[u8])
+    requires taken { list_any (λ given. bad_given given names.now 0) records.now ≡ false }
+    requires room { link_header + sum_by (λ given. name_at + size_given given 0) records.now ≤ length dest.old }
+    ensures { dest.new ≡ sets dest.old link_header (encode_links (map (λ given. link_given given names.now 0) records.now)) }
 {
     let mut a = LINK_HEADER;
-    for j in 0..count {
-        let size = numbers[LINK_NUMBERS * j + SIZE_AT] as usize;
-        let e = a + (NAME_AT + size);
-        put_given(&mut dest[a..e], numbers, names, j);
+    for given in records {
+        let e = a + (NAME_AT + given[SIZE_AT] as usize);
+        put_given(&mut dest[a..e], given, names);
         a = e;
     }
 }
 
-// Writes a linkEA at the start of the destination: 31 for what it is handed, then 17 for the room.
-pub fn write(h: LinkHeader, numbers: &[u64], names: &[u8], dest: &mut [u8]) -> Written
+// Writes a linkEA at the start of the destination and gives the bytes written: 31 for what it is handed, then 17 for the room.
+pub fn write(
+    h: LinkHeader,
+    numbers: &[u64],
+    names: &[u8],
+    dest: &mut [u8],
+) -> Result<usize, Refusal>
     ensures answer { result ≡ write_link h numbers.now names.now dest.old }
     ensures bytes { dest.new ≡ write_link_bytes h numbers.now names.now dest.old }
 {
     if refused_given(h, numbers, names) {
-        return Written::BadRecords;
+        return Err(Refusal::BadLink);
     }
     if (dest.len() as u64) < h.total {
-        return Written::TooShort;
+        return Err(Refusal::TooShort);
     }
     write_header(dest, h);
-    write_records(dest, numbers, names, h.count as usize);
-    Written::Bytes(h.total as usize)
+    let (records, _) = numbers.as_chunks::<LINK_NUMBERS>();
+    write_records(dest, records, names);
+    Ok(h.total as usize)
 }

@@ -2,28 +2,23 @@
 // short gives.
 #![tactic(auto)]
 
-use linkea::{Found, Step};
+use linkea::Found;
+use refusals::Refusal;
 use std::io;
-
-fn print_number(rt: &impl Print, name: &str, n: u64) -> io::Result<()> {
-    print!(rt; "{name}{n}")
-}
 
 fn show_record(rt: &impl Print, x: Found) -> io::Result<()> {
     let parent = x.parent.0;
-    print_number(rt, "record: parent ", parent.seq)?;
-    print_number(rt, " ", parent.oid as u64)?;
-    print_number(rt, ", name at ", x.start as u64)?;
-    print_number(rt, ", of ", x.size as u64)?;
-    print_number(rt, ", next ", x.next as u64)?;
-    rt.write_all(b"\n")
+    println!(rt;
+        "record: parent {} {}, name at {}, of {}, next {}",
+        parent.seq, parent.oid, x.start, x.size, x.next
+    )
 }
 
-fn show_step(rt: &impl Print, s: Step) -> io::Result<()> {
-    match s {
-        Step::Bad => rt.write_all(b"bad\n"),
-        Step::End => rt.write_all(b"end\n"),
-        Step::Record(x) => show_record(rt, x),
+fn show_step(rt: &impl Print, step: Result<Option<Found>, Refusal>) -> io::Result<()> {
+    match step {
+        Ok(Some(x)) => show_record(rt, x),
+        Ok(None) => rt.write_all(b"end\n"),
+        Err(_) => rt.write_all(b"bad\n"),
     }
 }
 
@@ -38,11 +33,10 @@ fn show(rt: &impl Print, link: &[u8]) -> io::Result<()> {
 // All of it, and all but the last byte.
 fn show_both(rt: &impl Print, link: &[u8]) -> io::Result<()> {
     show(rt, link)?;
-    if 0 < link.len() {
-        let end = link.len() - 1;
-        show(rt, &link[0..end])?;
+    match link.split_last() {
+        Some((_, rest)) => show(rt, rest),
+        None => Ok(()),
     }
-    Ok(())
 }
 
 fn main(rt: HostRuntime) -> io::Result<()> {

@@ -1,25 +1,16 @@
-use native.Mathlib.Omega.{arith}
-use mathlib.Core.Path.{refl, sym, ◌∙◌}
-use Rattle.linkea.proofs.RecordLaws.{bad_here, bad_next, bad_none}
+use Rattle.std.proofs.Common.{ℕ, List, [], ◌∷◌, ◌≡◌, ◌||◌, refl, ap, ◌∙◌, rules}
+use Rattle.std.specs.List.{list_any}
+use Rattle.std.proofs.lemmas.Iterator.{YieldsList-from_slice}
+use Rattle.std.proofs.lemmas.Iterator.Search.{any_from_yields_List}
+use Rattle.linkea.specs.Conditions.{some, bad_byte}
 use Rattle.linkea.proofs.bad_bytes.Goals as goal
 
-pub loop-i-init : goal.loop-i-init
-loop-i-init c = (omega arith, refl)
-
-pub returns-then-bad_byte : goal.returns-then-bad_byte
-returns-then-bad_byte c =
-    let w = c in
-    let name = w.args.name.now in
-    sym (w.loop-i.invariant.1 ∙ bad_here name w.loop-i.i (omega arith) (sym c.bad_byte.ensures ∙ c.if-bad_byte.true))
-
-pub loop-i-preserved : goal.loop-i-preserved
-loop-i-preserved c =
-    let w = c in
-    let name = w.args.name.now in
-    (omega arith, w.loop-i.invariant.1 ∙ bad_next name w.loop-i.i (omega arith) (sym c.bad_byte.ensures ∙ c.if-bad_byte.false))
+some_any : (ns : List ℕ) → list_any bad_byte ns ≡ some bad_byte ns
+unfolding some
+some_any [] = refl
+some_any (n ∷ ns) = ap (λ b. bad_byte n || b) (some_any ns)
 
 pub returns : goal.returns
 returns c =
-    let w = c in
-    let name = w.args.name.now in
-    sym (w.loop-i.invariant.1 ∙ bad_none name w.loop-i.i (omega arith))
+    any_from_yields_List bad_byte _ _ _ c.any.ensures.ran (YieldsList-from_slice c.args.name.now cc) (λ x b q k. search (rules, k))
+    ∙ some_any c.args.name.now

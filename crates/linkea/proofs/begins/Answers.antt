@@ -24,14 +24,6 @@ loop-at-init c =
     let b = c in
     ((good_link b.args.l.now b.requires).records, ap (λ (ps : List ℕ). some (eqb b.args.p) ps) (places_from_lem b.args.l.now))
 
-pub be16-requires : goal.be16-requires
-be16-requires c = omega (arith, good c)
-
-pub overflow_add-at : goal.overflow_add-at
-overflow_add-at c =
-    let w = c in
-    omega (arith, good (goal.at.overflow_add-at c).In-loop-at, c.be16.ensures, length_read w.args.l.now w.loop-at.at)
-
 pub loop-at-smaller : goal.loop-at-smaller
 loop-at-smaller c =
     let w = c in

@@ -1,5 +1,5 @@
 use native.Mathlib.Omega.{arith}
-use mathlib.Core.Path.{refl, sym, ap, ◌∙◌}
+use mathlib.Core.Path.{sym, ap, ◌∙◌}
 use Prim.Native.Nat.{ℕ, ◌+◌}
 use Rattle.linkea.proofs.PlaceLaws.{GoodRecord, good_record, good_from, good_start, good_stop_lem, good_next, good_end}
 use Rattle.linkea.proofs.RecordLaws.{length_read}
@@ -12,9 +12,6 @@ good c =
     let w = c in
     good_record w.args.l.now w.loop-at.at (sym c.bad_record.ensures ∙ c.if-bad_record.false)
 
-pub loop-at-init : goal.loop-at-init
-loop-at-init c = (omega arith, refl)
-
 pub returns-then-bad_record : goal.returns-then-bad_record
 returns-then-bad_record c =
     let w = c in
@@ -23,14 +20,6 @@ returns-then-bad_record c =
 
 pub be16-requires : goal.be16-requires
 be16-requires c = omega (arith, good c)
-
-pub overflow_add-at : goal.overflow_add-at
-overflow_add-at c =
-    let w = c in
-    omega (arith, good (goal.at.overflow_add-at c).Else-bad_record, c.be16.ensures, length_read w.args.l.now w.loop-at.at)
-
-pub overflow_add-k : goal.overflow_add-k
-overflow_add-k c = let w = c in omega (arith, w.loop-at.invariant.0)
 
 pub loop-at-smaller : goal.loop-at-smaller
 loop-at-smaller c =

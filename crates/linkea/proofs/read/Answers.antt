@@ -1,7 +1,8 @@
 use native.Mathlib.Omega.{arith}
 use mathlib.Core.Path.{sym, ap, ◌∙◌}
+use Rattle.std.specs.Prelude.{Result, Ok}
+use Rattle.refusals.specs.declared.Refusal.{Refusal}
 use Rattle.linkea.specs.declared.LinkHeader.{LinkHeader}
-use Rattle.linkea.specs.declared.Reading.TheVariants.{Accepted}
 use Rattle.linkea.proofs.RecordLaws.{good_link, read_refused, read_accepted}
 use Rattle.linkea.proofs.read.Goals as goal
 
@@ -15,4 +16,4 @@ read_header-requires c =
 pub returns : goal.returns
 returns c =
     let b = c in
-    ap (λ (h : LinkHeader). Accepted h) c.read_header.ensures ∙ read_accepted b.args.l.now (sym b.refused.ensures ∙ c.if-refused.false)
+    ap {B = Result LinkHeader Refusal} Ok c.read_header.ensures ∙ read_accepted b.args.l.now (sym b.refused.ensures ∙ c.if-refused.false)

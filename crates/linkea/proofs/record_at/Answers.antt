@@ -1,15 +1,13 @@
 use mathlib.Core.Path.{sym, ap, ◌∙◌}
+use Rattle.std.specs.Prelude.{Result, Ok}
+use Rattle.refusals.specs.declared.Refusal.{Refusal}
 use Rattle.linkea.specs.declared.Found.{Found}
-use Rattle.linkea.specs.declared.RecordRead.TheVariants.{RecordIs}
 use Rattle.linkea.proofs.PlaceLaws.{place_before_end}
 use Rattle.linkea.proofs.RecordLaws.{place_good, record_refused, record_none, record_is}
 use Rattle.linkea.proofs.record_at.Goals as goal
 
 pub returns-then-refused : goal.returns-then-refused
 returns-then-refused c = let a = c.args in record_refused a.l.now a.p (sym c.refused.ensures ∙ c.if-refused.true)
-
-pub begins-requires : goal.begins-requires
-begins-requires c = sym c.refused.ensures ∙ c.if-refused.false
 
 pub returns-then-not-begins : goal.returns-then-not-begins
 returns-then-not-begins c =
@@ -28,5 +26,5 @@ pub returns : goal.returns
 returns c =
     let b = c in
     let a = b.args in
-    ap (λ (x : Found). RecordIs x) c.found_at.ensures
+    ap {B = Result Found Refusal} Ok c.found_at.ensures
     ∙ record_is a.l.now a.p (sym b.refused.ensures ∙ c.if-refused.false) (sym c.begins.ensures ∙ c.if-not-begins.false)

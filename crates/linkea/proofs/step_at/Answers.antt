@@ -1,8 +1,9 @@
 use native.Mathlib.Omega.{arith}
 use mathlib.Core.Path.{sym, ap, ◌∙◌}
 use Rattle.linkea.proofs.RecordLaws.{step_header, step_end, step_bad, step_record}
+use Rattle.std.specs.Prelude.{Option, Some, Result, Ok}
+use Rattle.refusals.specs.declared.Refusal.{Refusal}
 use Rattle.linkea.specs.declared.Found.{Found}
-use Rattle.linkea.specs.declared.Step.TheVariants.{Record}
 use Rattle.linkea.proofs.step_at.Goals as goal
 
 pub returns-then-p-lt-LINK_HEADER : goal.returns-then-p-lt-LINK_HEADER
@@ -16,10 +17,7 @@ returns-then-bad_record c =
     let a = c.args in
     step_bad a.l.now a.p (omega arith) (omega arith) (sym c.bad_record.ensures ∙ c.if-bad_record.true)
 
-pub found_at-requires : goal.found_at-requires
-found_at-requires c = (omega arith, sym c.bad_record.ensures ∙ c.if-bad_record.false)
-
 pub returns : goal.returns
 returns c =
     let a = c.args in
-    ap (λ (x : Found). Record x) c.found_at.ensures ∙ step_record a.l.now a.p (omega arith) (omega arith) (sym c.bad_record.ensures ∙ c.if-bad_record.false)
+    ap {B = Result (Option Found) Refusal} (λ x. Ok (Some x)) c.found_at.ensures ∙ step_record a.l.now a.p (omega arith) (omega arith) (sym c.bad_record.ensures ∙ c.if-bad_record.false)

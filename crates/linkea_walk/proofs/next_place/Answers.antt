@@ -1,15 +1,14 @@
-use Rattle.std.proofs.Common.{sym, ap, ◌∙◌}
 use Rattle.linkea.specs.Walk.{onward}
 use Rattle.linkea_walk.proofs.next_place.Goals as goal
 
-pub returns-in-Bad : goal.returns-in-Bad
+pub returns-in-Ok-Some : goal.returns-in-Ok-Some
 unfolding onward
-returns-in-Bad c = ap (onward c.args.p) (sym c.in-Bad.is ∙ c.step_at.ensures)
+returns-in-Ok-Some c = rw (← c.step_at.ensures, c.in-Ok-Some.is, c.in-Ok-Some.field-0-is)
 
-pub returns-in-End : goal.returns-in-End
+pub returns-in-Ok-None : goal.returns-in-Ok-None
 unfolding onward
-returns-in-End c = ap (onward c.args.p) (sym c.in-End.is ∙ c.step_at.ensures)
+returns-in-Ok-None c = rw (← c.step_at.ensures, c.in-Ok-None.is, c.in-Ok-None.field-0-is)
 
-pub returns-in-Record : goal.returns-in-Record
+pub returns-in-Err : goal.returns-in-Err
 unfolding onward
-returns-in-Record c = ap (onward c.args.p) (sym c.in-Record.is ∙ c.step_at.ensures)
+returns-in-Err c = rw (← c.step_at.ensures, c.in-Err.is)

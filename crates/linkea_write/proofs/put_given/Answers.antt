@@ -1,33 +1,33 @@
-use native.Mathlib.Omega.{arith}
+use Rattle.std.proofs.Common.{◌≡◌, length, arith}
+use Rattle.linkea_write.proofs.GivenLaws.{taken_facts, start_of, size_of}
+use Rattle.linkea_write.proofs.WriteLaws.{record_stores, part_long}
+use lib.Seq.{length-sets}
 use Rattle.linkea_write.specs.Writer.{size_given, number_of}
-use Rattle.linkea_write.proofs.GivenLaws.{taken_facts}
-use Rattle.linkea_write.proofs.WriteLaws.{record_stores}
 use Rattle.linkea_write.proofs.put_given.Goals as goal
 
 pub parent_given-parent-requires : goal.parent_given-parent-requires
-parent_given-parent-requires c = let p = c.requires in (p.0, (taken_facts _ _ _ p.1).parent)
+parent_given-parent-requires c = (taken_facts c.args.given.now _ 0 c.requires.taken).parent
 
-pub overflow_add-e : goal.overflow_add-e
-unfolding size_given number_of
-overflow_add-e c = omega (arith, taken_facts _ _ _ c.requires.1)
+pub overflow_add-n : goal.overflow_add-n
+overflow_add-n c = omega (arith, taken_facts c.args.given.now _ 0 c.requires.taken)
 
-pub overflow_cast-size : goal.overflow_cast-size
-unfolding size_given number_of
-overflow_cast-size c = omega (arith, taken_facts _ _ _ c.requires.1)
+pub overflow_cast-n : goal.overflow_cast-n
+overflow_cast-n c = omega (arith, taken_facts c.args.given.now _ 0 c.requires.taken)
+
+pub overflow_add-a : goal.overflow_add-a
+overflow_add-a c = omega (arith, taken_facts c.args.given.now _ 0 c.requires.taken)
 
 pub slice_bounds-put_bytes-end : goal.slice_bounds-put_bytes-end
+slice_bounds-put_bytes-end c = omega (arith, taken_facts c.args.given.now _ 0 c.requires.taken)
+
+pub put_bytes-requires : goal.put_bytes-requires
 unfolding size_given number_of
-slice_bounds-put_bytes-end c =
-    let s = c in
-    omega (arith, s.requires.2, taken_facts _ _ _ s.requires.1)
+put_bytes-requires c =
+    let t = taken_facts c.args.given.now c.args.names.now 0 c.requires.taken in
+    let z : length c.write_big.new.s ≡ length c.args.part.now = rw (c.write_big.ensures, length-sets, c.put_be16.ensures, length-sets) in
+    omega (arith, part_long c.args.names.now (start_of c.args.given.now 0) (size_of c.args.given.now 0) t.inside, c.requires.room, z)
 
 pub returns : goal.returns
 unfolding size_given number_of
 returns c =
-    let n = c in
-    let b = n in
-    let a = b in
-    let f = a in
-    let s = f in
-    let p = s.requires in
-    record_stores _ _ s.args.part.now _ _ _ _ _ p.1 p.2 f.parent_given-parent.ensures a.put_be16.ensures b.write_big.ensures n.put_bytes.ensures
+    record_stores _ _ c.args.part.now _ _ _ 0 _ c.requires.taken c.requires.room c.parent_given-parent.ensures c.put_be16.ensures c.write_big.ensures c.put_bytes.ensures

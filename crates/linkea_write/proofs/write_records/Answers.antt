@@ -1,56 +1,50 @@
-use native.Mathlib.Omega.{arith}
-use mathlib.Core.Path.{refl}
-use Prim.Native.Nat.{◌+◌}
-use Rattle.linkea.specs.Link.{name_at}
+use Rattle.std.proofs.Common.{[], get_or, refl, ◌∙◌, arith}
+use Rattle.std.proofs.lemmas.List.Sums.{sum_by_more, sum_by_more_le}
 use Rattle.linkea_write.specs.Writer.{size_given, number_of}
-use Rattle.linkea_write.proofs.GivenLaws.{size_of, none_of, none_first, bytes_start, bytes_step, bytes_inside}
-use Rattle.linkea_write.proofs.WriteLaws.{records_start, records_step, records_length, records_end, part_long}
+use Rattle.linkea_write.proofs.ChunkLaws.{long, stored_first, stored_next, stored_all}
+use Rattle.linkea_write.proofs.WriteLaws.{part_long}
 use Rattle.linkea_write.proofs.write_records.Goals as goal
 
-pub loop-j-init : goal.loop-j-init
-loop-j-init c = (omega arith, refl, bytes_start _, records_start _ _ _)
+pub loop-given-init : goal.loop-given-init
+loop-given-init c = record { place = refl; done = stored_first c.args.names.now c.args.dest.now c.args.records.now }
 
 pub overflow_add-e : goal.overflow_add-e
+unfolding size_given number_of
 overflow_add-e c =
-    let d = c in
-    let s = d in
-    omega (arith, bytes_inside s.args.numbers.now s.args.count d.loop-j.j (omega arith))
+    let m = sum_by_more_le long c.args.records.now c.loop-given.given-index [] c.loop-given-test.true in
+    omega (arith, m, c.requires.room)
 
-pub overflow_add-e-in-loop-j : goal.overflow_add-e-in-loop-j
-overflow_add-e-in-loop-j c =
-    let d = c in
-    let s = d in
-    omega (arith, bytes_inside s.args.numbers.now s.args.count d.loop-j.j (omega arith))
+pub overflow_add-e-in-loop-given : goal.overflow_add-e-in-loop-given
+unfolding size_given number_of
+overflow_add-e-in-loop-given c =
+    let m = sum_by_more_le long c.args.records.now c.loop-given.given-index [] c.loop-given-test.true in
+    omega (arith, m, c.requires.room, c.loop-given.invariant.place)
 
 pub slice_bounds-put_given-end : goal.slice_bounds-put_given-end
-slice_bounds-put_given-end c =
-    let d = c in
-    let s = d in
-    omega (arith, bytes_inside s.args.numbers.now s.args.count d.loop-j.j (omega arith))
-
-pub put_given-requires : goal.put_given-requires
 unfolding size_given number_of
-put_given-requires c =
-    let d = c in
-    let s = d in
-    let n = s.args.numbers.now in (
-      omega arith,
-      none_of _ _ _ s.requires.1 (omega arith),
-      part_long d.loop-j.dest d.loop-j.a (name_at + size_of n d.loop-j.j) (omega (arith, bytes_inside n s.args.count d.loop-j.j (omega arith))),
-    )
+slice_bounds-put_given-end c =
+    let m = sum_by_more_le long c.args.records.now c.loop-given.given-index [] c.loop-given-test.true in
+    omega (arith, m, c.requires.room, c.loop-given.invariant.place, c.loop-given.auto.dest)
 
-pub loop-j-preserved : goal.loop-j-preserved
-loop-j-preserved c =
-    let g = c in
-    let d = g in
-    let s = d in
-    let i = d.loop-j.invariant in
-    let e =
-    records_step _ _ _ _ _ _ _ (none_first _ _ _ _ s.requires.1 i.0) (none_of _ _ _ s.requires.1 (omega arith)) i.2 (omega (arith, bytes_inside s.args.numbers.now s.args.count d.loop-j.j (omega arith))) i.3 g.put_given.ensures in
-    (omega arith, records_length _ _ _ _ _ e, bytes_step _ _ _ i.2, e)
+pub put_given-requires-clause-room : goal.put_given-requires-clause-room
+unfolding size_given number_of
+put_given-requires-clause-room c =
+    let g = c.loop-given in
+    let m = sum_by_more_le long c.args.records.now g.given-index [] c.loop-given-test.true in
+    part_long g.dest g.a (long (get_or c.args.records.now g.given-index [])) (omega (arith, m, c.requires.room, g.invariant.place, g.auto.dest))
 
-pub shape_of-dest : goal.shape_of-dest
-shape_of-dest c = c.loop-j.invariant.1
+pub loop-given-preserved : goal.loop-given-preserved
+unfolding size_given number_of
+loop-given-preserved c =
+    let g = c.loop-given in
+    let rs = c.args.records.now in
+    let m = sum_by_more long rs g.given-index [] c.loop-given-test.true in
+    let n = sum_by_more_le long rs g.given-index [] c.loop-given-test.true in
+    record {
+      place = omega (arith, m, g.invariant.place);
+      done = stored_next c.args.names.now c.args.dest.now rs g.given-index g.a g.dest _ c.requires.taken c.loop-given-test.true g.invariant.place
+          (omega (arith, n, c.requires.room, g.invariant.place, g.auto.dest)) g.invariant.done c.put_given.ensures;
+    }
 
 pub returns : goal.returns
-returns c = records_end _ _ _ _ _ _ c.loop-j.invariant.3 (omega arith) (omega arith)
+returns c = c.loop-given.invariant.done ∙ stored_all c.args.names.now c.args.dest.now c.args.records.now c.loop-given.given-index c.loop-given-test.false
