@@ -18,7 +18,7 @@ pub fn lfsck_class(
     ensures answer { result ≡ out_answer (class_number (class_answer parents.now objects.now (place stage row part))) (told_numbers (class_answer parents.now objects.now (place stage row part))) out.old }
     ensures out { out.new ≡ out_numbers (class_number (class_answer parents.now objects.now (place stage row part))) (told_numbers (class_answer parents.now objects.now (place stage row part))) out.old }
 {
-    capi_class::class_at(parents, objects, stage, row, part, out)
+    refusals::answer(capi_class::class_at(parents, objects, stage, row, part, out))
 }
 
 // The classes from a position on, 4 numbers each into out: the position in and out, how many were told into done.
@@ -34,5 +34,5 @@ pub fn lfsck_classes(
     ensures out { out.new ≡ (listing parents.now objects.now position.old out.old done.old).out }
     ensures done { done.new ≡ (listing parents.now objects.now position.old out.old done.old).done }
 {
-    listing::classes(parents, objects, position, out, done)
+    refusals::answer(listing::classes(parents, objects, position, out, done))
 }

@@ -18,7 +18,9 @@ pub fn lfsck_check(
 ) -> u32
     ensures { result ≡ check_number parents.now objects.now reserve.now policy (place stage row part) }
 {
-    capi_tables::check(parents, objects, reserve, policy, stage, row, part)
+    refusals::answer(capi_tables::check(
+        parents, objects, reserve, policy, stage, row, part,
+    ))
 }
 
 // Where a run starts: 3 numbers into position.
@@ -26,7 +28,7 @@ pub fn lfsck_start(parents: &[u8], objects: &[u8], position: &mut [u64]) -> u32
     ensures answer { result ≡ out_answer (start_number (start_answer parents.now objects.now)) (start_numbers (start_answer parents.now objects.now)) position.old }
     ensures position { position.new ≡ out_numbers (start_number (start_answer parents.now objects.now)) (start_numbers (start_answer parents.now objects.now)) position.old }
 {
-    capi_tables::start(parents, objects, position)
+    refusals::answer(capi_tables::start(parents, objects, position))
 }
 
 // How many steps an uncut run takes: 1 number into out.
@@ -34,5 +36,5 @@ pub fn lfsck_steps(parents: &[u8], objects: &[u8], out: &mut [u64]) -> u32
     ensures answer { result ≡ out_answer (steps_number (steps_answer parents.now objects.now)) (steps_numbers (steps_answer parents.now objects.now)) out.old }
     ensures out { out.new ≡ out_numbers (steps_number (steps_answer parents.now objects.now)) (steps_numbers (steps_answer parents.now objects.now)) out.old }
 {
-    capi_tables::steps(parents, objects, out)
+    refusals::answer(capi_tables::steps(parents, objects, out))
 }

@@ -8,5 +8,5 @@ pub fn lfsck_keeper(parents: &[u8], objects: &[u8], sequence: u64, id: u64, out:
     ensures answer { result ≡ out_answer (keeper_number parents.now objects.now sequence id) (keeper_numbers parents.now objects.now sequence id) out.old }
     ensures out { out.new ≡ out_numbers (keeper_number parents.now objects.now sequence id) (keeper_numbers parents.now objects.now sequence id) out.old }
 {
-    capi_keeper::keeper_of(parents, objects, sequence, id, out)
+    refusals::answer(capi_keeper::keeper_of(parents, objects, sequence, id, out))
 }

@@ -6,6 +6,11 @@ use Prim.Native.Nat.{ℕ, ◌≤◌, ◌<◌}
 use borrow.Author.Tests.{ne_eqb, le-leb, lt-leb, leb-true}
 use native.Mathlib.Omega.{arith}
 use lib.Dec.{leb, eqb}
+use Rattle.std.specs.Prelude.{Err}
+use Rattle.refusals.specs.Numbers.{told}
+use Rattle.refusals.specs.declared.Refusal.TheVariants.{BadTable, BadLayout}
+use Rattle.refusals.proofs.NumberLaws.{told_refused}
+use Rattle.tables.proofs.CheckLaws.{tables_refused}
 use Rattle.wire.specs.Numbers.{max_word}
 use Rattle.fid.specs.Fid.{good_object}
 use Rattle.tables.specs.Check.{test, first_failing, tables_whole, good_layouts, good_fids, all_different, tables_tests, tables_number, Sound}
@@ -15,14 +20,6 @@ use Rattle.capi_keeper.specs.Keepers.{asked, good_asked, keeper_tests, keeper_nu
 -- ## The FID asked for
 
 module _ (s i : ℕ) where
-  pub asked_wide : max_word < i → false ≡ good_asked s i
-  unfolding good_asked
-  asked_wide h = rw (lt-leb i max_word h)
-
-  pub asked_fits : i ≤ max_word → (b : Bool) → b ≡ good_object (asked s i) → b ≡ good_asked s i
-  unfolding good_asked
-  asked_fits h b e = rw (le-leb i max_word h, e)
-
   pub good_fits : good_asked s i ≡ true → i ≤ max_word
   unfolding good_asked
   good_fits h = leb-true i max_word (and_l (leb i max_word) (good_object (asked s i)) h)
@@ -73,18 +70,23 @@ module _ (p o : List ℕ) (s i : ℕ) where
   unfolding keeper_number keeper_tests tables_number tables_tests order
   number_bad h = rw h (sym (order_bad (tables_whole p o []) (good_layouts p) (good_fids p o []) (all_different p o)))
 
-  module _ (n : ℕ) (e : n ≡ tables_number p o) (h : good_asked s i ≡ false) where
-    pub bad_11 : n ≡ 11 → 11 ≡ keeper_number p o s i
+  module _ (h : good_asked s i ≡ false) where
+    pub bad_table : Err BadTable ≡ told (tables_number p o) (tt {0}) → 11 ≡ keeper_number p o s i
     unfolding refused
-    bad_11 k = rw (← number_bad h, ← e, k)
+    bad_table k = rw (← number_bad h, ← tables_refused p o BadTable k)
 
-    pub bad_13 : n ≡ 13 → 13 ≡ keeper_number p o s i
+    pub bad_layout : Err BadLayout ≡ told (tables_number p o) (tt {0}) → 13 ≡ keeper_number p o s i
     unfolding refused
-    bad_13 k = rw (← number_bad h, ← e, k)
+    bad_layout k = rw (← number_bad h, ← tables_refused p o BadLayout k)
 
-    pub bad_14 : (n ≡ 11 → ⊥) → (n ≡ 13 → ⊥) → 14 ≡ keeper_number p o s i
+    pub bad_fid : (told (tables_number p o) (tt {0}) ≡ Err BadTable → ⊥) → (told (tables_number p o) (tt {0}) ≡ Err BadLayout → ⊥) → 14 ≡ keeper_number p o s i
     unfolding refused
-    bad_14 j k = rw (← number_bad h, ← e, ne_eqb n 11 j, ne_eqb n 13 k)
+    bad_fid j k =
+        rw (
+          ← number_bad h,
+          ne_eqb (tables_number p o) 11 (λ e. j (told_refused (tables_number p o) (tt {0}) BadTable e)),
+          ne_eqb (tables_number p o) 13 (λ e. k (told_refused (tables_number p o) (tt {0}) BadLayout e)),
+        )
 
 -- ## Exactly
 

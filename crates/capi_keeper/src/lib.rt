@@ -47,9 +47,12 @@ fn check_asked(parents: &[u8], objects: &[u8], sequence: u64, id: u64) -> Result
     if good_asked(sequence, id) {
         return tables;
     }
-    match tables {
-        Err(Refusal::BadTable) => Err(Refusal::BadTable),
-        Err(Refusal::BadLayout) => Err(Refusal::BadLayout),
+    let Err(refusal) = tables else {
+        return Err(Refusal::BadFid);
+    };
+    match refusal {
+        Refusal::BadTable => Err(Refusal::BadTable),
+        Refusal::BadLayout => Err(Refusal::BadLayout),
         _ => Err(Refusal::BadFid),
     }
 }

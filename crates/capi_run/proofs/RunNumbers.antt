@@ -17,21 +17,6 @@ use Rattle.capi_run.specs.Runs.{report_size, report_numbers, Called, unwritten, 
 
 -- ## The report
 
--- one more number put, and all of them
-pub put_next : (l v : List ℕ) (i : ℕ) → i < length v → sets l (1 + i) (drop i v) ≡ sets (set l (1 + i) (get_or v i 0)) (1 + (i + 1)) (drop (i + 1) v)
-put_next l v i h =
-    let n : suc (1 + i) ≡ 1 + (i + 1) = omega arith in
-    let m : suc i ≡ i + 1 = omega arith in
-    ap (sets l (1 + i)) (drop-cons v i 0 h) ∙ (λ k. sets (set l (1 + i) (get_or v i 0)) (n k) (drop (m k) v))
-
-pub put_all : (l x v : List ℕ) (i : ℕ) → sets l 1 v ≡ sets x (1 + i) (drop i v) → length v ≤ i → x ≡ sets l 1 v
-put_all l x v i e h = sym (e ∙ ap (sets x (1 + i)) (drop_over v i h))
-  where
-    drop_over : (v : List ℕ) (i : ℕ) → length v ≤ i → drop i v ≡ []
-    drop_over [] i h = drop-nil i
-    drop_over (a ∷ v) zero h = absurd (omega arith)
-    drop_over (a ∷ v) (suc i) h = drop_over v i (omega arith)
-
 pub report_put : (l x y : List ℕ) (r : Report) → x ≡ set l 0 r.steps → y ≡ sets x 1 r.counts.of → y ≡ sets l 0 (report_numbers r)
 unfolding report_numbers
 report_put l x y r p q = rw (q, p)

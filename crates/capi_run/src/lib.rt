@@ -5,21 +5,11 @@ ghost use Rattle.std.specs.Prelude.{◌≡◌, ◌≤◌, length};
 ghost use Rattle.std.proofs.lemmas.List.Edits.{sets};
 ghost use Rattle.capi_run.specs.Runs.{report_size, report_numbers, called};
 
-use rules::{Counts, REPAIRS, Report};
+use refusals::Refusal;
+use rules::{REPAIRS, Report};
 
 // The numbers of a report: the steps, and the repairs of each class.
 pub const REPORT_SIZE: usize = 1 + REPAIRS;
-
-// Stores the repairs by class.
-fn put_counts(out: &mut [u64], c: Counts)
-    requires { report_size ≤ length out.old }
-    ensures { out.new ≡ sets out.old 1 c.of }
-{
-    let of = c.of;
-    for i in 0..REPAIRS {
-        out[1 + i] = of[i];
-    }
-}
 
 // Stores the numbers of a report.
 fn put_report(out: &mut [u64], r: Report)
@@ -27,10 +17,11 @@ fn put_report(out: &mut [u64], r: Report)
     ensures { out.new ≡ sets out.old 0 (report_numbers r) }
 {
     capi_out::put(out, 0, r.steps);
-    put_counts(out, r.counts);
+    capi_out::put_all(out, 1, &r.counts.of);
 }
 
 // A run of at most so many steps: the position in and out, 10 numbers into report.
+// Its answer is a number: 1, with steps left, is no refusal.
 pub fn run(
     parents: &mut [u8],
     objects: &mut [u8],
@@ -47,12 +38,11 @@ pub fn run(
     ensures report { report.new ≡ (called parents.old objects.old reserve.now policy most position.old report.old).report }
 {
     let at = capi_tables::position_given(position);
-    let number = checks::check(parents, objects, reserve, policy, at);
-    if number != 0 {
-        return number;
+    if let Err(refusal) = checks::check(parents, objects, reserve, policy, at) {
+        return refusal.number();
     }
     if report.len() < REPORT_SIZE {
-        return 17;
+        return Refusal::TooShort.number();
     }
     let ran = steps::steps(parents, objects, reserve, policy, most, at);
     put_report(report, ran);

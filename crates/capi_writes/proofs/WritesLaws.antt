@@ -22,9 +22,6 @@ use Rattle.capi_writes.specs.Writes.{writes_size, table_of, row_of, row_numbers,
 
 -- ## Table and row of a write
 
-pub row_put : (l x y : List ℕ) (at a b : ℕ) → x ≡ set l at a → y ≡ set x (at + 1) b → y ≡ sets l at (a ∷ b ∷ [])
-row_put l x y at a b p q = let e : at + 1 ≡ suc at = omega arith in rw (q, p, e)
-
 module _ (n : ℕ) (l : List ℕ) (w : Write) where
   -- r is where the next write goes, and x is l with the numbers of this one
   unfoldable pub Put : ℕ → List ℕ → Type 0
@@ -62,11 +59,6 @@ short_one (one t) = omega arith
 -- a write is of at most one row
 pub target_one : (w : Write) → length (target w) ≤ 1
 target_one w = short_one (target_short w)
-
-pub none_put : (l x y z u : List ℕ) → x ≡ set l 0 0 → y ≡ sets x (1 + 2 * 0) (0 ∷ 0 ∷ []) → z ≡ sets y (1 + 2 * 1) (0 ∷ 0 ∷ []) →
-    u ≡ sets z (1 + 2 * 2) (0 ∷ 0 ∷ []) → u ≡ sets l 0 (writes_numbers [])
-unfolding writes_numbers row_numbers
-none_put l x y z u p q r s = rw (s, r, q, p)
 
 -- zeros, and the numbers of up to three writes put into them
 filled : (l : List ℕ) {a b c : List Target} → Short a → Short b → Short c →

@@ -7,6 +7,7 @@ ghost use Rattle.tables.specs.Positions.{place};
 ghost use Rattle.rules.specs.Cuts.{target};
 ghost use Rattle.capi_writes.specs.Writes.{most_writes, writes_size, row_numbers, writes_numbers, step_number, told, writes_answer, writes_out};
 
+use refusals::Refusal;
 use rules::{Step, Write};
 use tables::Position;
 
@@ -26,9 +27,7 @@ fn put_row(out: &mut [u64], n: usize, table: u64, row: usize) -> usize
     ensures next { result ≡ n + 1 }
     ensures out { out.new ≡ sets out.old (1 + 2 * n) (table ∷ row ∷ []) }
 {
-    let at = 1 + 2 * n;
-    out[at] = table;
-    out[at + 1] = row as u64;
+    capi_out::put_all(out, 1 + 2 * n, &[table, row as u64]);
     n + 1
 }
 
@@ -54,10 +53,7 @@ fn put_none(out: &mut [u64])
     requires { writes_size ≤ length out.old }
     ensures { out.new ≡ sets out.old 0 (writes_numbers []) }
 {
-    capi_out::put(out, 0, 0);
-    put_row(out, 0, 0, 0);
-    put_row(out, 1, 0, 0);
-    put_row(out, 2, 0, 0);
+    capi_out::put_all(out, 0, &[0; WRITES_SIZE]);
 }
 
 // The writes of a repair, those that are left out aside.
@@ -92,6 +88,7 @@ fn tell(out: &mut [u64], d: Step) -> u32
 }
 
 // The writes of the step at a position: 7 numbers into out.
+// Its answer is a number, as the stop of a step is.
 pub fn step_writes(
     parents: &[u8],
     objects: &[u8],
@@ -105,20 +102,15 @@ pub fn step_writes(
     ensures answer { result ≡ writes_answer parents.now objects.now reserve.now policy (place stage row part) out.old }
     ensures out { out.new ≡ writes_out parents.now objects.now reserve.now policy (place stage row part) out.old }
 {
-    let at = Position {
-        stage: stage,
-        row: row,
-        part: part,
-    };
-    let number = checks::check(parents, objects, reserve, policy, at);
-    if number != 0 {
-        return number;
+    let at = Position { stage, row, part };
+    if let Err(refusal) = checks::check(parents, objects, reserve, policy, at) {
+        return refusal.number();
     }
     if positions::is_end(at) {
-        return 16;
+        return Refusal::NoPlace.number();
     }
     if out.len() < WRITES_SIZE {
-        return 17;
+        return Refusal::TooShort.number();
     }
     let d = decide::decide(parents, objects, reserve, policy, at);
     tell(out, d)

@@ -22,10 +22,6 @@ module _ (p o : List ℕ) (at : Position) (t : ℕ) (e : t ≡ tables_number p o
   unfolding listing_number
   number_tables d = rw (← e, ne_eqb t 0 d)
 
-  pub tables_sound : t ≡ 0 → Sound p o
-  unfolding Sound
-  tables_sound h = sym e ∙ h
-
   module _ (h : t ≡ 0) where
     pub number_nowhere : is_position (parse p o) at ≡ false → 16 ≡ listing_number p o at
     unfolding listing_number

@@ -3,11 +3,13 @@
 
 ghost use Rattle.std.specs.Prelude.{◌≡◌, true, length};
 ghost use Rattle.std.proofs.lemmas.List.Edits.{sets};
+ghost use Rattle.refusals.specs.Numbers.{answer};
 ghost use Rattle.tables.specs.Bytes.{parse};
 ghost use Rattle.tables.specs.Positions.{is_position};
 ghost use Rattle.tables.specs.Check.{Sound};
 ghost use Rattle.listing.specs.Listing.{told_positions, onward, classes_at, listing_number, listing};
 
+use refusals::Refusal;
 use tables::Position;
 
 // How many positions were told, and the first that was not.
@@ -18,6 +20,7 @@ struct Told {
 }
 
 // The classes from a position on, as many as out has whole places for.
+// A loop: the next position comes from the tables, so no iterator gives it.
 fn tell(parents: &[u8], objects: &[u8], at: Position, out: &mut [u64]) -> Told
     requires { Sound parents.now objects.now × (is_position (parse parents.now objects.now) at ≡ true) }
     ensures done { result.done ≡ length (told_positions (parse parents.now objects.now) at out.old) }
@@ -31,7 +34,7 @@ fn tell(parents: &[u8], objects: &[u8], at: Position, out: &mut [u64]) -> Told
         if positions::is_end(position) {
             return Told {
                 done: done as u64,
-                position: position,
+                position,
             };
         }
         let class = classify::class_of(parents, objects, position);
@@ -41,22 +44,19 @@ fn tell(parents: &[u8], objects: &[u8], at: Position, out: &mut [u64]) -> Told
     }
     Told {
         done: done as u64,
-        position: position,
+        position,
     }
 }
 
 // What refuses a listing: the tables first, then the position.
-fn number(parents: &[u8], objects: &[u8], at: Position) -> u32
-    ensures { result ≡ listing_number parents.now objects.now at }
+fn check(parents: &[u8], objects: &[u8], at: Position) -> Result<(), Refusal>
+    ensures { answer result ≡ listing_number parents.now objects.now at }
 {
-    let number = checks::check_tables(parents, objects);
-    if number != 0 {
-        return number;
-    }
+    checks::check_tables(parents, objects)?;
     if !positions::is_position(parents, objects, at) {
-        return 16;
+        return Err(Refusal::NoPlace);
     }
-    0
+    Ok(())
 }
 
 // The classes from a position on: the position in and out, 4 numbers a position into out, how many positions were told into done.
@@ -66,22 +66,19 @@ pub fn classes(
     position: &mut [u64],
     out: &mut [u64],
     done: &mut [u64],
-) -> u32
-    ensures answer { result ≡ (listing parents.now objects.now position.old out.old done.old).answer }
+) -> Result<(), Refusal>
+    ensures answer { answer result ≡ (listing parents.now objects.now position.old out.old done.old).answer }
     ensures position { position.new ≡ (listing parents.now objects.now position.old out.old done.old).position }
     ensures out { out.new ≡ (listing parents.now objects.now position.old out.old done.old).out }
     ensures done { done.new ≡ (listing parents.now objects.now position.old out.old done.old).done }
 {
     let at = capi_tables::position_given(position);
-    let number = number(parents, objects, at);
-    if number != 0 {
-        return number;
-    }
+    check(parents, objects, at)?;
     if done.len() < 1 {
-        return 17;
+        return Err(Refusal::TooShort);
     }
     let told = tell(parents, objects, at, out);
     capi_tables::put_position(position, told.position);
     capi_out::put(done, 0, told.done);
-    0
+    Ok(())
 }

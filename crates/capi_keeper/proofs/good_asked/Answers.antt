@@ -1,11 +1,12 @@
-use mathlib.Core.Path.{ap, ◌∙◌}
-use native.Mathlib.Omega.{arith}
-use Rattle.fid.specs.Fid.{good_object}
-use Rattle.capi_keeper.proofs.AskedLaws.{asked_wide, asked_fits}
+use Rattle.std.proofs.Common.{arith}
+use Rattle.std.proofs.lemmas.Grind.{common_steps}
+use Rattle.capi_keeper.specs.Keepers.{good_asked}
 use Rattle.capi_keeper.proofs.good_asked.Goals as goal
 
-pub returns-then-id-gt-MAX_WORD : goal.returns-then-id-gt-MAX_WORD
-returns-then-id-gt-MAX_WORD c = asked_wide _ _ (omega arith)
+pub returns-then-id-le-MAX_WORD : goal.returns-then-id-le-MAX_WORD
+unfolding good_asked
+returns-then-id-le-MAX_WORD c = grind (arith, common_steps)
 
-pub returns : goal.returns
-returns c = asked_fits _ _ (omega arith) _ (c.good_object.ensures ∙ ap good_object c.asked_fid.ensures)
+pub returns-else-id-le-MAX_WORD : goal.returns-else-id-le-MAX_WORD
+unfolding good_asked
+returns-else-id-le-MAX_WORD c = grind (arith, common_steps)
