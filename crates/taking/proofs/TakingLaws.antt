@@ -21,7 +21,7 @@ use Rattle.rules.specs.declared.Repair.TheVariants.{OfMultiple}
 use Rattle.rules.specs.declared.Step.TheVariants.{Repairs}
 use Rattle.rules.proofs.Searches.{from_row_is}
 use Rattle.tables.proofs.PositionLaws.{parsed_objects}
-use Rattle.search.proofs.RowSearch.{rows_left, row_start}
+use Rattle.rules.specs.Search.{row_from}
 use Rattle.search.proofs.ParsedRows.{first_object_is, object_used, object_unused, parsed_object}
 use Rattle.stores.specs.UsedRow.{row_bytes, UsedAt}
 use Rattle.writes.specs.Plan.{Decides}
@@ -55,9 +55,9 @@ module _ (rows : List ParentRow) (home : Place) (row : List ℕ) where
 
 -- ## The first row
 
-pub reusable_start : (rows : List ParentRow) (home : Place) (o : List ℕ) →
-    first_row (parse_objects o) (is_reusable rows home) ≡ rows_left (λ i. is_reusable rows home (parse_object (take object_size (drop (object_size * i) o)))) (length o / object_size) 0
-reusable_start rows home o = first_object_is o (is_reusable rows home) ∙ row_start _ _
+pub reusable_rows : (rows : List ParentRow) (home : Place) (o : List ℕ) →
+    first_row (parse_objects o) (is_reusable rows home) ≡ row_from (length o / object_size) 0 (λ i. is_reusable rows home (parse_object (take object_size (drop (object_size * i) o))))
+reusable_rows rows home o = first_object_is o (is_reusable rows home)
 
 -- it lies in the table, and its row is used
 module _ (o : List ℕ) (rows : List ParentRow) (home : Place) (i : ℕ) (e : first_row (parse_objects o) (is_reusable rows home) ≡ Some i) where

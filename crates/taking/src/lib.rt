@@ -51,13 +51,9 @@ pub fn reusable(parents: &[u8], objects: &[u8], place: Place) -> Option<usize>
     requires { good_layouts parents.now ≡ true }
     ensures { result ≡ first_row (parse_objects objects.now) (is_reusable (parse_parents parents.now) place) }
 {
-    let n = objects.len() / OBJECT_SIZE;
-    for o in 0..n {
-        if is_reusable(parents, place, rows::row_at(objects, OBJECT_SIZE, o)) {
-            return Some(o);
-        }
-    }
-    None
+    objects
+        .chunks_exact(OBJECT_SIZE)
+        .position(|row| is_reusable(parents, place, row))
 }
 
 // MULTIPLE, with the object of row o: its owner, where it differs, then the slot, which takes its FID.
