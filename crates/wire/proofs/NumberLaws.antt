@@ -2,7 +2,7 @@
 use mathlib.Core.Path.{◌≡◌, refl, sym, ap}
 use mathlib.Core.List.{List, [], ◌∷◌, ◌++◌}
 use Prim.Native.Nat.{ℕ, zero, suc, ◌+◌, ◌*◌, ◌/◌, ◌%◌, ◌^◌, ◌≤◌, ◌<◌}
-use native.Mathlib.Nat.{zero-add, suc-add, mul-zero, mul_assoc, mul_comm, add-zero, pow-suc, div-one, one-le-pow, div-div-eq-div-mul, mod-one, mod-eq_of_lt}
+use native.Mathlib.Nat.{zero-add, suc-add, mul-zero, mul_assoc, mul_comm, pow-suc, div-one, one-le-pow, div-div-eq-div-mul, mod-one, mod-eq_of_lt}
 use native.Mathlib.Omega.{arith}
 use lib.Arith.{mod-mul, digits_div, digits_mod}
 use lib.ListN.{length, take, drop, get_or}
@@ -32,12 +32,6 @@ unfolding le
 le_head n [] = omega (arith, le_nil n)
 le_head n (b ∷ l) = refl
 
--- a byte is the number of one byte
-pub le_one : (l : List ℕ) → le 1 l ≡ get_or l 0 0
-unfolding le
-le_one [] = refl
-le_one (b ∷ l) = omega arith
-
 pub length_bytes : (n v : ℕ) → length (bytes n v) ≡ n
 unfolding bytes
 length_bytes zero v = refl
@@ -57,15 +51,11 @@ bytes_add (suc m) n v =
     rw (suc-add, pow-suc, q, e, digits_mod (v / 256 % 256 ^ m) b, digits_div (v / 256 % 256 ^ m) b)
     (ap (λ (l : List ℕ). v % 256 ∷ l) (bytes_add m n (v / 256)))
 
--- two bytes of a list from a place on
-pub le_two : (l : List ℕ) (at : ℕ) → get_or l at 0 + 256 * get_or l (at + 1) 0 ≡ le 2 (drop at l)
-le_two l at = simp (le_head 1, le_one, drop-drop, get_or-drop, add-zero)
-
--- a number of twice as many bytes, from a place on: the law of le32 and le64
+-- a number of twice as many bytes, from a place on
 pub le_twice : (n : ℕ) (l : List ℕ) (at : ℕ) → le n (drop at l) + 256 ^ n * le n (drop (at + n) l) ≡ le (n + n) (drop at l)
 le_twice n l at = rw (le_add n n (drop at l), drop-drop)
 
--- and its stores: the law of put_le32 and put_le64
+-- and its stores
 pub put_twice : (n : ℕ) (l : List ℕ) (at v : ℕ) →
     sets (sets l at (bytes n (v % 256 ^ n))) (at + n) (bytes n (v / 256 ^ n)) ≡ sets l at (bytes (n + n) v)
 put_twice n l at v = rw (bytes_add n n v) (sets_at (bytes n (v % 256 ^ n)) (bytes n (v / 256 ^ n)) l at n (length_bytes n (v % 256 ^ n)))

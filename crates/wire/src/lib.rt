@@ -1,113 +1,169 @@
 // Numbers in a lent slice, little-endian and big-endian.
 #![tactic(auto)]
 
-ghost use Rattle.std.specs.Prelude.{◌≡◌, ◌+◌, ◌≤◌, length, drop};
+ghost use Rattle.std.specs.Prelude.{◌≡◌, refl, ℕ, ◌+◌, ◌^◌, ◌<◌, ◌≤◌, List, length, drop};
+ghost use Rattle.std.proofs.Common.{arith};
 ghost use Rattle.std.proofs.lemmas.List.Edits.{sets};
-ghost use Rattle.wire.specs.Numbers.{le, bytes, big, number, number_bytes};
+ghost use Rattle.wire.specs.Numbers.{Order, little, big, le, bytes, number, number_bytes, place};
+ghost use Rattle.wire.specs.OrderFacts.{little_numbers, little_stores};
 
 // The greatest number of 32 bits.
 pub const MAX_WORD: u64 = 0xffff_ffff;
 
-pub fn le16(s: &[u8], at: usize) -> u16
-    requires { at + 2 ≤ length s.now }
-    ensures { result ≡ le 2 (drop at s.now) }
-{
-    let lo = s[at] as u16;
-    let hi = s[at + 1] as u16;
-    lo + 256 * hi
+// A number of two, four or eight bytes.
+pub trait Word: Copy {
+    // How many bytes.
+    const SIZE: usize;
+
+    ghost SIZE: { ℕ };
+
+    ghost value: { Self → ℕ };
+
+    fn from_number(n: u64) -> Self
+        requires { n < 256 ^ SIZE }
+        ensures { value result ≡ n };
+
+    fn to_number(self) -> u64
+        ensures { result ≡ value self };
+
+    ghost small: { SIZE ≤ 8 };
 }
 
-pub fn le32(s: &[u8], at: usize) -> u32
-    requires { at + 4 ≤ length s.now }
-    ensures { result ≡ le 4 (drop at s.now) }
-{
-    let lo = le16(s, at) as u32;
-    let hi = le16(s, at + 2) as u32;
-    lo + 65536 * hi
+impl Word for u16 {
+    const SIZE: usize = 2;
+
+    ghost SIZE = { 2 };
+
+    ghost value = { λ n. n };
+
+    ghost small = { Prim.omega arith };
+
+    fn from_number(n: u64) -> u16 {
+        n as u16
+    }
+
+    fn to_number(self) -> u64 {
+        self as u64
+    }
 }
 
-pub fn le64(s: &[u8], at: usize) -> u64
-    requires { at + 8 ≤ length s.now }
-    ensures { result ≡ le 8 (drop at s.now) }
-{
-    let lo = le32(s, at) as u64;
-    let hi = le32(s, at + 4) as u64;
-    lo + 0x1_0000_0000 * hi
+impl Word for u32 {
+    const SIZE: usize = 4;
+
+    ghost SIZE = { 4 };
+
+    ghost value = { λ n. n };
+
+    ghost small = { Prim.omega arith };
+
+    fn from_number(n: u64) -> u32 {
+        n as u32
+    }
+
+    fn to_number(self) -> u64 {
+        self as u64
+    }
 }
 
-pub fn put_le16(s: &mut [u8], at: usize, v: u16)
-    requires { at + 2 ≤ length s.old }
-    ensures { s.new ≡ sets s.old at (bytes 2 v) }
-{
-    s[at] = (v % 256) as u8;
-    s[at + 1] = (v / 256) as u8;
+impl Word for u64 {
+    const SIZE: usize = 8;
+
+    ghost SIZE = { 8 };
+
+    ghost value = { λ n. n };
+
+    ghost small = { Prim.omega arith };
+
+    fn from_number(n: u64) -> u64 {
+        n
+    }
+
+    fn to_number(self) -> u64 {
+        self
+    }
 }
 
-pub fn put_le32(s: &mut [u8], at: usize, v: u32)
-    requires { at + 4 ≤ length s.old }
-    ensures { s.new ≡ sets s.old at (bytes 4 v) }
-{
-    put_le16(s, at, (v % 65536) as u16);
-    put_le16(s, at + 2, (v / 65536) as u16);
+// The order in which the bytes of a number stand.
+pub trait ByteOrder {
+    ghost order: { Order };
+
+    // The words of specs for this order: the number of the first n bytes, and the n bytes of a number.
+    ghost number_of: { ℕ → List ℕ → ℕ };
+
+    ghost bytes_of: { ℕ → ℕ → List ℕ };
+
+    // Where byte i of n stands, counted from the lowest.
+    fn place(i: usize, n: usize) -> usize
+        requires { i < n }
+        ensures { result ≡ place order n i };
+
+    ghost numbers: { (n : ℕ) (l : List ℕ) → number order n l ≡ number_of n l };
+
+    ghost stores: { (n v : ℕ) → number_bytes order n v ≡ bytes_of n v };
 }
 
-pub fn put_le64(s: &mut [u8], at: usize, v: u64)
-    requires { at + 8 ≤ length s.old }
-    ensures { s.new ≡ sets s.old at (bytes 8 v) }
-{
-    put_le32(s, at, (v % 0x1_0000_0000) as u32);
-    put_le32(s, at + 4, (v / 0x1_0000_0000) as u32);
+// Low byte first.
+pub enum Little {}
+
+impl ByteOrder for Little {
+    ghost order = { little };
+
+    ghost number_of = { le };
+
+    ghost bytes_of = { bytes };
+
+    ghost numbers = { little_numbers };
+
+    ghost stores = { little_stores };
+
+    #[tactic(auto, unfolding(crate::specs::Numbers::place))]
+    fn place(i: usize, n: usize) -> usize {
+        i
+    }
 }
 
-pub fn be16(s: &[u8], at: usize) -> u16
-    requires { at + 2 ≤ length s.now }
-    ensures { result ≡ number big 2 (drop at s.now) }
-{
-    let hi = s[at] as u16;
-    let lo = s[at + 1] as u16;
-    256 * hi + lo
+// High byte first.
+pub enum Big {}
+
+impl ByteOrder for Big {
+    ghost order = { big };
+
+    ghost number_of = { number big };
+
+    ghost bytes_of = { number_bytes big };
+
+    ghost numbers = { λ n l. refl };
+
+    ghost stores = { λ n v. refl };
+
+    #[tactic(auto, unfolding(crate::specs::Numbers::place))]
+    fn place(i: usize, n: usize) -> usize {
+        n - 1 - i
+    }
 }
 
-pub fn be32(s: &[u8], at: usize) -> u32
-    requires { at + 4 ≤ length s.now }
-    ensures { result ≡ number big 4 (drop at s.now) }
+// The number at a place of the slice.
+pub fn get<W: Word, O: ByteOrder>(s: &[u8], at: usize) -> W
+    requires { at + W.SIZE ≤ length s.now }
+    ensures { W.value result ≡ O.number_of W.SIZE (drop at s.now) }
 {
-    let hi = be16(s, at) as u32;
-    let lo = be16(s, at + 2) as u32;
-    65536 * hi + lo
+    let mut n: u64 = 0;
+    for i in (0..W::SIZE).rev() {
+        n = 256 * n + s[at + O::place(i, W::SIZE)] as u64;
+    }
+    W::from_number(n)
 }
 
-pub fn be64(s: &[u8], at: usize) -> u64
-    requires { at + 8 ≤ length s.now }
-    ensures { result ≡ number big 8 (drop at s.now) }
+// Writes a number over the bytes at a place.
+pub fn put<W: Word, O: ByteOrder>(s: &mut [u8], at: usize, v: W)
+    requires { at + W.SIZE ≤ length s.old }
+    ensures { s.new ≡ sets s.old at (O.bytes_of W.SIZE (W.value v)) }
 {
-    let hi = be32(s, at) as u64;
-    let lo = be32(s, at + 4) as u64;
-    0x1_0000_0000 * hi + lo
-}
-
-pub fn put_be16(s: &mut [u8], at: usize, v: u16)
-    requires { at + 2 ≤ length s.old }
-    ensures { s.new ≡ sets s.old at (number_bytes big 2 v) }
-{
-    s[at] = (v / 256) as u8;
-    s[at + 1] = (v % 256) as u8;
-}
-
-pub fn put_be32(s: &mut [u8], at: usize, v: u32)
-    requires { at + 4 ≤ length s.old }
-    ensures { s.new ≡ sets s.old at (number_bytes big 4 v) }
-{
-    put_be16(s, at, (v / 65536) as u16);
-    put_be16(s, at + 2, (v % 65536) as u16);
-}
-
-pub fn put_be64(s: &mut [u8], at: usize, v: u64)
-    requires { at + 8 ≤ length s.old }
-    ensures { s.new ≡ sets s.old at (number_bytes big 8 v) }
-{
-    put_be32(s, at, (v / 0x1_0000_0000) as u32);
-    put_be32(s, at + 4, (v % 0x1_0000_0000) as u32);
+    let mut n = v.to_number();
+    for i in 0..W::SIZE {
+        s[at + O::place(i, W::SIZE)] = (n % 256) as u8;
+        n = n / 256;
+    }
 }
 
 // Copies bytes to a place of the slice.
@@ -115,8 +171,5 @@ pub fn put_bytes(s: &mut [u8], at: usize, v: &[u8])
     requires { at + length v.now ≤ length s.old }
     ensures { s.new ≡ sets s.old at v.now }
 {
-    for i in 0..v.len() {
-        let b = v[i];
-        s[at + i] = b;
-    }
+    s[at..at + v.len()].copy_from_slice(v);
 }

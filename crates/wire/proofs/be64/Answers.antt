@@ -1,6 +1,0 @@
-use native.Mathlib.Omega.{arith}
-use Rattle.wire.proofs.OrderLaws.{number_two_halves}
-use Rattle.wire.proofs.be64.Goals as goal
-
-pub returns : goal.returns
-returns c = let a = c.args in omega (arith, number_two_halves 4 a.s.now a.at (omega arith))
