@@ -1,55 +1,21 @@
--- Laws of FIDs: the tests case by case, and the round trips between a FID and its 16 bytes. Assumes nothing.
+-- Laws of FIDs: the round trips between a FID and its 16 bytes. Assumes nothing.
 use mathlib.Core.Path.{◌≡◌, ◌∙◌}
 use mathlib.Core.List.{List, ◌++◌, append_assoc}
-use mathlib.Core.Bool.{Bool, true, false, ◌&&◌}
+use mathlib.Core.Bool.{Bool, true, ◌&&◌}
 use Prim.Native.Nat.{ℕ, ◌+◌, ◌≤◌, ◌<◌, ◌^◌}
-use borrow.Author.Tests.{le-leb, lt-leb, eq-eqb, ne_eqb, leb-true, eqb-true}
+use borrow.Author.Tests.{leb-true, eqb-true}
 use native.Mathlib.Nat.{mod-eq_of_lt}
 use native.Mathlib.Omega.{arith}
 use lib.Dec.{leb, eqb}
 use lib.ListN.{length, take, drop, length-append, length-drop}
 use lib.Seq.{sets, drop-drop, take-add, drop_at}
 use Rattle.wire.specs.Numbers.{le, bytes, Order, little, number, number_bytes}
-use Rattle.fid.specs.Fid.{id_at, version_at, fid_size, least_sequence, greatest_sequence, good_sequence, good_number, good_fid, same_fid, decode_fid, encode_fid, decode_fid_in, encode_fid_in}
+use Rattle.fid.specs.Fid.{id_at, version_at, fid_size, least_sequence, greatest_sequence, good_sequence, good_number, good_fid, decode_fid, encode_fid, decode_fid_in, encode_fid_in}
 use Rattle.fid.specs.declared.Fid.{Fid}
 use Rattle.wire.proofs.Both.{and_first, and_second}
 use Rattle.wire.proofs.Splice.{sets_at}
 use Rattle.wire.proofs.NumberLaws.{Bytes, bytes_drop}
 use Rattle.wire.proofs.OrderLaws.{length_number, number_back, number_again, number_small}
-
-module _ (f : Fid) where
-  pub number_low : f.seq < least_sequence → false ≡ good_number f
-  unfolding good_number good_sequence
-  number_low h = simp (lt-leb _ _ h)
-
-  pub number_high : least_sequence ≤ f.seq → greatest_sequence < f.seq → false ≡ good_number f
-  unfolding good_number good_sequence
-  number_high h k = simp (le-leb _ _ h, lt-leb _ _ k)
-
-  pub number_id : least_sequence ≤ f.seq → f.seq ≤ greatest_sequence → leb 1 f.oid ≡ good_number f
-  unfolding good_number good_sequence
-  number_id h k = simp (le-leb _ _ h, le-leb _ _ k)
-
-  pub good_bad : good_number f ≡ false → false ≡ good_fid f
-  unfolding good_fid
-  good_bad h = rw h
-
-  pub good_version : good_number f ≡ true → eqb f.ver 0 ≡ good_fid f
-  unfolding good_fid
-  good_version h = rw h
-
-module _ (f g : Fid) where
-  pub same_seq : (f.seq ≡ g.seq → ⊥) → false ≡ same_fid f g
-  unfolding same_fid
-  same_seq h = simp (ne_eqb _ _ h)
-
-  pub same_oid : f.seq ≡ g.seq → (f.oid ≡ g.oid → ⊥) → false ≡ same_fid f g
-  unfolding same_fid
-  same_oid h k = simp (eq-eqb _ _ h, ne_eqb _ _ k)
-
-  pub same_ver : f.seq ≡ g.seq → f.oid ≡ g.oid → eqb f.ver g.ver ≡ same_fid f g
-  unfolding same_fid
-  same_ver h k = simp (eq-eqb _ _ h, eq-eqb _ _ k)
 
 -- ## Bytes, in either byte order
 

@@ -1,6 +1,7 @@
 -- The test of two FIDs is equality. Assumes nothing.
-use mathlib.Core.Path.{◌≡◌, refl}
+use mathlib.Core.Path.{◌≡◌, refl, sym}
 use mathlib.Core.Bool.{Bool, true, ◌&&◌}
+use Rattle.std.proofs.Math.Bool.{and_assoc}
 use borrow.Author.Tests.{eq-eqb, eqb-true}
 use lib.Dec.{eqb}
 use Rattle.wire.proofs.Both.{and_first, and_second}
@@ -21,3 +22,8 @@ same_is f g h =
     let o = eqb-true f.oid g.oid (and_second a b (and_first (a && b) d h)) in
     let v = eqb-true f.ver g.ver (and_second (a && b) d h) in
     λ i. record { seq = s i; oid = o i; ver = v i }
+
+-- and what `==` computes
+pub eq_same : (f g : Fid) → (eqb f.seq g.seq && (eqb f.oid g.oid && eqb f.ver g.ver)) ≡ same_fid f g
+unfolding same_fid
+eq_same f g = sym (and_assoc (eqb f.seq g.seq) (eqb f.oid g.oid) (eqb f.ver g.ver))

@@ -1,7 +1,7 @@
-use Rattle.fid.proofs.FidLaws.{decode_at}
+use Rattle.fid.specs.Fid.{decode_fid, decode_fid_in}
+use Rattle.wire.specs.Numbers.{number}
 use Rattle.fid.proofs.read_fid.Goals as goal
 
 pub returns : goal.returns
-returns c =
-    let a = c.args in
-    decode_at a.s.now a.at _ _ _ c.le64.ensures c.le32.ensures c.le32-2.ensures
+unfolding decode_fid decode_fid_in number
+returns c = c.read_in.ensures

@@ -1,7 +1,7 @@
-use Rattle.fid.proofs.FidLaws.{encode_at}
+use Rattle.fid.specs.Fid.{encode_fid, encode_fid_in}
+use Rattle.wire.specs.Numbers.{number_bytes}
 use Rattle.fid.proofs.write_fid.Goals as goal
 
 pub returns : goal.returns
-returns c =
-    let a = c.args in
-    cc (encode_at a.s.now a.at a.f)
+unfolding encode_fid encode_fid_in number_bytes
+returns c = c.write_in.ensures
