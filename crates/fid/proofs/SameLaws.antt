@@ -1,6 +1,7 @@
 -- The test of two FIDs is equality. Assumes nothing.
-use mathlib.Core.Path.{◌≡◌, refl, sym}
-use mathlib.Core.Bool.{Bool, true, ◌&&◌}
+use mathlib.Core.Path.{◌≡◌, refl, sym, ◌∙◌}
+use mathlib.Core.Bool.{Bool, true, false, not, ◌&&◌}
+use Rattle.std.proofs.lemmas.Bool.{not-true, not-false}
 use Rattle.std.proofs.Math.Bool.{and_assoc}
 use borrow.Author.Tests.{eq-eqb, eqb-true}
 use lib.Dec.{eqb}
@@ -27,3 +28,10 @@ same_is f g h =
 pub eq_same : (f g : Fid) → (eqb f.seq g.seq && (eqb f.oid g.oid && eqb f.ver g.ver)) ≡ same_fid f g
 unfolding same_fid
 eq_same f g = sym (and_assoc (eqb f.seq g.seq) (eqb f.oid g.oid) (eqb f.ver g.ver))
+
+-- and what `!=` computes, on both sides of an `if`
+pub differs : (f g : Fid) {r : Bool} → r ≡ not (eqb f.seq g.seq && (eqb f.oid g.oid && eqb f.ver g.ver)) → r ≡ true → same_fid f g ≡ false
+differs f g e h = sym (eq_same f g) ∙ not-true _ (sym e ∙ h)
+
+pub alike : (f g : Fid) {r : Bool} → r ≡ not (eqb f.seq g.seq && (eqb f.oid g.oid && eqb f.ver g.ver)) → r ≡ false → same_fid f g ≡ true
+alike f g e h = sym (eq_same f g) ∙ not-false _ (sym e ∙ h)
