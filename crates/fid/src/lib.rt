@@ -20,7 +20,7 @@ const LEAST_SEQUENCE: u64 = 0x2_0000_0400;
 const GREATEST_SEQUENCE: u64 = 0xffff_ffff_ffff_fffe;
 
 // Sequence, object id and version, as they stand on disk.
-#[derive(Clone, Copy)]
+#[derive(Clone, Copy, Debug, PartialEq, Eq)]
 pub struct Fid {
     pub seq: u64,
     pub oid: u32,
@@ -28,11 +28,11 @@ pub struct Fid {
 }
 
 // The FID of a file, on an MDT.
-#[derive(Clone, Copy)]
+#[derive(Clone, Copy, Debug, PartialEq, Eq)]
 pub struct MdtFid(pub Fid);
 
 // The FID of an object, on an OST.
-#[derive(Clone, Copy)]
+#[derive(Clone, Copy, Debug, PartialEq, Eq)]
 pub struct OstFid(pub Fid);
 
 // The FID at a place of the slice.

@@ -15,8 +15,11 @@ use Rattle.wire.proofs.NumberLaws.{Bytes, bytes_drop, length_bytes}
 use Rattle.layout.specs.declared.Header.{Header}
 use Rattle.layout.specs.declared.Slot.{Slot}
 use Rattle.layout.specs.declared.Slot.TheVariants.{Hole}
-use Rattle.layout.specs.declared.Reading.TheVariants.{Refused, Accepted}
-use Rattle.layout.specs.declared.SlotRead.TheVariants.{BadLayout, NoSlot, SlotIs}
+use Rattle.std.specs.Prelude.{Result, Ok, Err}
+use Rattle.refusals.specs.Numbers.{told}
+use Rattle.refusals.specs.declared.Refusal.{Refusal}
+use Rattle.refusals.proofs.NumberLaws.{told_refused, told_ok}
+use Rattle.refusals.specs.declared.Refusal.TheVariants.{BadLayout, NoPlace}
 use Rattle.layout.specs.Slot.{slot_size, slot_of, encode_slot, decode_slots, encode_slots, allowed_slot, allowed_slots, same_slot, same_slots}
 use Rattle.layout.specs.Layout.{Layout, plain_header, pool_header, header_size, decode_header, encode_header, stripe_count, slot_start, decode_layout, encode_layout, generation_at, next_generation, at_generation, generation_with, restriped, changed, known_version, known_pattern, good_header, with_holes, max_slots, few_slots, layout_size, exact_length, layout_rules, accepted_layout}
 use Rattle.layout.specs.Answers.{read_layout, read_slot, rewrite_answer, rewrite_bytes}
@@ -145,24 +148,46 @@ accepted_size l start n a b q = rw (b, q) (exact_size l (accepted_exact l a))
 -- ## The reader's answers
 
 module _ (l : List ℕ) where
-  pub read_refused : accepted_layout l ≡ false → Refused ≡ read_layout l
+  pub read_refused : accepted_layout l ≡ false → Err BadLayout ≡ read_layout l
   unfolding read_layout
   read_refused h = rw h
 
-  pub read_accepted : (h : Header) (n : ℕ) → accepted_layout l ≡ true → h ≡ decode_header l → n ≡ stripe_count l → Accepted h n ≡ read_layout l
+  pub read_accepted : (h : Header) (n : ℕ) → accepted_layout l ≡ true → h ≡ decode_header l → n ≡ stripe_count l → Ok (h, n) ≡ read_layout l
   unfolding read_layout
   read_accepted h n a p q = rw (a, p, q)
 
-  pub slot_bad : (j : ℕ) → accepted_layout l ≡ false → BadLayout ≡ read_slot l j
-  unfolding read_slot
-  slot_bad j h = rw h
+  -- what a layout that was read is
+  pub read_taken : (h : Header) (n : ℕ) → read_layout l ≡ Ok (h, n) → (accepted_layout l ≡ true) × (decode_header l ≡ h) × (stripe_count l ≡ n)
+  unfolding read_layout
+  read_taken h n = go (accepted_layout l) refl
+    where
+      go : (b : Bool) → accepted_layout l ≡ b → ◌≡◌ {A = Result (Header × ℕ) Refusal} (cond b (Ok (decode_header l, stripe_count l)) (Err BadLayout)) (Ok (h, n)) →
+          (accepted_layout l ≡ true) × (decode_header l ≡ h) × (stripe_count l ≡ n)
+      go true a e =
+          let p : ◌≡◌ {A = Header × ℕ} (decode_header l, stripe_count l) (h, n) = cc in
+          (a, ap (λ (x : Header × ℕ). x.0) p, ap (λ (x : Header × ℕ). x.1) p)
+      go false a e = cc
 
-  pub slot_past : (j n : ℕ) → accepted_layout l ≡ true → n ≡ stripe_count l → n ≤ j → NoSlot ≡ read_slot l j
+  -- and why one was not
+  pub read_bad : (e : Refusal) → read_layout l ≡ Err e → (accepted_layout l ≡ false) × (e ≡ BadLayout)
+  unfolding read_layout
+  read_bad r = go (accepted_layout l) refl
+    where
+      go : (b : Bool) → accepted_layout l ≡ b → ◌≡◌ {A = Result (Header × ℕ) Refusal} (cond b (Ok (decode_header l, stripe_count l)) (Err BadLayout)) (Err r) →
+          (accepted_layout l ≡ false) × (r ≡ BadLayout)
+      go true a e = cc
+      go false a e = (a, cc)
+
+  pub slot_bad : (j : ℕ) (e : Refusal) → read_layout l ≡ Err e → Err e ≡ read_slot l j
+  unfolding read_slot
+  slot_bad j e h = let b = read_bad e h in rw (b.0, b.1)
+
+  pub slot_past : (j n : ℕ) → accepted_layout l ≡ true → n ≡ stripe_count l → n ≤ j → Err NoPlace ≡ read_slot l j
   unfolding read_slot
   slot_past j n h q k = rw (h, ← q, le-ltb j n k)
 
   pub slot_is : (j n start : ℕ) (s : Slot) → accepted_layout l ≡ true → n ≡ stripe_count l → start ≡ slot_start l → j < n →
-      s ≡ slot_of (take (length l - start) (drop start l)) j → SlotIs s ≡ read_slot l j
+      s ≡ slot_of (take (length l - start) (drop start l)) j → Ok s ≡ read_slot l j
   unfolding read_slot
   slot_is j n start s h q b k e =
       rw (h, ← q, lt-ltb j n k, slots_are, ← q, ← b, slots_at n j (drop start l) Hole k, e, drop_take_all start l)
@@ -174,31 +199,32 @@ module _ (l : List ℕ) where
   pub place_long : (j : ℕ) (s : Slot) (y : List ℕ) → exact_length l ≡ true → y ≡ sets l (slot_start l + slot_size * j) (encode_slot s) → plain_header ≤ length y
   place_long j s y x e = rw (e, length-sets l (slot_start l + slot_size * j) (encode_slot s)) (exact_long l x)
 
-  pub rewrite_bad : (j : ℕ) (s : Slot) → (accepted_layout l && allowed_slot (with_holes (decode_header l)) s) ≡ false →
-      (13 ≡ rewrite_answer l j s) × (l ≡ rewrite_bytes l j s)
+  pub rewrite_bad : (j : ℕ) (s : Slot) (e : Refusal) → read_layout l ≡ Err e → (◌≡◌ {A = Result (Unit {0}) Refusal} (Err e) (told (rewrite_answer l j s) (tt {0}))) × (l ≡ rewrite_bytes l j s)
   unfolding rewrite_answer rewrite_bytes
-  rewrite_bad j s h = (rw h, rw h)
+  rewrite_bad j s e h =
+      let b = read_bad e h in
+      (rw (b.1) (sym (told_refused (rewrite_answer l j s) tt BadLayout (rw (b.0)))), rw (b.0))
 
-  pub rewrite_past : (j n : ℕ) (s : Slot) → (accepted_layout l && allowed_slot (with_holes (decode_header l)) s) ≡ true → n ≡ stripe_count l → n ≤ j →
-      (16 ≡ rewrite_answer l j s) × (l ≡ rewrite_bytes l j s)
-  unfolding rewrite_answer rewrite_bytes
-  rewrite_past j n s h q k = (rw (h, ← q, le-ltb j n k), rw (h, ← q, le-ltb j n k))
+  module _ (j n : ℕ) (s : Slot) (h : Header) (holes : Bool) (e : read_layout l ≡ Ok (h, n)) (w : holes ≡ with_holes h) where
+    pub rewrite_unfit : false ≡ allowed_slot holes s → (◌≡◌ {A = Result (Unit {0}) Refusal} (Err BadLayout) (told (rewrite_answer l j s) (tt {0}))) × (l ≡ rewrite_bytes l j s)
+    unfolding rewrite_answer rewrite_bytes
+    rewrite_unfit t =
+        let a = read_taken h n e in
+        (sym (told_refused (rewrite_answer l j s) tt BadLayout (rw (a.0, a.1, ← w, ← t))), rw (a.0, a.1, ← w, ← t))
 
-  pub rewrite_done : (j n : ℕ) (s : Slot) (m : List ℕ) → (accepted_layout l && allowed_slot (with_holes (decode_header l)) s) ≡ true → n ≡ stripe_count l →
-      j < n → m ≡ encode_layout (changed (decode_layout l) j s) →
-      (0 ≡ rewrite_answer l j s) × (m ≡ rewrite_bytes l j s)
-  unfolding rewrite_answer rewrite_bytes
-  rewrite_done j n s m h q k e = (rw (h, ← q, lt-ltb j n k), rw (h, ← q, lt-ltb j n k, e))
+    module _ (t : true ≡ allowed_slot holes s) where
+      pub rewrite_past : n ≤ j → (◌≡◌ {A = Result (Unit {0}) Refusal} (Err NoPlace) (told (rewrite_answer l j s) (tt {0}))) × (l ≡ rewrite_bytes l j s)
+      unfolding rewrite_answer rewrite_bytes
+      rewrite_past k =
+          let a = read_taken h n e in
+          (sym (told_refused (rewrite_answer l j s) tt NoPlace (rw (a.0, a.1, ← w, ← t, a.2, le-ltb j n k))), rw (a.0, a.1, ← w, ← t, a.2, le-ltb j n k))
 
-  pub may_bad : (s : Slot) → accepted_layout l ≡ false → false ≡ (accepted_layout l && allowed_slot (with_holes (decode_header l)) s)
-  may_bad s h = rw h
-
-  pub may_slot : (s : Slot) (h : Header) (holes b : Bool) → accepted_layout l ≡ true → h ≡ decode_header l → holes ≡ with_holes h → b ≡ allowed_slot holes s →
-      b ≡ (accepted_layout l && allowed_slot (with_holes (decode_header l)) s)
-  may_slot s h holes b a e w t = rw (a, t, w, e)
-
-  pub may_accepted : (s : Slot) → (accepted_layout l && allowed_slot (with_holes (decode_header l)) s) ≡ true → accepted_layout l ≡ true
-  may_accepted s h = and_first (accepted_layout l) (allowed_slot (with_holes (decode_header l)) s) h
+      pub rewrite_done : (m : List ℕ) → j < n → m ≡ encode_layout (changed (decode_layout l) j s) →
+          (◌≡◌ {A = Result (Unit {0}) Refusal} (Ok (tt {0})) (told (rewrite_answer l j s) (tt {0}))) × (m ≡ rewrite_bytes l j s)
+      unfolding rewrite_answer rewrite_bytes
+      rewrite_done m k q =
+          let a = read_taken h n e in
+          (sym (told_ok (rewrite_answer l j s) tt (rw (a.0, a.1, ← w, ← t, a.2, lt-ltb j n k))), rw (a.0, a.1, ← w, ← t, a.2, lt-ltb j n k, q))
 
 -- ## Read and written
 

@@ -10,8 +10,8 @@ use lib.ListN.{length, get_or, set}
 use Rattle.wire.proofs.Both.{and_first, and_second}
 use Rattle.fid.specs.Fid.{same_fid}
 use Rattle.fid.proofs.SameLaws.{same_self, same_is}
-use Rattle.fid.specs.declared.OstFid.{OstFid}
 use Rattle.layout.specs.declared.Header.{Header}
+use Rattle.layout.specs.contracts.SlotPartialEq.TheImpl as derived
 use Rattle.layout.specs.declared.Slot.{Slot}
 use Rattle.layout.specs.declared.Slot.TheVariants.{Hole, Names}
 use Rattle.layout.specs.Slot.{same_slot, same_slots}
@@ -37,19 +37,19 @@ slot_same (Names f g i) (Names h n k) e =
     let ei = eqb-true i k (and_second (a && eqb g n) (eqb i k) e) in
     λ j. Names (record { 0 = ef j }) (eg j) (ei j)
 
--- a slot beside one that names an object, number by number
-module _ (s : Slot) (h f : OstFid) (n k g i : ℕ) (is : s ≡ Names h n k) where
-  pub named_fid : same_fid h.0 f.0 ≡ false → false ≡ same_slot s (Names f g i)
-  unfolding same_slot
-  named_fid e = rw (is, e)
+parts : (a b c d e : Bool) → (a && (b && c) && (d && e)) ≡ (a && b && c && d && e)
+parts true true true d e = refl
+parts true true false d e = refl
+parts true false c d e = refl
+parts false b c d e = refl
 
-  pub named_generation : same_fid h.0 f.0 ≡ true → (n ≡ g → ⊥) → false ≡ same_slot s (Names f g i)
-  unfolding same_slot
-  named_generation e d = rw (is, e, ne_eqb n g d)
-
-  pub named_index : same_fid h.0 f.0 ≡ true → n ≡ g → eqb k i ≡ same_slot s (Names f g i)
-  unfolding same_slot
-  named_index e d = rw (is, e, eq-eqb n g d)
+-- `==` on slots is this test
+pub slots_equal : (s t : Slot) → (derived.ghosts).eq s t ≡ same_slot s t
+unfolding same_slot same_fid
+slots_equal Hole Hole = refl
+slots_equal Hole (Names f g i) = refl
+slots_equal (Names f g i) Hole = refl
+slots_equal (Names f g i) (Names h n k) = parts (eqb f.0.seq h.0.seq) (eqb f.0.oid h.0.oid) (eqb f.0.ver h.0.ver) (eqb g n) (eqb i k)
 
 pub slots_self : (ss : List Slot) → same_slots ss ss ≡ true
 unfolding same_slots

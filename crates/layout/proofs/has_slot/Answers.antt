@@ -1,6 +1,7 @@
 use native.Mathlib.Omega.{arith}
-use mathlib.Core.Path.{refl}
+use mathlib.Core.Path.{refl, ◌∙◌}
 use Rattle.layout.proofs.LayoutLaws.{exact_size, exact_long, area_long, has_slot_is}
+use Rattle.layout.proofs.StripeLaws.{slots_equal}
 use Rattle.layout.proofs.has_slot.Goals as goal
 
 pub slot_start-start-requires : goal.slot_start-start-requires
@@ -18,6 +19,4 @@ slot_at-requires c =
     omega (arith, d.requires.1, area_long _ _ _ d.requires.0 c.slot_start-start.ensures refl)
 
 pub returns : goal.returns
-returns c =
-    let k = c in
-    has_slot_is _ _ _ _ _ _ k.slot_start-start.ensures c.slot_at.ensures c.same_slot.ensures
+returns c = has_slot_is _ _ _ _ _ _ c.slot_start-start.ensures c.slot_at.ensures (c.eq.ensures ∙ slots_equal _ _)
