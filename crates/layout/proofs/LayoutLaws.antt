@@ -2,8 +2,8 @@
 use mathlib.Core.Path.{◌≡◌, refl, sym, ap, ◌∙◌}
 use mathlib.Core.List.{List, [], ◌∷◌, ◌++◌, append_assoc, append-nil}
 use mathlib.Core.Bool.{Bool, true, false, cond, ◌&&◌}
-use Prim.Native.Nat.{ℕ, zero, suc, ◌+◌, ◌-◌, ◌*◌, ◌≤◌, ◌<◌}
-use borrow.Author.Tests.{eq-eqb, ne_eqb, le-leb, lt-leb, lt-ltb, le-ltb, ltb-true, eqb-true, leb-true}
+use Prim.Native.Nat.{ℕ, zero, suc, ◌+◌, ◌-◌, ◌*◌, ◌/◌, ◌≤◌, ◌<◌}
+use borrow.Author.Tests.{eq-eqb, ne_eqb, le-leb, lt-ltb, le-ltb, ltb-true, eqb-true, leb-true}
 use native.Mathlib.Omega.{arith}
 use lib.Dec.{eqb, leb, ltb}
 use lib.ListN.{length, get_or, take, drop, set, length-append, length-drop, length-set, take-append-drop}
@@ -66,29 +66,28 @@ module _ (l : List ℕ) where
       let z : length l ≡ start + slot_size * n = rw (b, q) (exact_size x) in
       rw (drop_take_all start l, length-drop) (omega arith)
 
-  pub accepted_header : (h : Header) → h ≡ decode_header l → exact_length l ≡ true → good_header h ≡ false → false ≡ accepted_layout l
-  unfolding accepted_layout layout_rules
-  accepted_header h e x k = rw (x, ← e, k)
-
   pub slots_many : length (decode_layout l).slots ≡ stripe_count l
   unfolding decode_layout
   slots_many = length_slots (stripe_count l) (drop (slot_start l) l)
-
-  pub accepted_many : (h : Header) (n : ℕ) → h ≡ decode_header l → n ≡ stripe_count l → exact_length l ≡ true → good_header h ≡ true →
-      max_slots < n → false ≡ accepted_layout l
-  unfolding accepted_layout layout_rules few_slots
-  accepted_many h n e q x k m = rw (x, slots_many, ← e, k, ← q, lt-leb n max_slots m)
 
   -- the slots of a layout are those of the part after its header
   pub slots_are : (decode_layout l).slots ≡ decode_slots (stripe_count l) (drop (slot_start l) l)
   unfolding decode_layout
   slots_are = refl
 
-  pub accepted_slots : (h : Header) (n start : ℕ) (holes : Bool) → h ≡ decode_header l → n ≡ stripe_count l → start ≡ slot_start l → holes ≡ with_holes h →
-      exact_length l ≡ true → good_header h ≡ true → n ≤ max_slots →
-      allowed_slots holes (decode_slots n (take (length l - start) (drop start l))) ≡ accepted_layout l
+  -- the rules on a layout of exact length
+  pub accepted_rules : (h : Header) (n : ℕ) → h ≡ decode_header l → n ≡ stripe_count l → exact_length l ≡ true →
+      accepted_layout l ≡ (good_header h && leb n max_slots && allowed_slots (with_holes h) (decode_slots n (drop (slot_start l) l)))
   unfolding accepted_layout layout_rules few_slots
-  accepted_slots h n start holes e q b w x k m = rw (x, slots_many, ← e, k, ← q, le-leb n max_slots m, slots_are, ← q, ← b, w, drop_take_all start l)
+  accepted_rules h n e q x = rw (x, slots_many, slots_are, ← e, ← q)
+
+  -- the slots of the part after the header are as many as there is room for
+  pub area_slots : (start n : ℕ) → exact_length l ≡ true → start ≡ slot_start l → n ≡ stripe_count l →
+      decode_slots (length (take (length l - start) (drop start l)) / slot_size) (take (length l - start) (drop start l)) ≡ decode_slots n (drop (slot_start l) l)
+  area_slots start n x b q =
+      let z : length l ≡ start + slot_size * n = rw (b, q) (exact_size x) in
+      let k : (length l - start) / slot_size ≡ n = omega arith in
+      rw (drop_take_all start l, length-drop, k, b)
 
   pub header_is : (decode_layout l).header ≡ decode_header l
   unfolding decode_layout
@@ -106,9 +105,9 @@ module _ (l : List ℕ) where
   pub accepted_from : length l ≡ slot_start l + slot_size * stripe_count l → good_header (decode_header l) ≡ true →
       stripe_count l ≤ max_slots → allowed_slots (with_holes (decode_header l)) (decode_layout l).slots ≡ true → accepted_layout l ≡ true
   accepted_from z k m t =
-      sym (accepted_slots (decode_header l) (stripe_count l) (slot_start l) (with_holes (decode_header l)) refl refl refl refl
-      (sym (exact_is (slot_start l) (stripe_count l) refl refl) ∙ eq-eqb (length l) (slot_start l + slot_size * stripe_count l) z) k m)
-      ∙ rw (drop_take_all (slot_start l) l, ← slots_are) t
+      accepted_rules (decode_header l) (stripe_count l) refl refl
+      (sym (exact_is (slot_start l) (stripe_count l) refl refl) ∙ eq-eqb (length l) (slot_start l + slot_size * stripe_count l) z)
+      ∙ rw (k, le-leb (stripe_count l) max_slots m, ← slots_are, t)
 
 -- what an accepted layout is
 pub record LayoutFacts (l : List ℕ) : Type 0 where

@@ -3,7 +3,7 @@ use mathlib.Core.Path.{◌≡◌, refl, sym, ap}
 use mathlib.Core.List.{List, [], ◌∷◌}
 use mathlib.Core.Bool.{Bool, true, false, cond, ◌&&◌}
 use Prim.Native.Nat.{ℕ, zero, suc, ◌+◌, ◌<◌}
-use borrow.Author.Tests.{eq-eqb, ne_eqb, eqb-true}
+use borrow.Author.Tests.{eq-eqb, eqb-true}
 use native.Mathlib.Omega.{arith}
 use lib.Dec.{eqb}
 use lib.ListN.{length, get_or, set}
@@ -97,14 +97,6 @@ next_small g h = go (eqb g last_generation) refl
     go : (b : Bool) → eqb g last_generation ≡ b → cond b 0 (g + 1) < generations
     go true e = omega arith
     go false e = let n = off e in omega arith
-
-pub next_last : (g : ℕ) → g ≡ last_generation → 0 ≡ next_generation g
-unfolding next_generation
-next_last g e = rw (eq-eqb g last_generation e)
-
-pub next_more : (g : ℕ) → (g ≡ last_generation → ⊥) → g + 1 ≡ next_generation g
-unfolding next_generation
-next_more g e = rw (ne_eqb g last_generation e)
 
 pub raised_is : (h : Header) (g : ℕ) → g ≡ next_generation h.generation →
     ◌≡◌ {A = Header} (record { magic = h.magic; pattern = h.pattern; oid = h.oid; seq = h.seq; stripe = h.stripe; generation = g }) (raised h)

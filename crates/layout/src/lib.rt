@@ -1,7 +1,7 @@
 // Striping layouts, version 1 and 3: reader, slot reader and slot rewrite, and the pieces that the writer is made of.
 #![tactic(auto)]
 
-ghost use Rattle.std.specs.Prelude.{◌≡◌, true, ◌&&◌, ◌+◌, ◌*◌, ◌≤◌, ◌<◌, length, drop};
+ghost use Rattle.std.specs.Prelude.{◌≡◌, true, ◌&&◌, ◌+◌, ◌*◌, ◌/◌, ◌≤◌, ◌<◌, length, drop};
 ghost use Rattle.std.proofs.lemmas.List.Edits.{sets};
 ghost use Rattle.refusals.specs.Numbers.{told};
 ghost use Rattle.layout.specs.Slot.{slot_size, zero_slot, slot_of, encode_slot, decode_slots, allowed_slot, allowed_slots, slot_names, same_slot};
@@ -120,18 +120,12 @@ pub fn allowed_slot(holes: bool, s: Slot) -> bool
     }
 }
 
-// Whether each of the first slots of a slot area is allowed.
-fn allowed_slots(area: &[u8], count: usize, holes: bool) -> bool
-    requires { slot_size * count ≤ length area.now }
-    ensures { result ≡ allowed_slots holes (decode_slots count area.now) }
+// Whether each slot of a slot area is allowed.
+fn allowed_slots(area: &[u8], holes: bool) -> bool
+    ensures { result ≡ allowed_slots holes (decode_slots (length area.now / slot_size) area.now) }
 {
-    for j in 0..count {
-        let s = slot_at(area, j);
-        if !allowed_slot(holes, s) {
-            return false;
-        }
-    }
-    true
+    area.chunks_exact(SLOT_SIZE)
+        .all(|part| allowed_slot(holes, slot_at(part, 0)))
 }
 
 // Writes a slot over the 24 bytes that it is lent.
@@ -301,15 +295,9 @@ pub fn accepted(layout: &[u8]) -> bool
         return false;
     }
     let h = read_header(layout);
-    if !good_header(h) {
-        return false;
-    }
     let n = stripe_count(layout) as usize;
-    if MAX_SLOTS < n {
-        return false;
-    }
     let start = slot_start(layout);
-    allowed_slots(&layout[start..], n, with_holes(h))
+    good_header(h) && n <= MAX_SLOTS && allowed_slots(&layout[start..], with_holes(h))
 }
 
 // Reads a layout: its header and stripe count, or 13.
