@@ -16,9 +16,8 @@ use Rattle.layout.specs.declared.Header.{Header}
 use Rattle.layout.specs.declared.Slot.{Slot}
 use Rattle.layout.specs.declared.Slot.TheVariants.{Hole}
 use Rattle.std.specs.Prelude.{Result, Ok, Err}
-use Rattle.refusals.specs.Numbers.{told}
+use Rattle.refusals.specs.Numbers.{number}
 use Rattle.refusals.specs.declared.Refusal.{Refusal}
-use Rattle.refusals.proofs.NumberLaws.{told_refused, told_ok}
 use Rattle.refusals.specs.declared.Refusal.TheVariants.{BadLayout, NoPlace}
 use Rattle.layout.specs.Slot.{slot_size, slot_of, encode_slot, decode_slots, encode_slots, allowed_slot, allowed_slots, same_slot, same_slots}
 use Rattle.layout.specs.Layout.{Layout, plain_header, pool_header, header_size, decode_header, encode_header, stripe_count, slot_start, decode_layout, encode_layout, generation_at, next_generation, at_generation, generation_with, restriped, changed, known_version, known_pattern, good_header, with_holes, max_slots, few_slots, layout_size, exact_length, layout_rules, accepted_layout}
@@ -198,32 +197,28 @@ module _ (l : List ℕ) where
   pub place_long : (j : ℕ) (s : Slot) (y : List ℕ) → exact_length l ≡ true → y ≡ sets l (slot_start l + slot_size * j) (encode_slot s) → plain_header ≤ length y
   place_long j s y x e = rw (e, length-sets l (slot_start l + slot_size * j) (encode_slot s)) (exact_long l x)
 
-  pub rewrite_bad : (j : ℕ) (s : Slot) (e : Refusal) → read_layout l ≡ Err e → (◌≡◌ {A = Result (Unit {0}) Refusal} (Err e) (told (rewrite_answer l j s) (tt {0}))) × (l ≡ rewrite_bytes l j s)
+  pub rewrite_bad : (j : ℕ) (s : Slot) (e : Refusal) → read_layout l ≡ Err e → (number e ≡ rewrite_answer l j s) × (l ≡ rewrite_bytes l j s)
   unfolding rewrite_answer rewrite_bytes
-  rewrite_bad j s e h =
-      let b = read_bad e h in
-      (rw (b.1) (sym (told_refused (rewrite_answer l j s) tt BadLayout (rw (b.0)))), rw (b.0))
+  rewrite_bad j s e h = let b = read_bad e h in (rw (b.0, b.1), rw (b.0))
 
   module _ (j n : ℕ) (s : Slot) (h : Header) (holes : Bool) (e : read_layout l ≡ Ok (h, n)) (w : holes ≡ with_holes h) where
-    pub rewrite_unfit : false ≡ allowed_slot holes s → (◌≡◌ {A = Result (Unit {0}) Refusal} (Err BadLayout) (told (rewrite_answer l j s) (tt {0}))) × (l ≡ rewrite_bytes l j s)
+    pub rewrite_unfit : false ≡ allowed_slot holes s → (13 ≡ rewrite_answer l j s) × (l ≡ rewrite_bytes l j s)
     unfolding rewrite_answer rewrite_bytes
-    rewrite_unfit t =
-        let a = read_taken h n e in
-        (sym (told_refused (rewrite_answer l j s) tt BadLayout (rw (a.0, a.1, ← w, ← t))), rw (a.0, a.1, ← w, ← t))
+    rewrite_unfit t = let a = read_taken h n e in (rw (a.0, a.1, ← w, ← t), rw (a.0, a.1, ← w, ← t))
 
     module _ (t : true ≡ allowed_slot holes s) where
-      pub rewrite_past : n ≤ j → (◌≡◌ {A = Result (Unit {0}) Refusal} (Err NoPlace) (told (rewrite_answer l j s) (tt {0}))) × (l ≡ rewrite_bytes l j s)
+      pub rewrite_past : n ≤ j → (16 ≡ rewrite_answer l j s) × (l ≡ rewrite_bytes l j s)
       unfolding rewrite_answer rewrite_bytes
       rewrite_past k =
           let a = read_taken h n e in
-          (sym (told_refused (rewrite_answer l j s) tt NoPlace (rw (a.0, a.1, ← w, ← t, a.2, le-ltb j n k))), rw (a.0, a.1, ← w, ← t, a.2, le-ltb j n k))
+          (rw (a.0, a.1, ← w, ← t, a.2, le-ltb j n k), rw (a.0, a.1, ← w, ← t, a.2, le-ltb j n k))
 
       pub rewrite_done : (m : List ℕ) → j < n → m ≡ encode_layout (changed (decode_layout l) j s) →
-          (◌≡◌ {A = Result (Unit {0}) Refusal} (Ok (tt {0})) (told (rewrite_answer l j s) (tt {0}))) × (m ≡ rewrite_bytes l j s)
+          (0 ≡ rewrite_answer l j s) × (m ≡ rewrite_bytes l j s)
       unfolding rewrite_answer rewrite_bytes
       rewrite_done m k q =
           let a = read_taken h n e in
-          (sym (told_ok (rewrite_answer l j s) tt (rw (a.0, a.1, ← w, ← t, a.2, lt-ltb j n k))), rw (a.0, a.1, ← w, ← t, a.2, lt-ltb j n k, q))
+          (rw (a.0, a.1, ← w, ← t, a.2, lt-ltb j n k), rw (a.0, a.1, ← w, ← t, a.2, lt-ltb j n k, q))
 
 -- ## Read and written
 

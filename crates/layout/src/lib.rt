@@ -3,7 +3,7 @@
 
 ghost use Rattle.std.specs.Prelude.{◌≡◌, true, ◌&&◌, ◌+◌, ◌*◌, ◌/◌, ◌≤◌, ◌<◌, length, drop};
 ghost use Rattle.std.proofs.lemmas.List.Edits.{sets};
-ghost use Rattle.refusals.specs.Numbers.{told};
+ghost use Rattle.refusals.specs.Numbers.{answer};
 ghost use Rattle.layout.specs.Slot.{slot_size, zero_slot, slot_of, encode_slot, decode_slots, allowed_slot, allowed_slots, slot_names, same_slot};
 ghost use Rattle.layout.specs.Layout.{plain_header, stripe_count_at, header_size, decode_header, encode_header, decode_layout, encode_layout, next_generation, raised, changed, stripe_count, slot_start, known_version, known_pattern, possible_stripe, good_header, with_holes, exact_length, accepted_layout};
 ghost use Rattle.layout.specs.Answers.{read_layout, read_slot, rewrite_answer, rewrite_bytes};
@@ -324,7 +324,7 @@ pub fn read_slot(layout: &[u8], j: usize) -> Result<Slot, Refusal>
 
 // Rewrites slot j of a layout in place: 13, then 16, and with both nothing is written.
 pub fn rewrite(layout: &mut [u8], j: usize, s: Slot) -> Result<(), Refusal>
-    ensures answer { result ≡ told (rewrite_answer layout.old j s) tt }
+    ensures answer { answer result ≡ rewrite_answer layout.old j s }
     ensures bytes { layout.new ≡ rewrite_bytes layout.old j s }
 {
     let (h, count) = read(layout)?;
