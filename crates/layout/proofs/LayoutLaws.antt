@@ -10,7 +10,8 @@ use lib.ListN.{length, get_or, take, drop, set, length-append, length-drop, leng
 use lib.Seq.{sets, length-sets, take_all, take-add, drop_at, take_at, length-take-le}
 use Rattle.wire.specs.Numbers.{le, bytes}
 use Rattle.wire.proofs.Both.{and_first, and_second, and_both}
-use Rattle.wire.proofs.Splice.{sets_mid, sets_whole, drop_take_all}
+use borrow.Rule.Slice.PartMut.{put_mid}
+use Rattle.wire.proofs.Splice.{sets_mid, sets_whole, drop_take_all, put_sets}
 use Rattle.wire.proofs.NumberLaws.{Bytes, bytes_drop, length_bytes}
 use Rattle.layout.specs.declared.Header.{Header}
 use Rattle.layout.specs.declared.Slot.{Slot}
@@ -193,6 +194,16 @@ module _ (l : List ℕ) where
   pub has_slot_is : (j start : ℕ) (t s : Slot) (b : Bool) → start ≡ slot_start l → t ≡ slot_of (take (length l - start) (drop start l)) j → b ≡ same_slot t s →
       b ≡ same_slot (slot_of (drop (slot_start l) l) j) s
   has_slot_is j start t s b e d q = rw (q, d, drop_take_all start l, e)
+
+  -- the 24 bytes of slot j, written over
+  pub placed : (start j : ℕ) (s : Slot) (part : List ℕ) → exact_length l ≡ true → start ≡ slot_start l → j < stripe_count l → part ≡ encode_slot s →
+      put_mid (start + slot_size * j) (start + slot_size * j + slot_size - (start + slot_size * j)) l part ≡ sets l (slot_start l + slot_size * j) (encode_slot s)
+  placed start j s part x b h e =
+      let at : ℕ = start + slot_size * j in
+      let z = exact_size l x in
+      ap (λ (y : List ℕ). put_mid at (at + slot_size - at) l y) e
+      ∙ put_sets at (at + slot_size) l (encode_slot s) (omega (arith, length_slot s)) (omega arith)
+      ∙ ap (λ (n : ℕ). sets l (n + slot_size * j) (encode_slot s)) b
 
   pub place_long : (j : ℕ) (s : Slot) (y : List ℕ) → exact_length l ≡ true → y ≡ sets l (slot_start l + slot_size * j) (encode_slot s) → plain_header ≤ length y
   place_long j s y x e = rw (e, length-sets l (slot_start l + slot_size * j) (encode_slot s)) (exact_long l x)

@@ -254,36 +254,19 @@ pub fn raised(h: Header) -> Header
     }
 }
 
-// Whether slot j of a layout of exact length is this one.
-fn has_slot(layout: &[u8], j: usize, s: Slot) -> bool
-    requires { (exact_length layout.now ≡ true) × (j < stripe_count layout.now) }
-    ensures { result ≡ same_slot (slot_of (drop (slot_start layout.now) layout.now) j) s }
-{
-    let start = slot_start(layout);
-    slot_at(&layout[start..], j) == s
-}
-
-// Writes slot j of a layout of exact length: the slot's 24 bytes are lent to the slot writer.
-fn place_slot(layout: &mut [u8], j: usize, s: Slot)
-    requires { (exact_length layout.old ≡ true) × (j < stripe_count layout.old) }
-    ensures { layout.new ≡ sets layout.old (slot_start layout.old + slot_size * j) (encode_slot s) }
-{
-    let start = slot_start(layout);
-    let a = start + SLOT_SIZE * j;
-    let e = a + SLOT_SIZE;
-    put_slot(&mut layout[a..e], s);
-}
-
 // Changes slot j of a layout of exact length in place, and raises the generation, unless the slot is this one already.
 pub fn change_slot(layout: &mut [u8], j: usize, s: Slot)
     requires { (exact_length layout.old ≡ true) × (j < stripe_count layout.old) }
     ensures { layout.new ≡ encode_layout (changed (decode_layout layout.old) j s) }
 {
-    if has_slot(layout, j, s) {
+    let start = slot_start(layout);
+    if slot_at(&layout[start..], j) == s {
         return;
     }
     let g = wire::le16(layout, GENERATION_AT);
-    place_slot(layout, j, s);
+    let a = start + SLOT_SIZE * j;
+    let e = a + SLOT_SIZE;
+    put_slot(&mut layout[a..e], s);
     wire::put_le16(layout, GENERATION_AT, next_generation(g));
 }
 
