@@ -3,7 +3,6 @@ use mathlib.Core.Path.{◌≡◌, refl}
 use mathlib.Core.List.{List, [], ◌++◌, append_assoc}
 use mathlib.Core.Bool.{Bool, true, false, cond}
 use Prim.Native.Nat.{ℕ, ◌≤◌, ◌<◌, ◌^◌}
-use borrow.Author.Tests.{eq-eqb, ne_eqb}
 use native.Mathlib.Omega.{arith}
 use lib.Dec.{eqb}
 use lib.ListN.{length, take, drop, length-append, length-drop}
@@ -13,14 +12,6 @@ use Rattle.wire.proofs.Splice.{sets_at}
 use Rattle.wire.proofs.NumberLaws.{Bytes, field, bytes_drop, bytes_le, length_bytes, le_small, le_small_at}
 use Rattle.layout.specs.declared.Header.{Header}
 use Rattle.layout.specs.Layout.{pattern_at, own_id_at, own_sequence_at, stripe_size_at, stripe_count_at, generation_at, plain_header, pool_header, header_size, magic_three, decode_header, encode_header, generations, at_generation, stripe_count}
-
-pub size_three : (m : ℕ) → m ≡ magic_three → pool_header ≡ header_size m
-unfolding header_size
-size_three m h = rw (eq-eqb _ _ h)
-
-pub size_one : (m : ℕ) → (m ≡ magic_three → ⊥) → plain_header ≡ header_size m
-unfolding header_size
-size_one m h = rw (ne_eqb _ _ h)
 
 pub size_least : (m : ℕ) → plain_header ≤ header_size m
 unfolding header_size
@@ -46,14 +37,6 @@ pub record SizeFacts (m b : ℕ) : Type 0 where
 
 pub size_known : (m b : ℕ) → b ≡ header_size m → SizeFacts m b
 size_known m b e = record { least = rw e (size_least m); most = rw e (size_most m); is = e }
-
--- the fields, read one by one
-pub header_at : (l : List ℕ) (m p o s t g : ℕ) → m ≡ le 4 l → p ≡ le 4 (drop pattern_at l) → o ≡ le 8 (drop own_id_at l) → s ≡ le 8 (drop own_sequence_at l) →
-    t ≡ le 4 (drop stripe_size_at l) → g ≡ le 2 (drop generation_at l) →
-    ◌≡◌ {A = Header} (record { magic = m; pattern = p; oid = o; seq = s; stripe = t; generation = g }) (decode_header l)
-unfolding decode_header
-header_at l m p o s t g e1 e2 e3 e4 e5 e6 =
-    λ i. record { magic = e1 i; pattern = e2 i; oid = e3 i; seq = e4 i; stripe = e5 i; generation = e6 i }
 
 pub length_header : (h : Header) (n : ℕ) → length (encode_header h n) ≡ plain_header
 unfolding encode_header

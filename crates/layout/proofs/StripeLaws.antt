@@ -10,12 +10,11 @@ use lib.ListN.{length, get_or, set}
 use Rattle.wire.proofs.Both.{and_first, and_second}
 use Rattle.fid.specs.Fid.{same_fid}
 use Rattle.fid.proofs.SameLaws.{same_self, same_is}
-use Rattle.layout.specs.declared.Header.{Header}
 use Rattle.layout.specs.contracts.SlotPartialEq.TheImpl as derived
 use Rattle.layout.specs.declared.Slot.{Slot}
 use Rattle.layout.specs.declared.Slot.TheVariants.{Hole, Names}
 use Rattle.layout.specs.Slot.{same_slot, same_slots}
-use Rattle.layout.specs.Layout.{Layout, last_generation, generations, next_generation, at_generation, generation_with, restriped, raised}
+use Rattle.layout.specs.Layout.{Layout, last_generation, generations, next_generation, at_generation, generation_with, restriped}
 
 -- ## Slots that are the same
 
@@ -97,11 +96,6 @@ next_small g h = go (eqb g last_generation) refl
     go : (b : Bool) → eqb g last_generation ≡ b → cond b 0 (g + 1) < generations
     go true e = omega arith
     go false e = let n = off e in omega arith
-
-pub raised_is : (h : Header) (g : ℕ) → g ≡ next_generation h.generation →
-    ◌≡◌ {A = Header} (record { magic = h.magic; pattern = h.pattern; oid = h.oid; seq = h.seq; stripe = h.stripe; generation = g }) (raised h)
-unfolding raised at_generation
-raised_is h g e = λ i. record { magic = h.magic; pattern = h.pattern; oid = h.oid; seq = h.seq; stripe = h.stripe; generation = e i }
 
 module _ (L : Layout) (ss : List Slot) where
   -- the same slots leave the layout as it is
