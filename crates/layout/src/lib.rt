@@ -60,6 +60,7 @@ pub const HOLE_PATTERN: u32 = 0x4000_0001;
 const STRIPE_UNIT: u32 = 65536;
 
 // One stripe: a hole, or an object's FID, the generation and the OST index.
+// No Option: document 01 speaks of slots that are holes, and an Option here says that there is no such slot.
 #[derive(Clone, Copy, Debug, PartialEq, Eq)]
 pub enum Slot {
     Hole,
