@@ -11,7 +11,7 @@ pub fn lfsck_layout_read(layout: &[u8], fields: &mut [u64]) -> u32
     ensures answer { result ≡ out_answer (read_number (read_layout layout.now)) (read_fields (read_layout layout.now)) fields.old }
     ensures fields { fields.new ≡ out_numbers (read_number (read_layout layout.now)) (read_fields (read_layout layout.now)) fields.old }
 {
-    capi_layout::layout_read(layout, fields)
+    refusals::answer(capi_layout::layout_read(layout, fields))
 }
 
 // Reads slot `index` of a layout: 5 numbers into out.
@@ -19,7 +19,7 @@ pub fn lfsck_layout_slot(layout: &[u8], index: u64, out: &mut [u64]) -> u32
     ensures answer { result ≡ out_answer (slot_read_number (read_slot layout.now index)) (slot_read_fields (read_slot layout.now index)) out.old }
     ensures out { out.new ≡ out_numbers (slot_read_number (read_slot layout.now index)) (slot_read_fields (read_slot layout.now index)) out.old }
 {
-    capi_layout::layout_slot(layout, index, out)
+    refusals::answer(capi_layout::layout_slot(layout, index, out))
 }
 
 // Writes a layout of 7 fields, a pool name and slots of 5 numbers each; the bytes written into out.
@@ -34,7 +34,7 @@ pub fn lfsck_layout_write(
     ensures dest { dest.new ≡ write_dest fields.now pool.now slots.now dest.old out.old }
     ensures out { out.new ≡ out_numbers (write_number fields.now pool.now slots.now dest.old) (write_values fields.now) out.old }
 {
-    capi_write::layout_write(fields, pool, slots, dest, out)
+    refusals::answer(capi_write::layout_write(fields, pool, slots, dest, out))
 }
 
 // Rewrites slot `index` of a layout in place, the slot as 5 numbers.
@@ -42,5 +42,5 @@ pub fn lfsck_slot_rewrite(layout: &mut [u8], index: u64, slot: &[u64]) -> u32
     ensures answer { result ≡ rewrite_number layout.old index slot.now }
     ensures layout { layout.new ≡ rewrite_left layout.old index slot.now }
 {
-    capi_layout::slot_rewrite(layout, index, slot)
+    refusals::answer(capi_layout::slot_rewrite(layout, index, slot))
 }

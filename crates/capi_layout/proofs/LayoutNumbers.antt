@@ -15,12 +15,10 @@ use Rattle.fid.specs.declared.OstFid.{OstFid}
 use Rattle.layout.specs.declared.Header.{Header}
 use Rattle.layout.specs.declared.Slot.{Slot}
 use Rattle.layout.specs.declared.Slot.TheVariants.{Hole, Names}
-use Rattle.layout.specs.declared.Reading.{Reading}
-use Rattle.layout.specs.declared.Reading.TheVariants.{Refused, Accepted}
-use Rattle.layout.specs.declared.SlotRead.{SlotRead}
-use Rattle.layout.specs.declared.SlotRead.TheVariants.{BadLayout, NoSlot, SlotIs}
-use Rattle.layout_write.specs.declared.Given.{Given}
-use Rattle.layout_write.specs.declared.Given.TheVariants.{NotSlot, GivenSlot}
+use Rattle.std.specs.Prelude.{Option, Some, None, Result, Ok, Err}
+use Rattle.refusals.specs.Numbers.{number}
+use Rattle.refusals.specs.declared.Refusal.{Refusal}
+use Rattle.refusals.proofs.NumberLaws.{number_above}
 use Rattle.capi_out.specs.Out.{out_answer, out_numbers}
 use Rattle.capi_layout.specs.Layouts.{header_numbers, version_of, header_fields, read_fields, rewrite_given, given_left, rewrite_number, rewrite_left}
 use Rattle.layout_write.proofs.SlotNumbers.{fields_five}
@@ -50,12 +48,12 @@ pub header_put : (l x y : List ℕ) (h : Header) (n v s : ℕ) → v ≡ version
 unfolding header_fields
 header_put l x y h n v s p q e f = rw (← p, ← q) (two_runs l x y 4 (v ∷ h.pattern ∷ h.oid ∷ h.seq ∷ []) (h.stripe ∷ n ∷ h.generation ∷ s ∷ []) e f refl)
 
-module _ (R : Reading) (out : List ℕ) where
-  pub read_bad : R ≡ Refused → (13 ≡ out_answer (read_number R) (read_fields R) out) × (out ≡ out_numbers (read_number R) (read_fields R) out)
+module _ (R : Result (Header × ℕ) Refusal) (out : List ℕ) where
+  pub read_bad : (r : Refusal) → R ≡ Err r → (number r ≡ out_answer (read_number R) (read_fields R) out) × (out ≡ out_numbers (read_number R) (read_fields R) out)
   unfolding read_number
-  read_bad e = out_refused (read_number R) (read_fields R) out 13 (rw e) (λ z. omega (arith, z))
+  read_bad r e = out_refused (read_number R) (read_fields R) out (number r) (rw e) (number_above r)
 
-  module _ (h : Header) (n : ℕ) (e : R ≡ Accepted h n) where
+  module _ (h : Header) (n : ℕ) (e : R ≡ Ok (h, n)) where
     zero_number : read_number R ≡ 0
     unfolding read_number
     zero_number = rw e
@@ -81,16 +79,12 @@ pub names_put : (l x y : List ℕ) (s : Slot) (f : OstFid) (g i : ℕ) → s ≡
 unfolding slot_fields
 names_put l x y s f g i e p q = rw (e, q, p)
 
-module _ (R : SlotRead) (out : List ℕ) where
-  pub slot_bad : R ≡ BadLayout → (13 ≡ out_answer (slot_read_number R) (slot_read_fields R) out) × (out ≡ out_numbers (slot_read_number R) (slot_read_fields R) out)
+module _ (R : Result Slot Refusal) (out : List ℕ) where
+  pub slot_bad : (r : Refusal) → R ≡ Err r → (number r ≡ out_answer (slot_read_number R) (slot_read_fields R) out) × (out ≡ out_numbers (slot_read_number R) (slot_read_fields R) out)
   unfolding slot_read_number
-  slot_bad e = out_refused (slot_read_number R) (slot_read_fields R) out 13 (rw e) (λ z. omega (arith, z))
+  slot_bad r e = out_refused (slot_read_number R) (slot_read_fields R) out (number r) (rw e) (number_above r)
 
-  pub slot_none : R ≡ NoSlot → (16 ≡ out_answer (slot_read_number R) (slot_read_fields R) out) × (out ≡ out_numbers (slot_read_number R) (slot_read_fields R) out)
-  unfolding slot_read_number
-  slot_none e = out_refused (slot_read_number R) (slot_read_fields R) out 16 (rw e) (λ z. omega (arith, z))
-
-  module _ (s : Slot) (e : R ≡ SlotIs s) where
+  module _ (s : Slot) (e : R ≡ Ok s) where
     zero_slot_lem : slot_read_number R ≡ 0
     unfolding slot_read_number
     zero_slot_lem = rw e
@@ -114,21 +108,21 @@ module _ (l : List ℕ) (j : ℕ) (slot : List ℕ) where
   unfolding rewrite_number rewrite_left
   rewrite_uneven h = (rw (ne_eqb (length slot) slot_numbers h), rw (ne_eqb (length slot) slot_numbers h))
 
-  five_is : (g : Given) → g ≡ given_from (get_or slot 0 0) (get_or slot 1 0) (get_or slot 2 0) (get_or slot 3 0) (get_or slot 4 0) → given_at slot 0 ≡ g
+  five_is : (g : Option Slot) → g ≡ given_from (get_or slot 0 0) (get_or slot 1 0) (get_or slot 2 0) (get_or slot 3 0) (get_or slot 4 0) → given_at slot 0 ≡ g
   unfolding given_at
   five_is g e = sym e
 
-  pub rewrite_none : (g : Given) → length slot ≡ slot_numbers → g ≡ given_from (get_or slot 0 0) (get_or slot 1 0) (get_or slot 2 0) (get_or slot 3 0) (get_or slot 4 0) →
-      g ≡ NotSlot → (13 ≡ rewrite_number l j slot) × (l ≡ rewrite_left l j slot)
+  pub rewrite_none : (g : Option Slot) → length slot ≡ slot_numbers → g ≡ given_from (get_or slot 0 0) (get_or slot 1 0) (get_or slot 2 0) (get_or slot 3 0) (get_or slot 4 0) →
+      g ≡ None → (13 ≡ rewrite_number l j slot) × (l ≡ rewrite_left l j slot)
   unfolding rewrite_number rewrite_left rewrite_given given_left
   rewrite_none g h e q =
-      let z : given_at slot 0 ≡ NotSlot = five_is g e ∙ q in
+      let z : given_at slot 0 ≡ None = five_is g e ∙ q in
       (rw (eq-eqb (length slot) slot_numbers h, z), rw (eq-eqb (length slot) slot_numbers h, z))
 
-  pub rewrite_slot : (g : Given) (s : Slot) (a : ℕ) (m : List ℕ) → length slot ≡ slot_numbers →
-      g ≡ given_from (get_or slot 0 0) (get_or slot 1 0) (get_or slot 2 0) (get_or slot 3 0) (get_or slot 4 0) → g ≡ GivenSlot s →
+  pub rewrite_slot : (g : Option Slot) (s : Slot) (a : ℕ) (m : List ℕ) → length slot ≡ slot_numbers →
+      g ≡ given_from (get_or slot 0 0) (get_or slot 1 0) (get_or slot 2 0) (get_or slot 3 0) (get_or slot 4 0) → g ≡ Some s →
       a ≡ rewrite_answer l j s → m ≡ rewrite_bytes l j s → (a ≡ rewrite_number l j slot) × (m ≡ rewrite_left l j slot)
   unfolding rewrite_number rewrite_left rewrite_given given_left
   rewrite_slot g s a m h e q x y =
-      let z : given_at slot 0 ≡ GivenSlot s = five_is g e ∙ q in
+      let z : given_at slot 0 ≡ Some s = five_is g e ∙ q in
       (rw (eq-eqb (length slot) slot_numbers h, z, x), rw (eq-eqb (length slot) slot_numbers h, z, y))

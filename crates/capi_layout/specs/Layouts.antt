@@ -1,13 +1,11 @@
 -- Layouts as numbers: what is read, and one slot rewritten.
-use Rattle.std.specs.Prelude.{ℕ, List, [], ◌∷◌, cond, eqb, length}
+use Rattle.std.specs.Prelude.{ℕ, List, [], ◌∷◌, cond, eqb, length, Option, Some, None, Result, Ok, Err}
+use Rattle.refusals.specs.declared.Refusal.{Refusal}
 use Rattle.layout.specs.Layout.{magic_three, header_size}
 use Rattle.layout.specs.Answers.{rewrite_answer, rewrite_bytes}
 use Rattle.layout_write.specs.Writer.{slot_numbers, given_at}
 use Rattle.layout.specs.declared.Header.{Header}
-use Rattle.layout.specs.declared.Reading.{Reading}
-use Rattle.layout.specs.declared.Reading.TheVariants.{Refused, Accepted}
-use Rattle.layout_write.specs.declared.Given.{Given}
-use Rattle.layout_write.specs.declared.Given.TheVariants.{NotSlot, GivenSlot}
+use Rattle.layout.specs.declared.Slot.{Slot}
 
 -- ## Reading
 
@@ -24,19 +22,19 @@ unfoldable pub header_fields : Header → ℕ → List ℕ
 header_fields h n =
     version_of h.magic ∷ h.pattern ∷ h.oid ∷ h.seq ∷ h.stripe ∷ n ∷ h.generation ∷ header_size h.magic ∷ []
 
-unfoldable pub read_fields : Reading → List ℕ
-read_fields Refused = []
-read_fields (Accepted h n) = header_fields h n
+unfoldable pub read_fields : Result (Header × ℕ) Refusal → List ℕ
+read_fields (Err e) = []
+read_fields (Ok (h, n)) = header_fields h n
 
 -- ## Rewriting
 
-unfoldable pub rewrite_given : List ℕ → ℕ → Given → ℕ
-rewrite_given l j NotSlot = 13
-rewrite_given l j (GivenSlot s) = rewrite_answer l j s
+unfoldable pub rewrite_given : List ℕ → ℕ → Option Slot → ℕ
+rewrite_given l j None = 13
+rewrite_given l j (Some s) = rewrite_answer l j s
 
-unfoldable pub given_left : List ℕ → ℕ → Given → List ℕ
-given_left l j NotSlot = l
-given_left l j (GivenSlot s) = rewrite_bytes l j s
+unfoldable pub given_left : List ℕ → ℕ → Option Slot → List ℕ
+given_left l j None = l
+given_left l j (Some s) = rewrite_bytes l j s
 
 unfoldable pub rewrite_number : List ℕ → ℕ → List ℕ → ℕ
 rewrite_number l j slot = cond (eqb (length slot) slot_numbers) (rewrite_given l j (given_at slot 0)) 13

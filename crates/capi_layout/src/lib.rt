@@ -3,13 +3,15 @@
 
 ghost use Rattle.std.specs.Prelude.{◌≡◌, ◌≤◌, length};
 ghost use Rattle.std.proofs.lemmas.List.Edits.{sets};
+ghost use Rattle.refusals.specs.Numbers.{answer};
 ghost use Rattle.layout.specs.Answers.{read_layout, read_number, read_slot, slot_read_number};
 ghost use Rattle.layout_write.specs.Writer.{slot_numbers, slot_fields, slot_read_fields};
 ghost use Rattle.capi_out.specs.Out.{out_answer, out_numbers};
 ghost use Rattle.capi_layout.specs.Layouts.{header_numbers, version_of, header_fields, read_fields, rewrite_number, rewrite_left};
 
-use layout::{Header, POOL_HEADER, Reading, Slot, SlotRead};
-use layout_write::{Given, SLOT_NUMBERS};
+use layout::{Header, POOL_HEADER, Slot};
+use layout_write::SLOT_NUMBERS;
+use refusals::Refusal;
 
 // The numbers of a header that is handed out.
 const HEADER_NUMBERS: usize = 8;
@@ -49,21 +51,16 @@ fn put_header(fields: &mut [u64], h: Header, count: u16)
 }
 
 // Reads a layout: 8 numbers into fields.
-pub fn layout_read(layout: &[u8], fields: &mut [u64]) -> u32
-    ensures answer { result ≡ out_answer (read_number (read_layout layout.now)) (read_fields (read_layout layout.now)) fields.old }
+pub fn layout_read(layout: &[u8], fields: &mut [u64]) -> Result<(), Refusal>
+    ensures answer { answer result ≡ out_answer (read_number (read_layout layout.now)) (read_fields (read_layout layout.now)) fields.old }
     ensures fields { fields.new ≡ out_numbers (read_number (read_layout layout.now)) (read_fields (read_layout layout.now)) fields.old }
 {
-    let reading = layout::read(layout);
-    match reading {
-        Reading::Refused => 13,
-        Reading::Accepted(h, count) => {
-            if fields.len() < HEADER_NUMBERS {
-                return 17;
-            }
-            put_header(fields, h, count);
-            0
-        }
+    let (h, count) = layout::read(layout)?;
+    if fields.len() < HEADER_NUMBERS {
+        return Err(Refusal::TooShort);
     }
+    put_header(fields, h, count);
+    Ok(())
 }
 
 // Stores the five numbers of a slot.
@@ -85,35 +82,26 @@ fn put_slot(out: &mut [u64], s: Slot)
 }
 
 // Reads slot `index` of a layout: 5 numbers into out.
-pub fn layout_slot(layout: &[u8], index: u64, out: &mut [u64]) -> u32
-    ensures answer { result ≡ out_answer (slot_read_number (read_slot layout.now index)) (slot_read_fields (read_slot layout.now index)) out.old }
+pub fn layout_slot(layout: &[u8], index: u64, out: &mut [u64]) -> Result<(), Refusal>
+    ensures answer { answer result ≡ out_answer (slot_read_number (read_slot layout.now index)) (slot_read_fields (read_slot layout.now index)) out.old }
     ensures out { out.new ≡ out_numbers (slot_read_number (read_slot layout.now index)) (slot_read_fields (read_slot layout.now index)) out.old }
 {
-    let read = layout::read_slot(layout, index as usize);
-    match read {
-        SlotRead::BadLayout => 13,
-        SlotRead::NoSlot => 16,
-        SlotRead::SlotIs(s) => {
-            if out.len() < SLOT_NUMBERS {
-                return 17;
-            }
-            put_slot(out, s);
-            0
-        }
+    let s = layout::read_slot(layout, index as usize)?;
+    if out.len() < SLOT_NUMBERS {
+        return Err(Refusal::TooShort);
     }
+    put_slot(out, s);
+    Ok(())
 }
 
 // Rewrites slot `index` of a layout in place, the slot as 5 numbers.
-pub fn slot_rewrite(layout: &mut [u8], index: u64, slot: &[u64]) -> u32
-    ensures answer { result ≡ rewrite_number layout.old index slot.now }
+pub fn slot_rewrite(layout: &mut [u8], index: u64, slot: &[u64]) -> Result<(), Refusal>
+    ensures answer { answer result ≡ rewrite_number layout.old index slot.now }
     ensures layout { layout.new ≡ rewrite_left layout.old index slot.now }
 {
-    if slot.len() != SLOT_NUMBERS {
-        return 13;
-    }
-    let given = layout_write::given_from(slot[0], slot[1], slot[2], slot[3], slot[4]);
-    match given {
-        Given::NotSlot => 13,
-        Given::GivenSlot(s) => layout::rewrite(layout, index as usize, s),
-    }
+    let [k, s, o, g, i] = *slot else {
+        return Err(Refusal::BadLayout);
+    };
+    let given = layout_write::given_from(k, s, o, g, i).ok_or(Refusal::BadLayout)?;
+    layout::rewrite(layout, index as usize, given)
 }

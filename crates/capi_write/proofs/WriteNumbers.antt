@@ -3,60 +3,25 @@ use mathlib.Core.Path.{◌≡◌, refl, ◌∙◌}
 use mathlib.Core.List.{List}
 use mathlib.Core.Bool.{Bool, true, false, cond, ◌&&◌}
 use Prim.Native.Nat.{ℕ, ◌≤◌, ◌<◌}
-use borrow.Author.Tests.{eq-eqb, ne_eqb, le-leb, lt-leb, eqb-true, leb-true}
+use borrow.Author.Tests.{ne_eqb, eqb-true, leb-true}
 use native.Mathlib.Omega.{arith}
 use lib.Dec.{eqb, leb}
 use lib.ListN.{length, get_or, set}
 use Rattle.wire.proofs.Both.{and_first, and_second}
-use Rattle.layout.specs.Layout.{magic_one, magic_three, layout_size}
+use Rattle.layout.specs.Layout.{layout_size}
 use Rattle.wire.specs.Numbers.{max_word}
 use Rattle.layout_write.specs.Writer.{writable, write_layout, written_number, left_by, write_bytes}
 use Rattle.layout.specs.declared.Header.{Header}
-use Rattle.layout_write.specs.declared.Written.TheVariants.{BadFields, TooShort, Bytes}
-use Rattle.capi_write.specs.declared.HeaderGiven.TheVariants.{NotHeader, HeaderIs}
+use Rattle.std.specs.Prelude.{Some, None, Ok, Err}
+use Rattle.refusals.specs.Numbers.{number}
+use Rattle.refusals.specs.declared.Refusal.{Refusal}
+use Rattle.refusals.proofs.NumberLaws.{number_above}
 use Rattle.capi_out.specs.Out.{out_numbers}
-use Rattle.capi_write.specs.Write.{header_numbers, max_half, magic_of, is_version, fields_fit, fields_header, fields_count, header_given, header_number, header_values, header_answer, header_dest, header_out, write_number, write_values, write_answer, write_dest}
+use Rattle.capi_write.specs.Write.{header_numbers, max_half, is_version, fields_fit, fields_header, fields_count, header_given, header_number, header_values, header_answer, header_dest, header_out, write_number, write_values, write_answer, write_dest}
 use Rattle.layout_write.proofs.WriteLaws.{write_took}
 use Rattle.capi_out.proofs.OutLaws.{out_refused, out_short, out_done}
 
 -- ## The fields
-
-pub is_one : (v : ℕ) → v ≡ 1 → true ≡ is_version v
-unfolding is_version
-is_one v e = rw (eq-eqb v 1 e)
-
-pub is_three : (v : ℕ) → (v ≡ 1 → ⊥) → eqb v 3 ≡ is_version v
-unfolding is_version
-is_three v e = rw (ne_eqb v 1 e)
-
-pub magic_three_lem : (v : ℕ) → v ≡ 3 → magic_three ≡ magic_of v
-unfolding magic_of
-magic_three_lem v e = rw (eq-eqb v 3 e)
-
-pub magic_one_lem : (v : ℕ) → (v ≡ 3 → ⊥) → magic_one ≡ magic_of v
-unfolding magic_of
-magic_one_lem v e = rw (ne_eqb v 3 e)
-
-module _ (l : List ℕ) where
-  pub fit_length : (length l ≡ header_numbers → ⊥) → false ≡ fields_fit l
-  unfolding fields_fit
-  fit_length h = rw (ne_eqb (length l) header_numbers h)
-
-  pub fit_version : length l ≡ header_numbers → is_version (get_or l 0 0) ≡ false → false ≡ fields_fit l
-  unfolding fields_fit
-  fit_version h v = rw (eq-eqb (length l) header_numbers h, v)
-
-  pub fit_pattern : length l ≡ header_numbers → is_version (get_or l 0 0) ≡ true → max_word < get_or l 1 0 → false ≡ fields_fit l
-  unfolding fields_fit
-  fit_pattern h v p = rw (eq-eqb (length l) header_numbers h, v, lt-leb (get_or l 1 0) max_word p)
-
-  pub fit_stripe : length l ≡ header_numbers → is_version (get_or l 0 0) ≡ true → get_or l 1 0 ≤ max_word → max_word < get_or l 4 0 → false ≡ fields_fit l
-  unfolding fields_fit
-  fit_stripe h v p s = rw (eq-eqb (length l) header_numbers h, v, le-leb (get_or l 1 0) max_word p, lt-leb (get_or l 4 0) max_word s)
-
-  pub fit_generation : length l ≡ header_numbers → is_version (get_or l 0 0) ≡ true → get_or l 1 0 ≤ max_word → get_or l 4 0 ≤ max_word → leb (get_or l 6 0) max_half ≡ fields_fit l
-  unfolding fields_fit
-  fit_generation h v p s = rw (eq-eqb (length l) header_numbers h, v, le-leb (get_or l 1 0) max_word p, le-leb (get_or l 4 0) max_word s)
 
 -- seven numbers that fit
 pub record FitFields (l : List ℕ) : Type 0 where
@@ -83,29 +48,20 @@ fit_fields l f =
       generation = leb-true (get_or l 6 0) max_half (and_second (a && b && c && d) e f);
     }
 
-pub header_none : (l : List ℕ) → fields_fit l ≡ false → NotHeader ≡ header_given l
-unfolding header_given
-header_none l f = rw f
-
-pub header_is : (l : List ℕ) (m : ℕ) → fields_fit l ≡ true → m ≡ magic_of (get_or l 0 0) →
-    HeaderIs (record { magic = m; pattern = get_or l 1 0; oid = get_or l 2 0; seq = get_or l 3 0; stripe = get_or l 4 0; generation = get_or l 6 0 }) ≡ header_given l
-unfolding header_given fields_header
-header_is l m f e = rw (f, e)
-
-given_fits : (l : List ℕ) (b : Bool) (h : Header) → fields_fit l ≡ b → cond b (HeaderIs (fields_header l)) NotHeader ≡ HeaderIs h → (fields_fit l ≡ true) × (fields_header l ≡ h)
+given_fits : (l : List ℕ) (b : Bool) (h : Header) → fields_fit l ≡ b → cond b (Some (fields_header l)) None ≡ Some h → (fields_fit l ≡ true) × (fields_header l ≡ h)
 given_fits l true h f e = (f, cc)
-given_fits l false h f e = let z : ◌≡◌ {A = ℕ} 0 1 = cc in absurd (omega (arith, z))
+given_fits l false h f e = cc
 
 -- a header that was given is that of the fields, which fit
-pub given_is : (l : List ℕ) (h : Header) → header_given l ≡ HeaderIs h → (fields_fit l ≡ true) × (fields_header l ≡ h)
+pub given_is : (l : List ℕ) (h : Header) → header_given l ≡ Some h → (fields_fit l ≡ true) × (fields_header l ≡ h)
 unfolding header_given
 given_is l h e = given_fits l (fields_fit l) h refl e
 
-given_not : (l : List ℕ) (b : Bool) → fields_fit l ≡ b → cond b (HeaderIs (fields_header l)) NotHeader ≡ NotHeader → fields_fit l ≡ false
-given_not l true f e = let z : ◌≡◌ {A = ℕ} 0 1 = cc in absurd (omega (arith, z))
+given_not : (l : List ℕ) (b : Bool) → fields_fit l ≡ b → cond b (Some (fields_header l)) None ≡ None → fields_fit l ≡ false
+given_not l true f e = cc
 given_not l false f e = f
 
-pub given_none : (l : List ℕ) → header_given l ≡ NotHeader → fields_fit l ≡ false
+pub given_none : (l : List ℕ) → header_given l ≡ None → fields_fit l ≡ false
 unfolding header_given
 given_none l e = given_not l (fields_fit l) refl e
 
@@ -139,15 +95,11 @@ module _ (h : Header) (n : ℕ) (pool slots dest out : List ℕ) where
           (r.0, (rw (← r.0), r.1))
       go false e = refused 17 (rw (w, e)) (λ z. omega (arith, z))
 
-  pub write_full : (d : List ℕ) → write_layout h n pool slots dest ≡ TooShort → d ≡ write_bytes h n pool slots dest → LeavesGiven 17 d out
+  pub write_stopped : (r : Refusal) (d : List ℕ) → write_layout h n pool slots dest ≡ Err r → d ≡ write_bytes h n pool slots dest → LeavesGiven (number r) d out
   unfolding header_number written_number write_bytes left_by
-  write_full d w q = let e : d ≡ dest = q ∙ rw w in rw e (refused 17 (rw w) (λ z. omega (arith, z)))
+  write_stopped r d w q = let e : d ≡ dest = q ∙ rw w in rw e (refused (number r) (rw w) (number_above r))
 
-  pub write_wrong : (d : List ℕ) → write_layout h n pool slots dest ≡ BadFields → d ≡ write_bytes h n pool slots dest → LeavesGiven 13 d out
-  unfolding header_number written_number write_bytes left_by
-  write_wrong d w q = let e : d ≡ dest = q ∙ rw w in rw e (refused 13 (rw w) (λ z. omega (arith, z)))
-
-  pub write_done : (b : ℕ) (d o : List ℕ) → write_layout h n pool slots dest ≡ Bytes b → 1 ≤ length out → d ≡ write_bytes h n pool slots dest →
+  pub write_done : (b : ℕ) (d o : List ℕ) → write_layout h n pool slots dest ≡ Ok b → 1 ≤ length out → d ≡ write_bytes h n pool slots dest →
       o ≡ set out 0 b → LeavesGiven 0 d o
   unfolding header_answer header_dest header_out header_number header_values written_number
   write_done b d o w k p q =
@@ -161,13 +113,13 @@ module _ (fields pool slots dest out : List ℕ) where
       (a ≡ write_answer fields pool slots dest out) × ((d ≡ write_dest fields pool slots dest out)
       × (o ≡ out_numbers (write_number fields pool slots dest) (write_values fields) out))
 
-  pub write_none : header_given fields ≡ NotHeader → Leaves 13 dest out
+  pub write_none : header_given fields ≡ None → Leaves 13 dest out
   unfolding write_number write_answer write_dest
   write_none e =
       let r = out_refused (write_number fields pool slots dest) (write_values fields) out 13 (rw (given_none fields e)) (λ z. omega (arith, z)) in
       (r.0, (rw (← r.0), r.1))
 
-  module _ (h : Header) (n : ℕ) (g : header_given fields ≡ HeaderIs h) (c : n ≡ fields_count fields) where
+  module _ (h : Header) (n : ℕ) (g : header_given fields ≡ Some h) (c : n ≡ fields_count fields) where
     number_is : write_number fields pool slots dest ≡ header_number h n pool slots dest
     unfolding write_number
     number_is = let f = given_is fields h g in rw (f.0, f.1, ← c)

@@ -1,11 +1,9 @@
 -- A layout written from numbers: what the writer takes and hands out.
-use Rattle.std.specs.Prelude.{ℕ, List, [], ◌∷◌, Bool, cond, ◌&&◌, ◌||◌, leb, eqb, length, get_or}
+use Rattle.std.specs.Prelude.{ℕ, List, [], ◌∷◌, Bool, cond, ◌&&◌, ◌||◌, leb, eqb, length, get_or, Option, Some, None}
 use Rattle.layout.specs.Layout.{magic_one, magic_three, layout_size}
 use Rattle.wire.specs.Numbers.{max_word}
 use Rattle.layout_write.specs.Writer.{write_layout, written_number, write_bytes}
 use Rattle.layout.specs.declared.Header.{Header}
-use Rattle.capi_write.specs.declared.HeaderGiven.{HeaderGiven}
-use Rattle.capi_write.specs.declared.HeaderGiven.TheVariants.{NotHeader, HeaderIs}
 use Rattle.capi_out.specs.Out.{out_answer, out_numbers}
 
 unfoldable pub magic_of : ℕ → ℕ
@@ -43,8 +41,8 @@ fields_header l =
 unfoldable pub fields_count : List ℕ → ℕ
 fields_count l = get_or l 5 0
 
-unfoldable pub header_given : List ℕ → HeaderGiven
-header_given l = cond (fields_fit l) (HeaderIs (fields_header l)) NotHeader
+unfoldable pub header_given : List ℕ → Option Header
+header_given l = cond (fields_fit l) (Some (fields_header l)) None
 
 -- of a header that was given: number, "bytes written", answer, destination and what is handed out
 unfoldable pub header_number : Header → ℕ → List ℕ → List ℕ → List ℕ → ℕ

@@ -1,27 +1,17 @@
 -- Laws of headers: their size, their fields read and stored, and the round trip. Assumes nothing.
-use mathlib.Core.Path.{◌≡◌, refl, sym}
+use mathlib.Core.Path.{◌≡◌, refl}
 use mathlib.Core.List.{List, [], ◌++◌, append_assoc}
-use mathlib.Core.Bool.{Bool, true, false, cond, not}
-use Prim.Native.Nat.{ℕ, zero, suc, ◌%◌, ◌≤◌, ◌<◌, ◌^◌}
-use borrow.Author.Tests.{eq-eqb, ne_eqb, lt-ltb}
+use mathlib.Core.Bool.{Bool, true, false, cond}
+use Prim.Native.Nat.{ℕ, ◌≤◌, ◌<◌, ◌^◌}
 use native.Mathlib.Omega.{arith}
-use lib.Dec.{eqb, ltb}
+use lib.Dec.{eqb}
 use lib.ListN.{length, take, drop, length-append, length-drop}
 use lib.Seq.{sets, take-add}
 use Rattle.wire.specs.Numbers.{le, bytes}
-use Rattle.wire.proofs.Both.{and_none}
 use Rattle.wire.proofs.Splice.{sets_at}
 use Rattle.wire.proofs.NumberLaws.{Bytes, field, bytes_drop, bytes_le, length_bytes, le_small, le_small_at}
 use Rattle.layout.specs.declared.Header.{Header}
-use Rattle.layout.specs.Layout.{pattern_at, own_id_at, own_sequence_at, stripe_size_at, stripe_count_at, generation_at, plain_header, pool_header, header_size, magic_one, magic_three, decode_header, encode_header, generations, at_generation, stripe_count, known_version, known_pattern, plain_pattern, hole_pattern, stripe_unit, possible_stripe, good_header}
-
-pub size_three : (m : ℕ) → m ≡ magic_three → pool_header ≡ header_size m
-unfolding header_size
-size_three m h = rw (eq-eqb _ _ h)
-
-pub size_one : (m : ℕ) → (m ≡ magic_three → ⊥) → plain_header ≡ header_size m
-unfolding header_size
-size_one m h = rw (ne_eqb _ _ h)
+use Rattle.layout.specs.Layout.{pattern_at, own_id_at, own_sequence_at, stripe_size_at, stripe_count_at, generation_at, plain_header, pool_header, header_size, magic_three, decode_header, encode_header, generations, at_generation, stripe_count}
 
 pub size_least : (m : ℕ) → plain_header ≤ header_size m
 unfolding header_size
@@ -47,52 +37,6 @@ pub record SizeFacts (m b : ℕ) : Type 0 where
 
 pub size_known : (m b : ℕ) → b ≡ header_size m → SizeFacts m b
 size_known m b e = record { least = rw e (size_least m); most = rw e (size_most m); is = e }
-
-module _ (h : Header) where
-  pub version_one : h.magic ≡ magic_one → true ≡ known_version h
-  unfolding known_version
-  version_one e = rw (eq-eqb _ _ e)
-
-  pub version_three : (h.magic ≡ magic_one → ⊥) → eqb h.magic magic_three ≡ known_version h
-  unfolding known_version
-  version_three e = rw (ne_eqb _ _ e)
-
-  pub pattern_plain : h.pattern ≡ plain_pattern → true ≡ known_pattern h
-  unfolding known_pattern
-  pattern_plain e = rw (eq-eqb _ _ e)
-
-  pub pattern_holes : (h.pattern ≡ plain_pattern → ⊥) → eqb h.pattern hole_pattern ≡ known_pattern h
-  unfolding known_pattern
-  pattern_holes e = rw (ne_eqb _ _ e)
-
-  pub unknown_version : known_version h ≡ false → false ≡ good_header h
-  unfolding good_header
-  unknown_version e = rw e
-
-  pub unknown_pattern : known_version h ≡ true → known_pattern h ≡ false → false ≡ good_header h
-  unfolding good_header
-  unknown_pattern e p = rw (e, p)
-
-  pub then_stripe : (b : Bool) → known_version h ≡ true → known_pattern h ≡ true → b ≡ possible_stripe h.stripe → b ≡ good_header h
-  unfolding good_header
-  then_stripe b e p s = rw (e, p, s)
-
-pub stripe_uneven : (size : ℕ) → (size % stripe_unit ≡ 0 → ⊥) → false ≡ possible_stripe size
-unfolding possible_stripe
-stripe_uneven size k = rw (ne_eqb _ _ k) (sym (and_none (not (eqb size 0))))
-
-pub stripe_even : (size : ℕ) → size % stripe_unit ≡ 0 → ltb 0 size ≡ possible_stripe size
-unfolding possible_stripe
-stripe_even zero e = refl
-stripe_even (suc n) e = rw (eq-eqb _ _ e, lt-ltb 0 (suc n) (omega arith), ne_eqb (suc n) 0 (λ z. omega arith))
-
--- the fields, read one by one
-pub header_at : (l : List ℕ) (m p o s t g : ℕ) → m ≡ le 4 l → p ≡ le 4 (drop pattern_at l) → o ≡ le 8 (drop own_id_at l) → s ≡ le 8 (drop own_sequence_at l) →
-    t ≡ le 4 (drop stripe_size_at l) → g ≡ le 2 (drop generation_at l) →
-    ◌≡◌ {A = Header} (record { magic = m; pattern = p; oid = o; seq = s; stripe = t; generation = g }) (decode_header l)
-unfolding decode_header
-header_at l m p o s t g e1 e2 e3 e4 e5 e6 =
-    λ i. record { magic = e1 i; pattern = e2 i; oid = e3 i; seq = e4 i; stripe = e5 i; generation = e6 i }
 
 pub length_header : (h : Header) (n : ℕ) → length (encode_header h n) ≡ plain_header
 unfolding encode_header

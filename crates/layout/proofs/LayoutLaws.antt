@@ -2,21 +2,24 @@
 use mathlib.Core.Path.{◌≡◌, refl, sym, ap, ◌∙◌}
 use mathlib.Core.List.{List, [], ◌∷◌, ◌++◌, append_assoc, append-nil}
 use mathlib.Core.Bool.{Bool, true, false, cond, ◌&&◌}
-use Prim.Native.Nat.{ℕ, zero, suc, ◌+◌, ◌-◌, ◌*◌, ◌≤◌, ◌<◌}
-use borrow.Author.Tests.{eq-eqb, ne_eqb, le-leb, lt-leb, lt-ltb, le-ltb, ltb-true, eqb-true, leb-true}
+use Prim.Native.Nat.{ℕ, zero, suc, ◌+◌, ◌-◌, ◌*◌, ◌/◌, ◌≤◌, ◌<◌}
+use borrow.Author.Tests.{eq-eqb, ne_eqb, le-leb, lt-ltb, le-ltb, ltb-true, eqb-true, leb-true}
 use native.Mathlib.Omega.{arith}
 use lib.Dec.{eqb, leb, ltb}
 use lib.ListN.{length, get_or, take, drop, set, length-append, length-drop, length-set, take-append-drop}
 use lib.Seq.{sets, length-sets, take_all, take-add, drop_at, take_at, length-take-le}
 use Rattle.wire.specs.Numbers.{le, bytes}
 use Rattle.wire.proofs.Both.{and_first, and_second, and_both}
-use Rattle.wire.proofs.Splice.{sets_mid, sets_whole, drop_take_all}
+use borrow.Rule.Slice.PartMut.{put_mid}
+use Rattle.wire.proofs.Splice.{sets_mid, sets_whole, drop_take_all, put_sets}
 use Rattle.wire.proofs.NumberLaws.{Bytes, bytes_drop, length_bytes}
 use Rattle.layout.specs.declared.Header.{Header}
 use Rattle.layout.specs.declared.Slot.{Slot}
 use Rattle.layout.specs.declared.Slot.TheVariants.{Hole}
-use Rattle.layout.specs.declared.Reading.TheVariants.{Refused, Accepted}
-use Rattle.layout.specs.declared.SlotRead.TheVariants.{BadLayout, NoSlot, SlotIs}
+use Rattle.std.specs.Prelude.{Result, Ok, Err}
+use Rattle.refusals.specs.Numbers.{number}
+use Rattle.refusals.specs.declared.Refusal.{Refusal}
+use Rattle.refusals.specs.declared.Refusal.TheVariants.{BadLayout, NoPlace}
 use Rattle.layout.specs.Slot.{slot_size, slot_of, encode_slot, decode_slots, encode_slots, allowed_slot, allowed_slots, same_slot, same_slots}
 use Rattle.layout.specs.Layout.{Layout, plain_header, pool_header, header_size, decode_header, encode_header, stripe_count, slot_start, decode_layout, encode_layout, generation_at, next_generation, at_generation, generation_with, restriped, changed, known_version, known_pattern, good_header, with_holes, max_slots, few_slots, layout_size, exact_length, layout_rules, accepted_layout}
 use Rattle.layout.specs.Answers.{read_layout, read_slot, rewrite_answer, rewrite_bytes}
@@ -63,29 +66,28 @@ module _ (l : List ℕ) where
       let z : length l ≡ start + slot_size * n = rw (b, q) (exact_size x) in
       rw (drop_take_all start l, length-drop) (omega arith)
 
-  pub accepted_header : (h : Header) → h ≡ decode_header l → exact_length l ≡ true → good_header h ≡ false → false ≡ accepted_layout l
-  unfolding accepted_layout layout_rules
-  accepted_header h e x k = rw (x, ← e, k)
-
   pub slots_many : length (decode_layout l).slots ≡ stripe_count l
   unfolding decode_layout
   slots_many = length_slots (stripe_count l) (drop (slot_start l) l)
-
-  pub accepted_many : (h : Header) (n : ℕ) → h ≡ decode_header l → n ≡ stripe_count l → exact_length l ≡ true → good_header h ≡ true →
-      max_slots < n → false ≡ accepted_layout l
-  unfolding accepted_layout layout_rules few_slots
-  accepted_many h n e q x k m = rw (x, slots_many, ← e, k, ← q, lt-leb n max_slots m)
 
   -- the slots of a layout are those of the part after its header
   pub slots_are : (decode_layout l).slots ≡ decode_slots (stripe_count l) (drop (slot_start l) l)
   unfolding decode_layout
   slots_are = refl
 
-  pub accepted_slots : (h : Header) (n start : ℕ) (holes : Bool) → h ≡ decode_header l → n ≡ stripe_count l → start ≡ slot_start l → holes ≡ with_holes h →
-      exact_length l ≡ true → good_header h ≡ true → n ≤ max_slots →
-      allowed_slots holes (decode_slots n (take (length l - start) (drop start l))) ≡ accepted_layout l
+  -- the rules on a layout of exact length
+  pub accepted_rules : (h : Header) (n : ℕ) → h ≡ decode_header l → n ≡ stripe_count l → exact_length l ≡ true →
+      accepted_layout l ≡ (good_header h && leb n max_slots && allowed_slots (with_holes h) (decode_slots n (drop (slot_start l) l)))
   unfolding accepted_layout layout_rules few_slots
-  accepted_slots h n start holes e q b w x k m = rw (x, slots_many, ← e, k, ← q, le-leb n max_slots m, slots_are, ← q, ← b, w, drop_take_all start l)
+  accepted_rules h n e q x = rw (x, slots_many, slots_are, ← e, ← q)
+
+  -- the slots of the part after the header are as many as there is room for
+  pub area_slots : (start n : ℕ) → exact_length l ≡ true → start ≡ slot_start l → n ≡ stripe_count l →
+      decode_slots (length (take (length l - start) (drop start l)) / slot_size) (take (length l - start) (drop start l)) ≡ decode_slots n (drop (slot_start l) l)
+  area_slots start n x b q =
+      let z : length l ≡ start + slot_size * n = rw (b, q) (exact_size x) in
+      let k : (length l - start) / slot_size ≡ n = omega arith in
+      rw (drop_take_all start l, length-drop, k, b)
 
   pub header_is : (decode_layout l).header ≡ decode_header l
   unfolding decode_layout
@@ -103,9 +105,9 @@ module _ (l : List ℕ) where
   pub accepted_from : length l ≡ slot_start l + slot_size * stripe_count l → good_header (decode_header l) ≡ true →
       stripe_count l ≤ max_slots → allowed_slots (with_holes (decode_header l)) (decode_layout l).slots ≡ true → accepted_layout l ≡ true
   accepted_from z k m t =
-      sym (accepted_slots (decode_header l) (stripe_count l) (slot_start l) (with_holes (decode_header l)) refl refl refl refl
-      (sym (exact_is (slot_start l) (stripe_count l) refl refl) ∙ eq-eqb (length l) (slot_start l + slot_size * stripe_count l) z) k m)
-      ∙ rw (drop_take_all (slot_start l) l, ← slots_are) t
+      accepted_rules (decode_header l) (stripe_count l) refl refl
+      (sym (exact_is (slot_start l) (stripe_count l) refl refl) ∙ eq-eqb (length l) (slot_start l + slot_size * stripe_count l) z)
+      ∙ rw (k, le-leb (stripe_count l) max_slots m, ← slots_are, t)
 
 -- what an accepted layout is
 pub record LayoutFacts (l : List ℕ) : Type 0 where
@@ -145,24 +147,46 @@ accepted_size l start n a b q = rw (b, q) (exact_size l (accepted_exact l a))
 -- ## The reader's answers
 
 module _ (l : List ℕ) where
-  pub read_refused : accepted_layout l ≡ false → Refused ≡ read_layout l
+  pub read_refused : accepted_layout l ≡ false → Err BadLayout ≡ read_layout l
   unfolding read_layout
   read_refused h = rw h
 
-  pub read_accepted : (h : Header) (n : ℕ) → accepted_layout l ≡ true → h ≡ decode_header l → n ≡ stripe_count l → Accepted h n ≡ read_layout l
+  pub read_accepted : (h : Header) (n : ℕ) → accepted_layout l ≡ true → h ≡ decode_header l → n ≡ stripe_count l → Ok (h, n) ≡ read_layout l
   unfolding read_layout
   read_accepted h n a p q = rw (a, p, q)
 
-  pub slot_bad : (j : ℕ) → accepted_layout l ≡ false → BadLayout ≡ read_slot l j
-  unfolding read_slot
-  slot_bad j h = rw h
+  -- what a layout that was read is
+  pub read_taken : (h : Header) (n : ℕ) → read_layout l ≡ Ok (h, n) → (accepted_layout l ≡ true) × (decode_header l ≡ h) × (stripe_count l ≡ n)
+  unfolding read_layout
+  read_taken h n = go (accepted_layout l) refl
+    where
+      go : (b : Bool) → accepted_layout l ≡ b → ◌≡◌ {A = Result (Header × ℕ) Refusal} (cond b (Ok (decode_header l, stripe_count l)) (Err BadLayout)) (Ok (h, n)) →
+          (accepted_layout l ≡ true) × (decode_header l ≡ h) × (stripe_count l ≡ n)
+      go true a e =
+          let p : ◌≡◌ {A = Header × ℕ} (decode_header l, stripe_count l) (h, n) = cc in
+          (a, ap (λ (x : Header × ℕ). x.0) p, ap (λ (x : Header × ℕ). x.1) p)
+      go false a e = cc
 
-  pub slot_past : (j n : ℕ) → accepted_layout l ≡ true → n ≡ stripe_count l → n ≤ j → NoSlot ≡ read_slot l j
+  -- and why one was not
+  pub read_bad : (e : Refusal) → read_layout l ≡ Err e → (accepted_layout l ≡ false) × (e ≡ BadLayout)
+  unfolding read_layout
+  read_bad r = go (accepted_layout l) refl
+    where
+      go : (b : Bool) → accepted_layout l ≡ b → ◌≡◌ {A = Result (Header × ℕ) Refusal} (cond b (Ok (decode_header l, stripe_count l)) (Err BadLayout)) (Err r) →
+          (accepted_layout l ≡ false) × (r ≡ BadLayout)
+      go true a e = cc
+      go false a e = (a, cc)
+
+  pub slot_bad : (j : ℕ) (e : Refusal) → read_layout l ≡ Err e → Err e ≡ read_slot l j
+  unfolding read_slot
+  slot_bad j e h = let b = read_bad e h in rw (b.0, b.1)
+
+  pub slot_past : (j n : ℕ) → accepted_layout l ≡ true → n ≡ stripe_count l → n ≤ j → Err NoPlace ≡ read_slot l j
   unfolding read_slot
   slot_past j n h q k = rw (h, ← q, le-ltb j n k)
 
   pub slot_is : (j n start : ℕ) (s : Slot) → accepted_layout l ≡ true → n ≡ stripe_count l → start ≡ slot_start l → j < n →
-      s ≡ slot_of (take (length l - start) (drop start l)) j → SlotIs s ≡ read_slot l j
+      s ≡ slot_of (take (length l - start) (drop start l)) j → Ok s ≡ read_slot l j
   unfolding read_slot
   slot_is j n start s h q b k e =
       rw (h, ← q, lt-ltb j n k, slots_are, ← q, ← b, slots_at n j (drop start l) Hole k, e, drop_take_all start l)
@@ -171,34 +195,41 @@ module _ (l : List ℕ) where
       b ≡ same_slot (slot_of (drop (slot_start l) l) j) s
   has_slot_is j start t s b e d q = rw (q, d, drop_take_all start l, e)
 
+  -- the 24 bytes of slot j, written over
+  pub placed : (start j : ℕ) (s : Slot) (part : List ℕ) → exact_length l ≡ true → start ≡ slot_start l → j < stripe_count l → part ≡ encode_slot s →
+      put_mid (start + slot_size * j) (start + slot_size * j + slot_size - (start + slot_size * j)) l part ≡ sets l (slot_start l + slot_size * j) (encode_slot s)
+  placed start j s part x b h e =
+      let at : ℕ = start + slot_size * j in
+      let z = exact_size l x in
+      ap (λ (y : List ℕ). put_mid at (at + slot_size - at) l y) e
+      ∙ put_sets at (at + slot_size) l (encode_slot s) (omega (arith, length_slot s)) (omega arith)
+      ∙ ap (λ (n : ℕ). sets l (n + slot_size * j) (encode_slot s)) b
+
   pub place_long : (j : ℕ) (s : Slot) (y : List ℕ) → exact_length l ≡ true → y ≡ sets l (slot_start l + slot_size * j) (encode_slot s) → plain_header ≤ length y
   place_long j s y x e = rw (e, length-sets l (slot_start l + slot_size * j) (encode_slot s)) (exact_long l x)
 
-  pub rewrite_bad : (j : ℕ) (s : Slot) → (accepted_layout l && allowed_slot (with_holes (decode_header l)) s) ≡ false →
-      (13 ≡ rewrite_answer l j s) × (l ≡ rewrite_bytes l j s)
+  pub rewrite_bad : (j : ℕ) (s : Slot) (e : Refusal) → read_layout l ≡ Err e → (number e ≡ rewrite_answer l j s) × (l ≡ rewrite_bytes l j s)
   unfolding rewrite_answer rewrite_bytes
-  rewrite_bad j s h = (rw h, rw h)
+  rewrite_bad j s e h = let b = read_bad e h in (rw (b.0, b.1), rw (b.0))
 
-  pub rewrite_past : (j n : ℕ) (s : Slot) → (accepted_layout l && allowed_slot (with_holes (decode_header l)) s) ≡ true → n ≡ stripe_count l → n ≤ j →
-      (16 ≡ rewrite_answer l j s) × (l ≡ rewrite_bytes l j s)
-  unfolding rewrite_answer rewrite_bytes
-  rewrite_past j n s h q k = (rw (h, ← q, le-ltb j n k), rw (h, ← q, le-ltb j n k))
+  module _ (j n : ℕ) (s : Slot) (h : Header) (holes : Bool) (e : read_layout l ≡ Ok (h, n)) (w : holes ≡ with_holes h) where
+    pub rewrite_unfit : false ≡ allowed_slot holes s → (13 ≡ rewrite_answer l j s) × (l ≡ rewrite_bytes l j s)
+    unfolding rewrite_answer rewrite_bytes
+    rewrite_unfit t = let a = read_taken h n e in (rw (a.0, a.1, ← w, ← t), rw (a.0, a.1, ← w, ← t))
 
-  pub rewrite_done : (j n : ℕ) (s : Slot) (m : List ℕ) → (accepted_layout l && allowed_slot (with_holes (decode_header l)) s) ≡ true → n ≡ stripe_count l →
-      j < n → m ≡ encode_layout (changed (decode_layout l) j s) →
-      (0 ≡ rewrite_answer l j s) × (m ≡ rewrite_bytes l j s)
-  unfolding rewrite_answer rewrite_bytes
-  rewrite_done j n s m h q k e = (rw (h, ← q, lt-ltb j n k), rw (h, ← q, lt-ltb j n k, e))
+    module _ (t : true ≡ allowed_slot holes s) where
+      pub rewrite_past : n ≤ j → (16 ≡ rewrite_answer l j s) × (l ≡ rewrite_bytes l j s)
+      unfolding rewrite_answer rewrite_bytes
+      rewrite_past k =
+          let a = read_taken h n e in
+          (rw (a.0, a.1, ← w, ← t, a.2, le-ltb j n k), rw (a.0, a.1, ← w, ← t, a.2, le-ltb j n k))
 
-  pub may_bad : (s : Slot) → accepted_layout l ≡ false → false ≡ (accepted_layout l && allowed_slot (with_holes (decode_header l)) s)
-  may_bad s h = rw h
-
-  pub may_slot : (s : Slot) (h : Header) (holes b : Bool) → accepted_layout l ≡ true → h ≡ decode_header l → holes ≡ with_holes h → b ≡ allowed_slot holes s →
-      b ≡ (accepted_layout l && allowed_slot (with_holes (decode_header l)) s)
-  may_slot s h holes b a e w t = rw (a, t, w, e)
-
-  pub may_accepted : (s : Slot) → (accepted_layout l && allowed_slot (with_holes (decode_header l)) s) ≡ true → accepted_layout l ≡ true
-  may_accepted s h = and_first (accepted_layout l) (allowed_slot (with_holes (decode_header l)) s) h
+      pub rewrite_done : (m : List ℕ) → j < n → m ≡ encode_layout (changed (decode_layout l) j s) →
+          (0 ≡ rewrite_answer l j s) × (m ≡ rewrite_bytes l j s)
+      unfolding rewrite_answer rewrite_bytes
+      rewrite_done m k q =
+          let a = read_taken h n e in
+          (rw (a.0, a.1, ← w, ← t, a.2, lt-ltb j n k), rw (a.0, a.1, ← w, ← t, a.2, lt-ltb j n k, q))
 
 -- ## Read and written
 

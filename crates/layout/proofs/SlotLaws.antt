@@ -2,15 +2,17 @@
 use mathlib.Core.Path.{◌≡◌, refl, sym, ap, ◌∙◌}
 use mathlib.Core.List.{List, [], ◌∷◌, ◌++◌, append_assoc, append-nil}
 use mathlib.Core.Bool.{Bool, true, false, cond, ◌&&◌}
-use Prim.Native.Nat.{ℕ, zero, suc, ◌+◌, ◌-◌, ◌*◌, ◌≤◌, ◌<◌, ◌^◌}
-use borrow.Author.Tests.{eq-eqb, ne_eqb, eqb-true}
+use Prim.Native.Nat.{ℕ, zero, suc, ◌+◌, ◌-◌, ◌*◌, ◌/◌, ◌≤◌, ◌<◌, ◌^◌}
+use borrow.Author.Tests.{ne_eqb, eqb-true}
 use native.Mathlib.Omega.{arith}
-use native.Mathlib.Nat.{mod-eq_of_lt, not-suc-le-zero, sub-zero}
+use Rattle.std.proofs.lemmas.List.{drop-take}
+use native.Mathlib.Nat.{mod-eq_of_lt, not-suc-le-zero}
 use lib.Dec.{eqb, leb}
 use lib.ListN.{length, take, drop, set, get_or, length-append, length-drop, replicate}
 use lib.Seq.{sets, drop-drop, take-add, drop_at}
 use Rattle.wire.specs.Numbers.{le, bytes}
 use Rattle.wire.proofs.Both.{and_first, and_second}
+use Rattle.wire.proofs.Chunks.{part_of, PartsTested}
 use Rattle.wire.proofs.Splice.{sets_at, sets_whole, sets_mid}
 use Rattle.wire.proofs.NumberLaws.{Bytes, bytes_drop, bytes_le, length_bytes, le_bytes, le_small_at}
 use Rattle.fid.specs.Fid.{decode_fid, encode_fid, good_object}
@@ -28,22 +30,6 @@ module _ (f : Fid) (g i : ℕ) where
   unfolding zero_slot
   zero_seq h = simp (ne_eqb _ _ h)
 
-  pub zero_oid : f.seq ≡ 0 → (f.oid ≡ 0 → ⊥) → false ≡ zero_slot f g i
-  unfolding zero_slot
-  zero_oid h k = simp (eq-eqb _ _ h, ne_eqb _ _ k)
-
-  pub zero_ver : f.seq ≡ 0 → f.oid ≡ 0 → (f.ver ≡ 0 → ⊥) → false ≡ zero_slot f g i
-  unfolding zero_slot
-  zero_ver h k v = simp (eq-eqb _ _ h, eq-eqb _ _ k, ne_eqb _ _ v)
-
-  pub zero_generation : f.seq ≡ 0 → f.oid ≡ 0 → f.ver ≡ 0 → (g ≡ 0 → ⊥) → false ≡ zero_slot f g i
-  unfolding zero_slot
-  zero_generation h k v m = simp (eq-eqb _ _ h, eq-eqb _ _ k, eq-eqb _ _ v, ne_eqb _ _ m)
-
-  pub zero_index : f.seq ≡ 0 → f.oid ≡ 0 → f.ver ≡ 0 → g ≡ 0 → eqb i 0 ≡ zero_slot f g i
-  unfolding zero_slot
-  zero_index h k v m = simp (eq-eqb _ _ h, eq-eqb _ _ k, eq-eqb _ _ v, eq-eqb _ _ m)
-
   -- the slot of three numbers that were read at slot j's place
   pub slot_hole : (area : List ℕ) (j : ℕ) → f ≡ decode_fid (drop (slot_size * j) area) → g ≡ le 4 (drop (slot_size * j + slot_generation_at) area) →
       i ≡ le 4 (drop (slot_size * j + slot_index_at) area) → zero_slot f g i ≡ true → Hole ≡ slot_of area j
@@ -54,15 +40,6 @@ module _ (f : Fid) (g i : ℕ) where
       i ≡ le 4 (drop (slot_size * j + slot_index_at) area) → zero_slot f g i ≡ false → Names (record { 0 = f }) g i ≡ slot_of area j
   unfolding slot_of decode_slot slot_from
   slot_names_lem area j p q r h = rw (drop-drop slot_generation_at (slot_size * j) area, drop-drop slot_index_at (slot_size * j) area, ← p, ← q, ← r, h)
-
-module _ (holes : Bool) (f : OstFid) (g i : ℕ) where
-  pub allowed_bad : good_object f ≡ false → false ≡ allowed_slot holes (Names f g i)
-  unfolding allowed_slot
-  allowed_bad h = rw h
-
-  pub allowed_index : good_object f ≡ true → leb i max_index ≡ allowed_slot holes (Names f g i)
-  unfolding allowed_slot
-  allowed_index h = rw h
 
 -- ## The bytes of a slot
 
@@ -253,32 +230,65 @@ slots_read_back holes (s ∷ ss) r h t =
     )
     (ap (λ (l : List Slot). s ∷ l) (slots_read_back holes ss r h.1 (rw (and_first (allowed_slot holes s) (allowed_slots holes ss) t) at t)))
 
--- ## The test of all slots, from slot j on
+-- ## The test of all slots
 
-pub allowed_from : Bool → List ℕ → ℕ → ℕ → Bool
-allowed_from holes area n j = allowed_slots holes (decode_slots (n - j) (drop (slot_size * j) area))
+allowed_all : (holes : Bool) (area : List ℕ) (n : ℕ) → ((k : ℕ) → k < n → allowed_slot holes (slot_of area k) ≡ true) →
+    allowed_slots holes (decode_slots n area) ≡ true
+unfolding decode_slots allowed_slots slot_of
+allowed_all holes area zero h = refl
+allowed_all holes area (suc n) h =
+    let later : (k : ℕ) → k < n → allowed_slot holes (slot_of (drop slot_size area) k) ≡ true =
+    λ k l. let m : slot_size * suc k ≡ slot_size + slot_size * k = omega arith in
+    rw (drop-drop (slot_size * k) slot_size area, ← m) (h (suc k) (omega arith)) in
+    rw (h 0 (omega arith), allowed_all holes (drop slot_size area) n later)
 
-module _ (holes : Bool) (area : List ℕ) (n : ℕ) where
-  pub allowed_start : allowed_slots holes (decode_slots n area) ≡ allowed_from holes area n 0
-  unfolding allowed_from
-  allowed_start = rw sub-zero
+allowed_each : (holes : Bool) (area : List ℕ) (n : ℕ) → allowed_slots holes (decode_slots n area) ≡ true →
+    (k : ℕ) → k < n → allowed_slot holes (slot_of area k) ≡ true
+unfolding decode_slots allowed_slots slot_of
+allowed_each holes area zero e k h = absurd (not-suc-le-zero h)
+allowed_each holes area (suc n) e zero h = and_first (allowed_slot holes (decode_slot area)) (allowed_slots holes (decode_slots n (drop slot_size area))) e
+allowed_each holes area (suc n) e (suc k) h =
+    let m : slot_size * suc k ≡ slot_size + slot_size * k = omega arith in
+    rw (m, ← drop-drop (slot_size * k) slot_size area)
+    (allowed_each holes (drop slot_size area) n (and_second (allowed_slot holes (decode_slot area)) (allowed_slots holes (decode_slots n (drop slot_size area))) e) k (omega arith))
 
-  allowed_step : (j : ℕ) → j < n → allowed_from holes area n j ≡ (allowed_slot holes (slot_of area j) && allowed_from holes area n (j + 1))
-  unfolding allowed_from decode_slots allowed_slots slot_of
-  allowed_step j h =
-      let e : n - j ≡ suc (n - (j + 1)) = omega arith in
-      let m : slot_size * (j + 1) ≡ slot_size * j + slot_size = omega arith in
-      rw (e, drop-drop slot_size (slot_size * j) area, m)
+-- the slot of a part of 24 bytes
+le_part : (n m : ℕ) (l : List ℕ) → n ≤ m → le n (take m l) ≡ le n l
+unfolding le
+le_part zero m l h = refl
+le_part (suc n) zero l h = absurd (not-suc-le-zero h)
+le_part (suc n) (suc m) [] h = refl
+le_part (suc n) (suc m) (b ∷ l) h = ap (λ v. b + 256 * v) (le_part n m l (omega arith))
 
-  pub allowed_end : (j : ℕ) → allowed_slots holes (decode_slots n area) ≡ allowed_from holes area n j → n ≤ j →
-      true ≡ allowed_slots holes (decode_slots n area)
-  unfolding allowed_from decode_slots allowed_slots
-  allowed_end j i h = let e : n - j ≡ 0 = omega arith in rw (i, e)
+le_in : (k n m : ℕ) (l : List ℕ) → k + n ≤ m → le n (drop k (take m l)) ≡ le n (drop k l)
+le_in k n m l h =
+    let e : m ≡ k + (m - k) = omega arith in
+    ap (λ (j : ℕ). le n (drop k (take j l))) e ∙ ap (le n) (drop-take k (m - k) l) ∙ le_part n (m - k) (drop k l) (omega arith)
 
-  module _ (j : ℕ) (s : Slot) (b : Bool) (i : allowed_slots holes (decode_slots n area) ≡ allowed_from holes area n j) (h : j < n)
-      (e : s ≡ slot_of area j) (t : b ≡ allowed_slot holes s) where
-    pub allowed_stop : b ≡ false → false ≡ allowed_slots holes (decode_slots n area)
-    allowed_stop z = rw (i, allowed_step j h, ← e, ← t, z)
+slot_part : (area : List ℕ) (k : ℕ) → slot_of (part_of slot_size area k) 0 ≡ slot_of area k
+unfolding slot_of decode_slot decode_fid part_of
+slot_part area k =
+    let l : List ℕ = drop (k * slot_size) area in
+    let m : k * slot_size ≡ slot_size * k = omega arith in
+    rw (
+      le_part 8 slot_size l (omega arith),
+      le_in 8 4 slot_size l (omega arith),
+      le_in 12 4 slot_size l (omega arith),
+      le_in 16 4 slot_size l (omega arith),
+      le_in 20 4 slot_size l (omega arith),
+      m,
+    )
 
-    pub allowed_next : b ≡ true → allowed_slots holes (decode_slots n area) ≡ allowed_from holes area n (j + 1)
-    allowed_next z = rw (i, allowed_step j h, ← e, ← t, z)
+-- a test that is true exactly where the slot of each part is allowed
+pub allowed_tests : (holes : Bool) (area : List ℕ) (b : Bool) → PartsTested slot_size area (λ part. allowed_slot holes (slot_of part 0)) b →
+    b ≡ allowed_slots holes (decode_slots (length area / slot_size) area)
+allowed_tests holes area b w = go b (allowed_slots holes (decode_slots n area)) refl w
+  where
+    n : ℕ
+    n = length area / slot_size
+
+    go : (b a : Bool) → allowed_slots holes (decode_slots n area) ≡ a → PartsTested slot_size area (λ part. allowed_slot holes (slot_of part 0)) b →
+        b ≡ allowed_slots holes (decode_slots n area)
+    go true a e w = sym (allowed_all holes area n (λ k h. rw (slot_part area k) at (w.all refl k h)))
+    go false true e w = absurd (w.not_all refl (λ k h. rw (slot_part area k) (allowed_each holes area n e k h)))
+    go false false e w = sym e

@@ -3,19 +3,18 @@ use mathlib.Core.Path.{◌≡◌, refl, sym, ap}
 use mathlib.Core.List.{List, [], ◌∷◌}
 use mathlib.Core.Bool.{Bool, true, false, cond, ◌&&◌}
 use Prim.Native.Nat.{ℕ, zero, suc, ◌+◌, ◌<◌}
-use borrow.Author.Tests.{eq-eqb, ne_eqb, eqb-true}
+use borrow.Author.Tests.{eq-eqb, eqb-true}
 use native.Mathlib.Omega.{arith}
 use lib.Dec.{eqb}
 use lib.ListN.{length, get_or, set}
 use Rattle.wire.proofs.Both.{and_first, and_second}
 use Rattle.fid.specs.Fid.{same_fid}
 use Rattle.fid.proofs.SameLaws.{same_self, same_is}
-use Rattle.fid.specs.declared.OstFid.{OstFid}
-use Rattle.layout.specs.declared.Header.{Header}
+use Rattle.layout.specs.contracts.SlotPartialEq.TheImpl as derived
 use Rattle.layout.specs.declared.Slot.{Slot}
 use Rattle.layout.specs.declared.Slot.TheVariants.{Hole, Names}
 use Rattle.layout.specs.Slot.{same_slot, same_slots}
-use Rattle.layout.specs.Layout.{Layout, last_generation, generations, next_generation, at_generation, generation_with, restriped, raised}
+use Rattle.layout.specs.Layout.{Layout, last_generation, generations, next_generation, at_generation, generation_with, restriped}
 
 -- ## Slots that are the same
 
@@ -37,19 +36,19 @@ slot_same (Names f g i) (Names h n k) e =
     let ei = eqb-true i k (and_second (a && eqb g n) (eqb i k) e) in
     λ j. Names (record { 0 = ef j }) (eg j) (ei j)
 
--- a slot beside one that names an object, number by number
-module _ (s : Slot) (h f : OstFid) (n k g i : ℕ) (is : s ≡ Names h n k) where
-  pub named_fid : same_fid h.0 f.0 ≡ false → false ≡ same_slot s (Names f g i)
-  unfolding same_slot
-  named_fid e = rw (is, e)
+parts : (a b c d e : Bool) → (a && (b && c) && (d && e)) ≡ (a && b && c && d && e)
+parts true true true d e = refl
+parts true true false d e = refl
+parts true false c d e = refl
+parts false b c d e = refl
 
-  pub named_generation : same_fid h.0 f.0 ≡ true → (n ≡ g → ⊥) → false ≡ same_slot s (Names f g i)
-  unfolding same_slot
-  named_generation e d = rw (is, e, ne_eqb n g d)
-
-  pub named_index : same_fid h.0 f.0 ≡ true → n ≡ g → eqb k i ≡ same_slot s (Names f g i)
-  unfolding same_slot
-  named_index e d = rw (is, e, eq-eqb n g d)
+-- `==` on slots is this test
+pub slots_equal : (s t : Slot) → (derived.ghosts).eq s t ≡ same_slot s t
+unfolding same_slot same_fid
+slots_equal Hole Hole = refl
+slots_equal Hole (Names f g i) = refl
+slots_equal (Names f g i) Hole = refl
+slots_equal (Names f g i) (Names h n k) = parts (eqb f.0.seq h.0.seq) (eqb f.0.oid h.0.oid) (eqb f.0.ver h.0.ver) (eqb g n) (eqb i k)
 
 pub slots_self : (ss : List Slot) → same_slots ss ss ≡ true
 unfolding same_slots
@@ -97,19 +96,6 @@ next_small g h = go (eqb g last_generation) refl
     go : (b : Bool) → eqb g last_generation ≡ b → cond b 0 (g + 1) < generations
     go true e = omega arith
     go false e = let n = off e in omega arith
-
-pub next_last : (g : ℕ) → g ≡ last_generation → 0 ≡ next_generation g
-unfolding next_generation
-next_last g e = rw (eq-eqb g last_generation e)
-
-pub next_more : (g : ℕ) → (g ≡ last_generation → ⊥) → g + 1 ≡ next_generation g
-unfolding next_generation
-next_more g e = rw (ne_eqb g last_generation e)
-
-pub raised_is : (h : Header) (g : ℕ) → g ≡ next_generation h.generation →
-    ◌≡◌ {A = Header} (record { magic = h.magic; pattern = h.pattern; oid = h.oid; seq = h.seq; stripe = h.stripe; generation = g }) (raised h)
-unfolding raised at_generation
-raised_is h g e = λ i. record { magic = h.magic; pattern = h.pattern; oid = h.oid; seq = h.seq; stripe = h.stripe; generation = e i }
 
 module _ (L : Layout) (ss : List Slot) where
   -- the same slots leave the layout as it is

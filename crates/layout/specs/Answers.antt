@@ -1,35 +1,32 @@
 -- What the readers and the slot rewrite answer and leave in the lent bytes, refusals first.
-use Rattle.std.specs.Prelude.{ℕ, ◌+◌, ◌*◌, ◌≡◌, List, Bool, false, cond, ◌&&◌, ◌||◌, length, get_or, leb, ltb, eqb}
+use Rattle.std.specs.Prelude.{ℕ, ◌+◌, ◌*◌, ◌≡◌, List, Bool, false, cond, ◌&&◌, ◌||◌, length, get_or, leb, ltb, eqb, Result, Ok, Err}
+use Rattle.refusals.specs.Numbers.{answer}
+use Rattle.refusals.specs.declared.Refusal.{Refusal}
+use Rattle.refusals.specs.declared.Refusal.TheVariants.{BadLayout, NoPlace}
 use Rattle.layout.specs.Slot.{slot_size, allowed_slot}
 use Rattle.layout.specs.Layout.{generation_at, slot_start, decode_header, decode_layout, encode_layout, changed, accepted_layout, stripe_count, with_holes}
+use Rattle.layout.specs.declared.Header.{Header}
 use Rattle.layout.specs.declared.Slot.{Slot}
 use Rattle.layout.specs.declared.Slot.TheVariants.{Hole}
-use Rattle.layout.specs.declared.Reading.{Reading}
-use Rattle.layout.specs.declared.Reading.TheVariants.{Refused, Accepted}
-use Rattle.layout.specs.declared.SlotRead.{SlotRead}
-use Rattle.layout.specs.declared.SlotRead.TheVariants.{BadLayout, NoSlot, SlotIs}
 
 -- ## The reader
 
 -- header and stripe count of a layout that the rules accept
-unfoldable pub read_layout : List ℕ → Reading
-read_layout l = cond (accepted_layout l) (Accepted (decode_header l) (stripe_count l)) Refused
+unfoldable pub read_layout : List ℕ → Result (Header × ℕ) Refusal
+read_layout l = cond (accepted_layout l) (Ok (decode_header l, stripe_count l)) (Err BadLayout)
 
 -- "13: layout not as above"
-unfoldable pub read_number : Reading → ℕ
-read_number Refused = 13
-read_number (Accepted h n) = 0
+unfoldable pub read_number : Result (Header × ℕ) Refusal → ℕ
+read_number = answer
 
 -- ## The slot reader
 
 -- "A slot at or past the count is 16, after 13"
-unfoldable pub read_slot : List ℕ → ℕ → SlotRead
-read_slot l j = cond (accepted_layout l) (cond (ltb j (stripe_count l)) (SlotIs (get_or (decode_layout l).slots j Hole)) NoSlot) BadLayout
+unfoldable pub read_slot : List ℕ → ℕ → Result Slot Refusal
+read_slot l j = cond (accepted_layout l) (cond (ltb j (stripe_count l)) (Ok (get_or (decode_layout l).slots j Hole)) (Err NoPlace)) (Err BadLayout)
 
-unfoldable pub slot_read_number : SlotRead → ℕ
-slot_read_number BadLayout = 13
-slot_read_number NoSlot = 16
-slot_read_number (SlotIs s) = 0
+unfoldable pub slot_read_number : Result Slot Refusal → ℕ
+slot_read_number = answer
 
 -- ## The slot rewrite
 

@@ -1,23 +1,21 @@
 // Striping layouts, version 1 and 3: reader, slot reader and slot rewrite, and the pieces that the writer is made of.
 #![tactic(auto)]
 
-ghost use Rattle.std.specs.Prelude.{◌≡◌, true, ◌&&◌, ◌+◌, ◌*◌, ◌≤◌, ◌<◌, length, drop};
+ghost use Rattle.std.specs.Prelude.{◌≡◌, true, ◌&&◌, ◌+◌, ◌*◌, ◌/◌, ◌≤◌, ◌<◌, length, drop};
 ghost use Rattle.std.proofs.lemmas.List.Edits.{sets};
+ghost use Rattle.refusals.specs.Numbers.{answer};
 ghost use Rattle.layout.specs.Slot.{slot_size, zero_slot, slot_of, encode_slot, decode_slots, allowed_slot, allowed_slots, slot_names, same_slot};
-ghost use Rattle.layout.specs.declared.Slot.TheVariants.{Hole, Names};
 ghost use Rattle.layout.specs.Layout.{plain_header, stripe_count_at, header_size, decode_header, encode_header, decode_layout, encode_layout, next_generation, raised, changed, stripe_count, slot_start, known_version, known_pattern, possible_stripe, good_header, with_holes, exact_length, accepted_layout};
 ghost use Rattle.layout.specs.Answers.{read_layout, read_slot, rewrite_answer, rewrite_bytes};
 
 use fid::{FID_SIZE, Fid, OstFid};
+use refusals::Refusal;
 
 // The greatest number of slots.
 pub const MAX_SLOTS: usize = 2000;
 
 // The greatest OST index.
 pub const MAX_INDEX: u32 = 65535;
-
-// The greatest generation of a layout.
-const LAST_GENERATION: u16 = 65535;
 
 pub const MAGIC_ONE: u32 = 0x0bd1_0bd0;
 
@@ -62,14 +60,15 @@ pub const HOLE_PATTERN: u32 = 0x4000_0001;
 const STRIPE_UNIT: u32 = 65536;
 
 // One stripe: a hole, or an object's FID, the generation and the OST index.
-#[derive(Clone, Copy)]
+// No Option: document 01 speaks of slots that are holes, and an Option here says that there is no such slot.
+#[derive(Clone, Copy, Debug, PartialEq, Eq)]
 pub enum Slot {
     Hole,
     Names(OstFid, u32, u32),
 }
 
 // What a header says, the stripe count aside: magic, pattern, own id and own sequence, stripe size, generation.
-#[derive(Clone, Copy)]
+#[derive(Clone, Copy, Debug, PartialEq, Eq)]
 pub struct Header {
     pub magic: u32,
     pub pattern: u32,
@@ -79,38 +78,11 @@ pub struct Header {
     pub generation: u16,
 }
 
-// What the reader says: refused, or the header and the stripe count.
-#[derive(Clone, Copy)]
-pub enum Reading {
-    Refused,
-    Accepted(Header, u16),
-}
-
-// What the slot reader says.
-#[derive(Clone, Copy)]
-pub enum SlotRead {
-    BadLayout,
-    NoSlot,
-    SlotIs(Slot),
-}
-
 // Whether the five numbers of a slot are all zero.
 fn is_zero_slot(f: Fid, g: u32, i: u32) -> bool
     ensures { result ≡ zero_slot f g i }
 {
-    if f.seq != 0 {
-        return false;
-    }
-    if f.oid != 0 {
-        return false;
-    }
-    if f.ver != 0 {
-        return false;
-    }
-    if g != 0 {
-        return false;
-    }
-    i == 0
+    f.seq == 0 && f.oid == 0 && f.ver == 0 && g == 0 && i == 0
 }
 
 // Slot j of the slot area, the part of a layout after its header.
@@ -139,71 +111,22 @@ pub fn names(s: Slot, f: OstFid) -> bool
     }
 }
 
-// Whether a slot is the one that names this object with this generation and OST index.
-fn is_named(s: Slot, f: OstFid, g: u32, i: u32) -> bool
-    ensures { result ≡ same_slot s (Names f g i) }
-{
-    match s {
-        Slot::Hole => false,
-        Slot::Names(h, n, k) => {
-            if !fid::same_ost(h, f) {
-                return false;
-            }
-            if n != g {
-                return false;
-            }
-            k == i
-        }
-    }
-}
-
-// Whether a slot is a hole.
-fn is_hole(s: Slot) -> bool
-    ensures { result ≡ same_slot s Hole }
-{
-    match s {
-        Slot::Hole => true,
-        Slot::Names(_, _, _) => false,
-    }
-}
-
-// Whether two slots are the same.
-fn same_slot(s: Slot, t: Slot) -> bool
-    ensures { result ≡ same_slot s t }
-{
-    match t {
-        Slot::Hole => is_hole(s),
-        Slot::Names(f, g, i) => is_named(s, f, g, i),
-    }
-}
-
 // Whether a slot may stand in a layout, with or without the hole pattern.
 pub fn allowed_slot(holes: bool, s: Slot) -> bool
     ensures { result ≡ allowed_slot holes s }
 {
     match s {
         Slot::Hole => holes,
-        Slot::Names(f, _, i) => {
-            if !fid::good_object(f) {
-                return false;
-            }
-            i <= MAX_INDEX
-        }
+        Slot::Names(f, _, i) => fid::good_object(f) && i <= MAX_INDEX,
     }
 }
 
-// Whether each of the first slots of a slot area is allowed.
-fn allowed_slots(area: &[u8], count: usize, holes: bool) -> bool
-    requires { slot_size * count ≤ length area.now }
-    ensures { result ≡ allowed_slots holes (decode_slots count area.now) }
+// Whether each slot of a slot area is allowed.
+fn allowed_slots(area: &[u8], holes: bool) -> bool
+    ensures { result ≡ allowed_slots holes (decode_slots (length area.now / slot_size) area.now) }
 {
-    for j in 0..count {
-        let s = slot_at(area, j);
-        if !allowed_slot(holes, s) {
-            return false;
-        }
-    }
-    true
+    area.chunks_exact(SLOT_SIZE)
+        .all(|part| allowed_slot(holes, slot_at(part, 0)))
 }
 
 // Writes a slot over the 24 bytes that it is lent.
@@ -272,43 +195,28 @@ pub fn read_header(layout: &[u8]) -> Header
 fn known_version(h: Header) -> bool
     ensures { result ≡ known_version h }
 {
-    if h.magic == MAGIC_ONE {
-        return true;
-    }
-    h.magic == MAGIC_THREE
+    h.magic == MAGIC_ONE || h.magic == MAGIC_THREE
 }
 
 // Whether the pattern is known.
 fn known_pattern(h: Header) -> bool
     ensures { result ≡ known_pattern h }
 {
-    if h.pattern == PLAIN_PATTERN {
-        return true;
-    }
-    h.pattern == HOLE_PATTERN
+    h.pattern == PLAIN_PATTERN || h.pattern == HOLE_PATTERN
 }
 
 // Whether a stripe size is possible: above 0, and a multiple of 65,536.
 fn possible_stripe(size: u32) -> bool
     ensures { result ≡ possible_stripe size }
 {
-    if size % STRIPE_UNIT != 0 {
-        return false;
-    }
-    0 < size
+    0 < size && size % STRIPE_UNIT == 0
 }
 
 // Whether a header meets the rules on it: magic and pattern are known, and the stripe size is possible.
 pub fn good_header(h: Header) -> bool
     ensures { result ≡ good_header h }
 {
-    if !known_version(h) {
-        return false;
-    }
-    if !known_pattern(h) {
-        return false;
-    }
-    possible_stripe(h.stripe)
+    known_version(h) && known_pattern(h) && possible_stripe(h.stripe)
 }
 
 // Whether the pattern allows holes.
@@ -330,14 +238,11 @@ fn exact_length(layout: &[u8]) -> bool
     layout.len() == h + SLOT_SIZE * n
 }
 
-// The generation after this one.
+// The generation after this one: after the last, 0.
 fn next_generation(g: u16) -> u16
     ensures { result ≡ next_generation g }
 {
-    if g == LAST_GENERATION {
-        return 0;
-    }
-    g + 1
+    g.wrapping_add(1)
 }
 
 // The header of a layout whose slots have changed.
@@ -345,33 +250,9 @@ pub fn raised(h: Header) -> Header
     ensures { result ≡ raised h }
 {
     Header {
-        magic: h.magic,
-        pattern: h.pattern,
-        oid: h.oid,
-        seq: h.seq,
-        stripe: h.stripe,
         generation: next_generation(h.generation),
+        ..h
     }
-}
-
-// Whether slot j of a layout of exact length is this one.
-fn has_slot(layout: &[u8], j: usize, s: Slot) -> bool
-    requires { (exact_length layout.now ≡ true) × (j < stripe_count layout.now) }
-    ensures { result ≡ same_slot (slot_of (drop (slot_start layout.now) layout.now) j) s }
-{
-    let start = slot_start(layout);
-    same_slot(slot_at(&layout[start..], j), s)
-}
-
-// Writes slot j of a layout of exact length: the slot's 24 bytes are lent to the slot writer.
-fn place_slot(layout: &mut [u8], j: usize, s: Slot)
-    requires { (exact_length layout.old ≡ true) × (j < stripe_count layout.old) }
-    ensures { layout.new ≡ sets layout.old (slot_start layout.old + slot_size * j) (encode_slot s) }
-{
-    let start = slot_start(layout);
-    let a = start + SLOT_SIZE * j;
-    let e = a + SLOT_SIZE;
-    put_slot(&mut layout[a..e], s);
 }
 
 // Changes slot j of a layout of exact length in place, and raises the generation, unless the slot is this one already.
@@ -379,11 +260,14 @@ pub fn change_slot(layout: &mut [u8], j: usize, s: Slot)
     requires { (exact_length layout.old ≡ true) × (j < stripe_count layout.old) }
     ensures { layout.new ≡ encode_layout (changed (decode_layout layout.old) j s) }
 {
-    if has_slot(layout, j, s) {
+    let start = slot_start(layout);
+    if slot_at(&layout[start..], j) == s {
         return;
     }
     let g = wire::le16(layout, GENERATION_AT);
-    place_slot(layout, j, s);
+    let a = start + SLOT_SIZE * j;
+    let e = a + SLOT_SIZE;
+    put_slot(&mut layout[a..e], s);
     wire::put_le16(layout, GENERATION_AT, next_generation(g));
 }
 
@@ -395,66 +279,47 @@ pub fn accepted(layout: &[u8]) -> bool
         return false;
     }
     let h = read_header(layout);
-    if !good_header(h) {
-        return false;
-    }
     let n = stripe_count(layout) as usize;
-    if MAX_SLOTS < n {
-        return false;
-    }
     let start = slot_start(layout);
-    allowed_slots(&layout[start..], n, with_holes(h))
+    good_header(h) && n <= MAX_SLOTS && allowed_slots(&layout[start..], with_holes(h))
 }
 
 // Reads a layout: its header and stripe count, or 13.
-pub fn read(layout: &[u8]) -> Reading
+pub fn read(layout: &[u8]) -> Result<(Header, u16), Refusal>
     ensures { result ≡ read_layout layout.now }
 {
     if !accepted(layout) {
-        return Reading::Refused;
+        return Err(Refusal::BadLayout);
     }
-    Reading::Accepted(read_header(layout), stripe_count(layout))
+    Ok((read_header(layout), stripe_count(layout)))
 }
 
 // Reads slot j of a layout: 13 for the layout, then 16 for the index.
-pub fn read_slot(layout: &[u8], j: usize) -> SlotRead
+pub fn read_slot(layout: &[u8], j: usize) -> Result<Slot, Refusal>
     ensures { result ≡ read_slot layout.now j }
 {
-    if !accepted(layout) {
-        return SlotRead::BadLayout;
-    }
-    let n = stripe_count(layout) as usize;
-    if n <= j {
-        return SlotRead::NoSlot;
+    let (_, count) = read(layout)?;
+    if count as usize <= j {
+        return Err(Refusal::NoPlace);
     }
     let start = slot_start(layout);
-    SlotRead::SlotIs(slot_at(&layout[start..], j))
-}
-
-// Whether a slot may be written into a layout.
-fn may_rewrite(layout: &[u8], s: Slot) -> bool
-    ensures { result ≡ (accepted_layout layout.now && allowed_slot (with_holes (decode_header layout.now)) s) }
-{
-    if !accepted(layout) {
-        return false;
-    }
-    allowed_slot(with_holes(read_header(layout)), s)
+    Ok(slot_at(&layout[start..], j))
 }
 
 // Rewrites slot j of a layout in place: 13, then 16, and with both nothing is written.
-pub fn rewrite(layout: &mut [u8], j: usize, s: Slot) -> u32
-    ensures answer { result ≡ rewrite_answer layout.old j s }
+pub fn rewrite(layout: &mut [u8], j: usize, s: Slot) -> Result<(), Refusal>
+    ensures answer { answer result ≡ rewrite_answer layout.old j s }
     ensures bytes { layout.new ≡ rewrite_bytes layout.old j s }
 {
-    if !may_rewrite(layout, s) {
-        return 13;
+    let (h, count) = read(layout)?;
+    if !allowed_slot(with_holes(h), s) {
+        return Err(Refusal::BadLayout);
     }
-    let n = stripe_count(layout) as usize;
-    if n <= j {
-        return 16;
+    if count as usize <= j {
+        return Err(Refusal::NoPlace);
     }
     change_slot(layout, j, s);
-    0
+    Ok(())
 }
 
 // Writes a header with a stripe count over the first bytes.

@@ -8,7 +8,7 @@ use Rattle.fid.specs.Fid.{encode_fid, good_sequence, good_number, good_fid, good
 use Rattle.layout.specs.declared.Header.{Header}
 use Rattle.layout.specs.Slot.{encode_slot, encode_slots, allowed_slot, allowed_slots}
 use Rattle.layout.specs.Layout.{magic_one, plain_pattern, header_size, encode_header, encode_layout, known_version, known_pattern, possible_stripe, good_header, with_holes, few_slots, layout_size, layout_rules}
-use Rattle.layout_write.specs.declared.Written.TheVariants.{Bytes as Wrote}
+use Rattle.std.specs.Prelude.{Ok}
 use Rattle.layout_write.specs.Writer.{zero_given, names_given, given_from, given_at, is_slot, slot_given, given_slots, all_given, given_layout, writable, write_layout, left_by, write_bytes}
 
 -- P's header: version 1, no holes, own id and sequence those of P = [0x200000401:1:0], stripe size 1,048,576, generation 0
@@ -27,6 +27,6 @@ E2 =
     0 ∷ 0 ∷ 0 ∷ 0 ∷ 3 ∷ 0 ∷ 0 ∷ 0 ∷ []
 
 -- written over 58 bytes, it leaves the last two
-pub E2-written : (write_layout header 1 [] numbers (replicate 58 7) ≡ Wrote 56) × (write_bytes header 1 [] numbers (replicate 58 7) ≡ E2 ++ 7 ∷ 7 ∷ [])
+pub E2-written : (write_layout header 1 [] numbers (replicate 58 7) ≡ Ok 56) × (write_bytes header 1 [] numbers (replicate 58 7) ≡ E2 ++ 7 ∷ 7 ∷ [])
 unfolding header numbers E2 bytes encode_fid good_sequence good_number good_fid good_object encode_slot encode_slots allowed_slot allowed_slots header_size encode_header encode_layout known_version known_pattern possible_stripe good_header with_holes few_slots layout_size layout_rules zero_given names_given given_from given_at is_slot slot_given given_slots all_given given_layout writable write_layout left_by write_bytes
 E2-written = (refl, refl)

@@ -1,7 +1,7 @@
 -- The round trips that `specs/RoundTrip.antt` states. Assumes nothing.
 use mathlib.Core.Path.{◌≡◌, refl, sym, ap, ◌∙◌}
 use mathlib.Core.List.{List, [], ◌++◌, append-nil}
-use mathlib.Core.Bool.{Bool, true, false, cond, ◌&&◌, ◌||◌}
+use mathlib.Core.Bool.{Bool, true, false, ◌&&◌, ◌||◌}
 use Prim.Native.Nat.{ℕ, zero, suc, ◌+◌, ◌*◌, ◌≤◌, ◌<◌, ◌^◌}
 use borrow.Author.Tests.{eqb-true}
 use native.Mathlib.Omega.{arith}
@@ -12,14 +12,12 @@ use Rattle.wire.proofs.Both.{and_first, and_second}
 use Rattle.wire.proofs.Splice.{drop_take_all, sets_front}
 use Rattle.layout.specs.declared.Header.{Header}
 use Rattle.layout.specs.declared.Slot.{Slot}
-use Rattle.layout.specs.declared.Reading.TheVariants.{Refused, Accepted}
-use Rattle.layout.specs.declared.SlotRead.TheVariants.{SlotIs}
+use Rattle.std.specs.Prelude.{Ok}
 use Rattle.layout.specs.Slot.{slot_size, slot_of, decode_slots, allowed_slots}
 use Rattle.layout.specs.Layout.{Layout, magic_one, magic_three, plain_pattern, hole_pattern, decode_header, stripe_count, slot_start, decode_layout, encode_layout, with_holes, known_version, known_pattern, possible_stripe, good_header, few_slots, layout_size, layout_rules, accepted_layout}
-use Rattle.layout.specs.Answers.{read_layout, read_slot}
+use Rattle.layout.specs.Answers.{read_slot}
 use Rattle.layout.proofs.HeaderLaws.{FitHeader}
-use Rattle.layout.proofs.LayoutLaws.{Writable, accepted_writable, rules_slots, read_back, written_back, written_accepted, length_layout, header_is, slots_are, slots_many, slot_is, read_accepted}
-use Rattle.layout_write.specs.declared.Written.TheVariants.{Bytes as Wrote}
+use Rattle.layout.proofs.LayoutLaws.{Writable, accepted_writable, rules_slots, read_back, written_back, written_accepted, length_layout, header_is, slots_are, slots_many, slot_is, read_accepted, read_taken}
 use Rattle.layout_write.specs.Writer.{slot_read_fields, given_slots, given_layout, writable, write_layout, write_bytes}
 use Rattle.layout_write.specs.RoundTrip.{slots_read, pool_read, DeclaredWidths, EveryLayoutBack, ReadsBack, EveryWriteBack}
 use Rattle.layout_write.proofs.GivenLaws.{length_given}
@@ -27,15 +25,6 @@ use Rattle.layout_write.proofs.SlotNumbers.{fields_of, length_fields, givens_fie
 use Rattle.layout_write.proofs.WriteLaws.{write_facts, facts_write, write_is, write_took}
 
 -- ## What the readers give
-
-read_taken : (l : List ℕ) (h : Header) (n : ℕ) → read_layout l ≡ Accepted h n → (accepted_layout l ≡ true) × (decode_header l ≡ h) × (stripe_count l ≡ n)
-unfolding read_layout
-read_taken l h n = go (accepted_layout l) refl
-  where
-    go : (b : Bool) → accepted_layout l ≡ b → cond b (Accepted (decode_header l) (stripe_count l)) Refused ≡ Accepted h n →
-        (accepted_layout l ≡ true) × (decode_header l ≡ h) × (stripe_count l ≡ n)
-    go true a e = (a, cc, cc)
-    go false a e = let z : ◌≡◌ {A = ℕ} 0 1 = cc in absurd (omega (arith, z))
 
 -- the pool name that is read is that of the layout
 pool_is : (l : List ℕ) → pool_read (decode_header l) l ≡ (decode_layout l).pool
@@ -48,7 +37,7 @@ module _ (l : List ℕ) (a : accepted_layout l ≡ true) where
   slots_from zero j h = refl
   slots_from (suc k) j h =
       let area : List ℕ = drop (slot_start l) l in
-      let e : SlotIs (slot_of area j) ≡ read_slot l j =
+      let e : Ok (slot_of area j) ≡ read_slot l j =
       slot_is l j (stripe_count l) (slot_start l) (slot_of area j) a refl refl (omega arith) (rw (drop_take_all (slot_start l) l)) in
       let m : slot_size * suc j ≡ slot_size * j + slot_size = omega arith in
       rw (← e, slots_from k (suc j) (omega arith), m, drop-drop slot_size (slot_size * j) area)
@@ -76,12 +65,12 @@ module _ (L : Layout) (w : Writable L) where
 
   -- a layout that can be written, handed to the writer field by field
   fields_written : (dest : List ℕ) → length (encode_layout L) ≤ length dest →
-      (write_layout L.header (length L.slots) L.pool (fields_of L.slots) dest ≡ Wrote (length (encode_layout L)))
+      (write_layout L.header (length L.slots) L.pool (fields_of L.slots) dest ≡ Ok (length (encode_layout L)))
       × (write_bytes L.header (length L.slots) L.pool (fields_of L.slots) dest ≡ sets dest 0 (encode_layout L))
   fields_written dest k =
       let z = length_layout L w.pool in
       let r = write_is L.header (length L.slots) L.pool (fields_of L.slots) dest taken (rw (← z) k) in
-      (r.0 ∙ ap (λ (b : ℕ). Wrote b) (sym z), r.1 ∙ ap (λ (M : Layout). sets dest 0 (encode_layout M)) given_is)
+      (r.0 ∙ ap (λ (b : ℕ). Ok b) (sym z), r.1 ∙ ap (λ (M : Layout). sets dest 0 (encode_layout M)) given_is)
 
 pub every_layout_back : EveryLayoutBack
 unfolding EveryLayoutBack
@@ -98,7 +87,7 @@ every_layout_back l h n dest b e k =
     let x : write_bytes h n (pool_read h l) (slots_read l n 0) dest ≡ l ++ drop (length l) dest =
     rw (pl, nm, ← hd, ← ct) (f.1 ∙ ap (λ (m : List ℕ). sets dest 0 m) q) ∙ sets_front l dest k in
     record {
-      answer = rw (pl, nm, ← hd, ← ct) (f.0 ∙ ap (λ (m : List ℕ). Wrote (length m)) q);
+      answer = rw (pl, nm, ← hd, ← ct) (f.0 ∙ ap (λ (m : List ℕ). Ok (length m)) q);
       layout = ap (λ (m : List ℕ). take (length l) m) x ∙ take_at l (drop (length l) dest) (length l) refl;
       rest = ap (λ (m : List ℕ). drop (length l) m) x ∙ drop_at l (drop (length l) dest) (length l) refl;
     }
@@ -171,7 +160,7 @@ every_write_back h n pool numbers dest b d e =
     ap (λ (m : List ℕ). take b m) ((write_is h n pool numbers dest t.0 t.1).1 ∙ sets_front l dest (omega (arith, t.1, t.2))) ∙ take_at l (drop (length l) dest) b z in
     let r = layout_read L w in
     record {
-      header = rw x (r.header ∙ ap (λ (k : ℕ). Accepted h k) ct);
+      header = rw x (r.header ∙ ap (λ (k : ℕ). Ok (h, k)) ct);
       pool_name = rw x r.pool_name;
       slots = rw x (ap (λ (k : ℕ). slots_read l k 0) (sym ct) ∙ r.slots ∙ fields_given n numbers f.even f.given);
     }

@@ -17,8 +17,7 @@ use Rattle.layout.specs.declared.Slot.{Slot}
 use Rattle.layout.specs.declared.Slot.TheVariants.{Hole, Names}
 use Rattle.layout.specs.Slot.{allowed_slot, allowed_slots, max_index}
 use Rattle.layout.proofs.SlotLaws.{FitSlot, FitSlots}
-use Rattle.layout_write.specs.declared.Given.{Given}
-use Rattle.layout_write.specs.declared.Given.TheVariants.{NotSlot, GivenSlot}
+use Rattle.std.specs.Prelude.{Option, Some, None}
 use Rattle.wire.specs.Numbers.{max_word}
 use Rattle.layout_write.specs.Writer.{slot_numbers, slot_fields, zero_given, names_given, given_from, given_at, is_slot, slot_given, given_slots, all_given}
 use Rattle.layout_write.proofs.GivenLaws.{given_hole, given_names}
@@ -64,7 +63,7 @@ all_drop l (suc n) j =
 
 -- ## Slots as numbers, and given again
 
-given_fields : (holes : Bool) (s : Slot) (r : List ℕ) → allowed_slot holes s ≡ true → FitSlot s → given_at (slot_fields s ++ r) 0 ≡ GivenSlot s
+given_fields : (holes : Bool) (s : Slot) (r : List ℕ) → allowed_slot holes s ≡ true → FitSlot s → given_at (slot_fields s ++ r) 0 ≡ Some s
 unfolding given_at slot_fields allowed_slot FitSlot good_object zero_given
 given_fields holes Hole r t f = sym (given_hole 0 0 0 0 0 refl)
 given_fields holes (Names f g i) r t h =
@@ -73,7 +72,7 @@ given_fields holes (Names f g i) r t h =
     let c = h.1 in
     let d = h.2 in
     sym (given_names 1 f.0.seq f.0.oid g i refl refl (omega arith) (omega arith) (omega arith))
-    ∙ sym (λ k. GivenSlot (Names (record { 0 = record { seq = f.0.seq; oid = f.0.oid; ver = v k } }) g i))
+    ∙ sym (λ k. Some (Names (record { 0 = record { seq = f.0.seq; oid = f.0.oid; ver = v k } }) g i))
 
 module _ (holes : Bool) where
   pub givens_fields : (ss : List Slot) → allowed_slots holes ss ≡ true → FitSlots ss → given_slots (fields_of ss) (length ss) 0 ≡ ss
@@ -139,11 +138,11 @@ from_back : (k s o g i : ℕ) → is_slot (given_from k s o g i) ≡ true → sl
 unfolding given_from is_slot slot_given slot_fields
 from_back k s o g i = go (zero_given k s o g i) (names_given k o g i) refl refl
   where
-    named : Given
-    named = GivenSlot (Names (record { 0 = record { seq = s; oid = o; ver = 0 } }) g i)
+    named : Option Slot
+    named = Some (Names (record { 0 = record { seq = s; oid = o; ver = 0 } }) g i)
 
-    go : (z m : Bool) → zero_given k s o g i ≡ z → names_given k o g i ≡ m → is_slot (cond z (GivenSlot Hole) (cond m named NotSlot)) ≡ true →
-        slot_fields (slot_given (cond z (GivenSlot Hole) (cond m named NotSlot))) ≡ k ∷ s ∷ o ∷ g ∷ i ∷ []
+    go : (z m : Bool) → zero_given k s o g i ≡ z → names_given k o g i ≡ m → is_slot (cond z (Some Hole) (cond m named None)) ≡ true →
+        slot_fields (slot_given (cond z (Some Hole) (cond m named None))) ≡ k ∷ s ∷ o ∷ g ∷ i ∷ []
     go true m e q t = let a = all_zero k s o g i e in rw (a.0, a.1, a.2, a.3, a.4)
     go false true e q t = rw (names_fit k o g i q).0
     go false false e q t = cc
@@ -175,8 +174,8 @@ fit_from_lem holes k s o g i = go (zero_given k s o g i) (names_given k o g i) r
     f : OstFid
     f = record { 0 = record { seq = s; oid = o; ver = 0 } }
 
-    go : (z m : Bool) → names_given k o g i ≡ m → allowed_slot holes (slot_given (cond z (GivenSlot Hole) (cond m (GivenSlot (Names f g i)) NotSlot))) ≡ true →
-        FitSlot (slot_given (cond z (GivenSlot Hole) (cond m (GivenSlot (Names f g i)) NotSlot)))
+    go : (z m : Bool) → names_given k o g i ≡ m → allowed_slot holes (slot_given (cond z (Some Hole) (cond m (Some (Names f g i)) None))) ≡ true →
+        FitSlot (slot_given (cond z (Some Hole) (cond m (Some (Names f g i)) None)))
     go true m q t = tt
     go false false q t = tt
     go false true q t =

@@ -1,9 +1,9 @@
 -- Laws of the writer: what it takes, and the stores of header, pool name and slots. Assumes nothing.
-use mathlib.Core.Path.{◌≡◌, refl, sym, ap, ◌∙◌}
+use mathlib.Core.Path.{◌≡◌, refl, ap, ◌∙◌}
 use mathlib.Core.List.{List, [], ◌∷◌, ◌++◌, append-nil}
 use mathlib.Core.Bool.{Bool, true, false, cond, ◌&&◌}
 use Prim.Native.Nat.{ℕ, ◌+◌, ◌-◌, ◌*◌, ◌≤◌, ◌<◌}
-use borrow.Author.Tests.{eq-eqb, ne_eqb, le-leb, lt-leb, eqb-true, leb-true}
+use borrow.Author.Tests.{eq-eqb, le-leb, lt-leb, eqb-true, leb-true}
 use native.Mathlib.Omega.{arith}
 use native.Mathlib.Numerals.{add-one}
 use lib.Dec.{eqb, leb}
@@ -13,7 +13,9 @@ use Rattle.wire.proofs.Both.{and_first, and_second}
 use Rattle.wire.proofs.Splice.{sets_at, put_sets}
 use borrow.Rule.Slice.PartMut.{put_mid}
 use Rattle.layout.specs.declared.Header.{Header}
-use Rattle.layout_write.specs.declared.Written.TheVariants.{BadFields, TooShort, Bytes}
+use Rattle.std.specs.Prelude.{Result, Ok, Err}
+use Rattle.refusals.specs.declared.Refusal.{Refusal}
+use Rattle.refusals.specs.declared.Refusal.TheVariants.{BadLayout, TooShort}
 use Rattle.layout.specs.Slot.{slot_size, allowed_slots, encode_slot, encode_slots}
 use Rattle.layout.specs.Layout.{plain_header, header_size, encode_header, encode_layout, good_header, with_holes, max_slots, few_slots, layout_size, layout_rules}
 use Rattle.layout_write.specs.Writer.{slot_numbers, given_at, slot_given, given_slots, all_given, given_layout, writable, write_layout, left_by, write_bytes}
@@ -25,52 +27,18 @@ use Rattle.layout_write.proofs.GivenLaws.{length_given, given_more}
 -- ## What the writer takes
 
 module _ (h : Header) (n : ℕ) (pool numbers : List ℕ) where
-  many_false : (a b c v x : Bool) → ((a && b && c) && (v && false && x)) ≡ false
-  many_false true true true true x = refl
-  many_false true true true false x = refl
-  many_false true true false v x = refl
-  many_false true false c v x = refl
-  many_false false b c v x = refl
+  reorder : (a b c v f x : Bool) → ((a && b && c) && (v && f && x)) ≡ (f && a && c && v && (b && x))
+  reorder a b c v f x = grind arith
 
-  pub write_many : max_slots < n → false ≡ writable h n pool numbers
+  -- in the order in which the writer asks
+  pub writable_rules : writable h n pool numbers ≡
+      (leb n max_slots && eqb (length numbers) (slot_numbers * n) && eqb (length pool) (header_size h.magic - plain_header) && good_header h
+      && (all_given numbers n 0 && allowed_slots (with_holes h) (given_slots numbers n 0)))
   unfolding writable layout_rules few_slots
-  write_many k = rw (length_given numbers n 0, lt-leb n max_slots k) (sym (many_false (eqb (length numbers) (slot_numbers * n)) (all_given numbers n 0) (eqb (length pool) (header_size h.magic - plain_header)) (good_header h) (allowed_slots (with_holes h) (given_slots numbers n 0))))
-
-  pub write_uneven : (length numbers ≡ slot_numbers * n → ⊥) → false ≡ writable h n pool numbers
-  unfolding writable
-  write_uneven k = rw (ne_eqb (length numbers) (slot_numbers * n) k)
-
-  third_false : (a : Bool) (x : Bool) → ((a && false) && x) ≡ false
-  third_false true x = refl
-  third_false false x = refl
-
-  pub write_pool : (b : ℕ) → b ≡ header_size h.magic → length numbers ≡ slot_numbers * n → (length pool ≡ b - plain_header → ⊥) → false ≡ writable h n pool numbers
-  unfolding writable
-  write_pool b q e k = rw (← q, eq-eqb (length numbers) (slot_numbers * n) e, ne_eqb (length pool) (b - plain_header) k) (sym (third_false (all_given numbers n 0) (layout_rules h (given_slots numbers n 0))))
-
-  last_false : (a b x y : Bool) → ((a && b) && (false && x && y)) ≡ false
-  last_false true true x y = refl
-  last_false true false x y = refl
-  last_false false b x y = refl
-
-  pub write_header : (b : ℕ) → b ≡ header_size h.magic → length numbers ≡ slot_numbers * n → length pool ≡ b - plain_header → good_header h ≡ false →
-      false ≡ writable h n pool numbers
-  unfolding writable layout_rules
-  write_header b q e p k =
-      rw (← q, eq-eqb (length numbers) (slot_numbers * n) e, eq-eqb (length pool) (b - plain_header) p, k)
-      (sym (last_false (all_given numbers n 0) true (few_slots (length (given_slots numbers n 0))) (allowed_slots (with_holes h) (given_slots numbers n 0))))
-
-  and_true_in : (a x : Bool) → (a && x) ≡ ((a && true) && x)
-  and_true_in true x = refl
-  and_true_in false x = refl
-
-  pub write_slots : (b : ℕ) (holes r : Bool) → b ≡ header_size h.magic → holes ≡ with_holes h →
-      r ≡ (all_given numbers n 0 && allowed_slots holes (given_slots numbers n 0)) → length numbers ≡ slot_numbers * n → length pool ≡ b - plain_header →
-      good_header h ≡ true → n ≤ max_slots → r ≡ writable h n pool numbers
-  unfolding writable layout_rules few_slots
-  write_slots b holes r q w t e p k m =
-      rw (← q, eq-eqb (length numbers) (slot_numbers * n) e, eq-eqb (length pool) (b - plain_header) p, k, length_given numbers n 0, le-leb n max_slots m, t, w)
-      (and_true_in (all_given numbers n 0) (allowed_slots (with_holes h) (given_slots numbers n 0)))
+  writable_rules =
+      rw (length_given numbers n 0)
+      (reorder (eqb (length numbers) (slot_numbers * n)) (all_given numbers n 0) (eqb (length pool) (header_size h.magic - plain_header)) (good_header h)
+      (leb n max_slots) (allowed_slots (with_holes h) (given_slots numbers n 0)))
 
 -- what the writer takes, as facts
 pub record WriteFacts (h : Header) (n : ℕ) (pool numbers : List ℕ) : Type 0 where
@@ -147,12 +115,12 @@ module _ (d numbers : List ℕ) (start : ℕ) where
 -- ## The writer's answers
 
 module _ (h : Header) (n : ℕ) (pool numbers dest : List ℕ) where
-  pub write_bad : writable h n pool numbers ≡ false → (BadFields ≡ write_layout h n pool numbers dest) × (dest ≡ write_bytes h n pool numbers dest)
+  pub write_bad : writable h n pool numbers ≡ false → (Err BadLayout ≡ write_layout h n pool numbers dest) × (dest ≡ write_bytes h n pool numbers dest)
   unfolding write_layout write_bytes left_by
   write_bad w = (rw w, rw w)
 
   pub write_short : (b : ℕ) → writable h n pool numbers ≡ true → b ≡ header_size h.magic → length dest < b + slot_size * n →
-      (TooShort ≡ write_layout h n pool numbers dest) × (dest ≡ write_bytes h n pool numbers dest)
+      (Err TooShort ≡ write_layout h n pool numbers dest) × (dest ≡ write_bytes h n pool numbers dest)
   unfolding write_layout write_bytes left_by layout_size
   write_short b w e k =
       let t : leb (header_size h.magic + slot_size * n) (length dest) ≡ false = lt-leb (header_size h.magic + slot_size * n) (length dest) (rw (← e) k) in
@@ -160,7 +128,7 @@ module _ (h : Header) (n : ℕ) (pool numbers dest : List ℕ) where
 
   pub write_done : (b : ℕ) (x y z : List ℕ) → writable h n pool numbers ≡ true → b ≡ header_size h.magic → b + slot_size * n ≤ length dest →
       x ≡ sets dest 0 (encode_header h n) → y ≡ sets x plain_header pool → z ≡ sets y b (encode_slots (given_slots numbers n 0)) →
-      (Bytes (b + slot_size * n) ≡ write_layout h n pool numbers dest) × (z ≡ write_bytes h n pool numbers dest)
+      (Ok (b + slot_size * n) ≡ write_layout h n pool numbers dest) × (z ≡ write_bytes h n pool numbers dest)
   unfolding write_layout write_bytes left_by layout_size encode_layout given_layout
   write_done b x y z w e k p q r =
       let t : leb (header_size h.magic + slot_size * n) (length dest) ≡ true = le-leb (header_size h.magic + slot_size * n) (length dest) (rw (← e) k) in
@@ -173,21 +141,21 @@ module _ (h : Header) (n : ℕ) (pool numbers dest : List ℕ) where
       (rw (w, t, e), rw (w, t, r, q, p, sets_at H pool dest 0 plain_header (length_header h n), u, length_given numbers n 0))
 
   pub write_is : writable h n pool numbers ≡ true → layout_size h.magic n ≤ length dest →
-      (write_layout h n pool numbers dest ≡ Bytes (layout_size h.magic n)) × (write_bytes h n pool numbers dest ≡ sets dest 0 (encode_layout (given_layout h n pool numbers)))
+      (write_layout h n pool numbers dest ≡ Ok (layout_size h.magic n)) × (write_bytes h n pool numbers dest ≡ sets dest 0 (encode_layout (given_layout h n pool numbers)))
   unfolding write_layout write_bytes left_by
   write_is w k =
       let t : leb (layout_size h.magic n) (length dest) ≡ true = le-leb (layout_size h.magic n) (length dest) k in
       (rw (w, t), rw (w, t))
 
   -- the bytes that the writer says it wrote, of fields that it takes and into a destination with room
-  pub write_took : (b : ℕ) → write_layout h n pool numbers dest ≡ Bytes b →
+  pub write_took : (b : ℕ) → write_layout h n pool numbers dest ≡ Ok b →
       (writable h n pool numbers ≡ true) × (layout_size h.magic n ≤ length dest) × (b ≡ layout_size h.magic n)
   unfolding write_layout
   write_took b = go (writable h n pool numbers) (leb (layout_size h.magic n) (length dest)) refl refl
     where
       go : (u v : Bool) → writable h n pool numbers ≡ u → leb (layout_size h.magic n) (length dest) ≡ v →
-          cond u (cond v (Bytes (layout_size h.magic n)) TooShort) BadFields ≡ Bytes b →
+          ◌≡◌ {A = Result ℕ Refusal} (cond u (cond v (Ok (layout_size h.magic n)) (Err TooShort)) (Err BadLayout)) (Ok b) →
           (writable h n pool numbers ≡ true) × (layout_size h.magic n ≤ length dest) × (b ≡ layout_size h.magic n)
       go true true p q e = (p, leb-true (layout_size h.magic n) (length dest) q, cc)
-      go true false p q e = let z : ◌≡◌ {A = ℕ} 0 1 = cc in absurd (omega (arith, z))
-      go false v p q e = let z : ◌≡◌ {A = ℕ} 0 1 = cc in absurd (omega (arith, z))
+      go true false p q e = cc
+      go false v p q e = cc

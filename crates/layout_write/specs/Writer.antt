@@ -1,17 +1,14 @@
 -- What the writer takes, answers and leaves in the destination, refusals first. Document 01, "The striping layout".
-use Rattle.std.specs.Prelude.{ℕ, zero, suc, ◌+◌, ◌*◌, ◌-◌, List, [], ◌∷◌, Bool, true, false, cond, ◌&&◌, length, get_or, leb, eqb}
+use Rattle.std.specs.Prelude.{ℕ, zero, suc, ◌+◌, ◌*◌, ◌-◌, List, [], ◌∷◌, Bool, true, false, cond, ◌&&◌, length, get_or, leb, eqb, Option, Some, None, Result, Ok, Err}
 use Rattle.std.proofs.lemmas.List.Edits.{sets}
 use Rattle.wire.specs.Numbers.{max_word}
 use Rattle.layout.specs.Layout.{Layout, plain_header, encode_layout, header_size, layout_size, layout_rules}
 use Rattle.layout.specs.declared.Header.{Header}
 use Rattle.layout.specs.declared.Slot.{Slot}
 use Rattle.layout.specs.declared.Slot.TheVariants.{Hole, Names}
-use Rattle.layout.specs.declared.SlotRead.{SlotRead}
-use Rattle.layout.specs.declared.SlotRead.TheVariants.{BadLayout, NoSlot, SlotIs}
-use Rattle.layout_write.specs.declared.Given.{Given}
-use Rattle.layout_write.specs.declared.Given.TheVariants.{NotSlot, GivenSlot}
-use Rattle.layout_write.specs.declared.Written.{Written}
-use Rattle.layout_write.specs.declared.Written.TheVariants.{BadFields, TooShort, Bytes}
+use Rattle.refusals.specs.Numbers.{answer}
+use Rattle.refusals.specs.declared.Refusal.{Refusal}
+use Rattle.refusals.specs.declared.Refusal.TheVariants.{BadLayout, TooShort}
 
 -- ## Slots as numbers
 
@@ -25,10 +22,9 @@ slot_fields Hole = 0 ∷ 0 ∷ 0 ∷ 0 ∷ 0 ∷ []
 slot_fields (Names f g i) = 1 ∷ f.0.seq ∷ f.0.oid ∷ g ∷ i ∷ []
 
 -- the numbers of what the slot reader says
-unfoldable pub slot_read_fields : SlotRead → List ℕ
-slot_read_fields BadLayout = []
-slot_read_fields NoSlot = []
-slot_read_fields (SlotIs s) = slot_fields s
+unfoldable pub slot_read_fields : Result Slot Refusal → List ℕ
+slot_read_fields (Err e) = []
+slot_read_fields (Ok s) = slot_fields s
 
 -- handed in, a hole where all are 0
 unfoldable pub zero_given : ℕ → ℕ → ℕ → ℕ → ℕ → Bool
@@ -39,21 +35,21 @@ unfoldable pub names_given : ℕ → ℕ → ℕ → ℕ → Bool
 names_given k o g i = eqb k 1 && leb o max_word && leb g max_word && leb i max_word
 
 -- any other first number, or one that doesn't fit its field, is no slot
-unfoldable pub given_from : ℕ → ℕ → ℕ → ℕ → ℕ → Given
+unfoldable pub given_from : ℕ → ℕ → ℕ → ℕ → ℕ → Option Slot
 given_from k s o g i =
-    cond (zero_given k s o g i) (GivenSlot Hole)
-    (cond (names_given k o g i) (GivenSlot (Names (record { 0 = record { seq = s; oid = o; ver = 0 } }) g i)) NotSlot)
+    cond (zero_given k s o g i) (Some Hole)
+    (cond (names_given k o g i) (Some (Names (record { 0 = record { seq = s; oid = o; ver = 0 } }) g i)) None)
 
-unfoldable pub given_at : List ℕ → ℕ → Given
+unfoldable pub given_at : List ℕ → ℕ → Option Slot
 given_at l j = given_from (get_or l (slot_numbers * j) 0) (get_or l (slot_numbers * j + 1) 0) (get_or l (slot_numbers * j + 2) 0) (get_or l (slot_numbers * j + 3) 0) (get_or l (slot_numbers * j + 4) 0)
 
-unfoldable pub is_slot : Given → Bool
-is_slot NotSlot = false
-is_slot (GivenSlot s) = true
+unfoldable pub is_slot : Option Slot → Bool
+is_slot None = false
+is_slot (Some s) = true
 
-unfoldable pub slot_given : Given → Slot
-slot_given NotSlot = Hole
-slot_given (GivenSlot s) = s
+unfoldable pub slot_given : Option Slot → Slot
+slot_given None = Hole
+slot_given (Some s) = s
 
 -- the n slots from the j-th on
 unfoldable pub given_slots : List ℕ → ℕ → ℕ → List Slot
@@ -78,21 +74,18 @@ writable h n pool numbers =
     && layout_rules h (given_slots numbers n 0)
 
 -- "before it looks at the room (17)"
-unfoldable pub write_layout : Header → ℕ → List ℕ → List ℕ → List ℕ → Written
+unfoldable pub write_layout : Header → ℕ → List ℕ → List ℕ → List ℕ → Result ℕ Refusal
 write_layout h n pool numbers dest =
     cond (writable h n pool numbers)
-    (cond (leb (layout_size h.magic n) (length dest)) (Bytes (layout_size h.magic n)) TooShort) BadFields
+    (cond (leb (layout_size h.magic n) (length dest)) (Ok (layout_size h.magic n)) (Err TooShort)) (Err BadLayout)
 
-unfoldable pub written_number : Written → ℕ
-written_number BadFields = 13
-written_number TooShort = 17
-written_number (Bytes n) = 0
+unfoldable pub written_number : Result ℕ Refusal → ℕ
+written_number = answer
 
 -- the destination: the layout's bytes in front, all else unchanged
-unfoldable pub left_by : Written → List ℕ → List ℕ → List ℕ
-left_by BadFields layout dest = dest
-left_by TooShort layout dest = dest
-left_by (Bytes n) layout dest = sets dest 0 layout
+unfoldable pub left_by : Result ℕ Refusal → List ℕ → List ℕ → List ℕ
+left_by (Err e) layout dest = dest
+left_by (Ok n) layout dest = sets dest 0 layout
 
 unfoldable pub write_bytes : Header → ℕ → List ℕ → List ℕ → List ℕ → List ℕ
 write_bytes h n pool numbers dest = left_by (write_layout h n pool numbers dest) (encode_layout (given_layout h n pool numbers)) dest

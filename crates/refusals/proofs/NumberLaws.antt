@@ -72,6 +72,13 @@ unfolding told
 refused_cases n true x y e z h = cc (h, z)
 refused_cases n false x y e z h = cc (h, z)
 
+-- no refusal has the number 0
+pub number_above : (e : Refusal) → number e ≡ 0 → ⊥
+number_above e h =
+    let a : told {A = ℕ} (number e) 0 ≡ Ok 0 = told_ok (number e) 0 h in
+    let b : told {A = ℕ} (number e) 0 ≡ Err e = told_number e 0 in
+    cc (a, b)
+
 -- calls with one number are refused alike
 pub told_alike : {A B : Type 0} (n : ℕ) (x : A) (y : B) (e : Refusal) → told n x ≡ Err e → told n y ≡ Err e
 told_alike n x y e h = refused_cases n (eqb n 0) x y e refl h

@@ -127,7 +127,7 @@ fn one_file() -> [u8; PARENT_SIZE] {
     parents[0] = 1;
     fid::write_fid(&mut parents, 1, file_name());
     wire::put_le16(&mut parents, 25, 56);
-    layout_write::write(header, 1, &pool, &slots, &mut parents[ROOM_AT..PARENT_SIZE]);
+    let _ = layout_write::write(header, 1, &pool, &slots, &mut parents[ROOM_AT..PARENT_SIZE]);
     parents
 }
 

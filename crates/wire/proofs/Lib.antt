@@ -5,3 +5,4 @@ pub mod OrderLaws
 pub mod PlaceLaws
 pub mod RowLaws
 pub mod ChunkLaws
+pub mod Chunks

@@ -1,37 +1,31 @@
-use native.Mathlib.Omega.{arith}
-use mathlib.Core.Path.{sym, ◌∙◌}
-use Rattle.capi_write.proofs.WriteNumbers.{header_none, header_is, fit_fields}
+use Rattle.std.proofs.Common.{arith}
+use Rattle.capi_write.specs.Write.{header_given, fields_fit, fields_header}
 use Rattle.capi_write.proofs.given_header.Goals as goal
 
-pub returns-then-not-fields_fit : goal.returns-then-not-fields_fit
-returns-then-not-fields_fit c = header_none _ (sym c.fields_fit.ensures ∙ c.if-not-fields_fit.true)
+pub returns-in_default : goal.returns-in_default
+unfolding header_given fields_fit fields_header
+returns-in_default c = grind arith
 
-pub bounds-fields-0 : goal.bounds-fields-0
-bounds-fields-0 c = omega (arith, fit_fields _ (sym c.fields_fit.ensures ∙ c.if-not-fields_fit.false))
+pub returns-in_default-2 : goal.returns-in_default-2
+unfolding header_given fields_fit fields_header
+returns-in_default-2 c = grind arith
 
-pub bounds-fields-1 : goal.bounds-fields-1
-bounds-fields-1 c = omega (arith, fit_fields _ (sym c.fields_fit.ensures ∙ c.if-not-fields_fit.false))
+pub returns-in_err-magic_of : goal.returns-in_err-magic_of
+unfolding header_given fields_fit fields_header
+returns-in_err-magic_of c = grind arith
 
-pub overflow_cast-result : goal.overflow_cast-result
-overflow_cast-result c = omega (arith, fit_fields _ (sym c.fields_fit.ensures ∙ c.if-not-fields_fit.false))
+pub returns-in_err-ok : goal.returns-in_err-ok
+unfolding header_given fields_fit fields_header
+returns-in_err-ok c = grind arith
 
-pub bounds-fields-2 : goal.bounds-fields-2
-bounds-fields-2 c = omega (arith, fit_fields _ (sym c.fields_fit.ensures ∙ c.if-not-fields_fit.false))
+pub returns-in_err-ok-2 : goal.returns-in_err-ok-2
+unfolding header_given fields_fit fields_header
+returns-in_err-ok-2 c = grind arith
 
-pub bounds-fields-3 : goal.bounds-fields-3
-bounds-fields-3 c = omega (arith, fit_fields _ (sym c.fields_fit.ensures ∙ c.if-not-fields_fit.false))
-
-pub bounds-fields-4 : goal.bounds-fields-4
-bounds-fields-4 c = omega (arith, fit_fields _ (sym c.fields_fit.ensures ∙ c.if-not-fields_fit.false))
-
-pub overflow_cast-result-2 : goal.overflow_cast-result-2
-overflow_cast-result-2 c = omega (arith, fit_fields _ (sym c.fields_fit.ensures ∙ c.if-not-fields_fit.false))
-
-pub bounds-fields-6 : goal.bounds-fields-6
-bounds-fields-6 c = omega (arith, fit_fields _ (sym c.fields_fit.ensures ∙ c.if-not-fields_fit.false))
-
-pub overflow_cast-result-3 : goal.overflow_cast-result-3
-overflow_cast-result-3 c = omega (arith, fit_fields _ (sym c.fields_fit.ensures ∙ c.if-not-fields_fit.false))
+pub returns-in_err-ok-3 : goal.returns-in_err-ok-3
+unfolding header_given fields_fit fields_header
+returns-in_err-ok-3 c = grind arith
 
 pub returns : goal.returns
-returns c = header_is _ _ (sym c.fields_fit.ensures ∙ c.if-not-fields_fit.false) c.magic_of.ensures
+unfolding header_given fields_fit fields_header
+returns c = grind arith

@@ -1,19 +1,13 @@
-use native.Mathlib.Omega.{arith}
-use Rattle.layout.proofs.SlotLaws.{allowed_start, allowed_stop, allowed_next, allowed_end}
+use Rattle.std.proofs.Common.{rules, arith}
+use Rattle.wire.proofs.Chunks.{chunks_tested}
+use Rattle.layout.specs.Slot.{slot_size, slot_of, allowed_slot}
+use Rattle.layout.proofs.SlotLaws.{allowed_tests}
 use Rattle.layout.proofs.allowed_slots.Goals as goal
 
-pub loop-j-init : goal.loop-j-init
-loop-j-init c = (omega arith, allowed_start _ _ _)
-
-pub returns-then-not-allowed_slot : goal.returns-then-not-allowed_slot
-returns-then-not-allowed_slot c =
-    let i = c.loop-j.invariant in
-    allowed_stop _ _ _ _ _ _ i.1 (omega arith) c.slot_at-s.ensures c.allowed_slot.ensures (c.if-not-allowed_slot.true)
-
-pub loop-j-preserved : goal.loop-j-preserved
-loop-j-preserved c =
-    let i = c.loop-j.invariant in
-    (omega arith, allowed_next _ _ _ _ _ _ i.1 (omega arith) c.slot_at-s.ensures c.allowed_slot.ensures (c.if-not-allowed_slot.false))
-
 pub returns : goal.returns
-returns c = allowed_end _ _ _ _ c.loop-j.invariant.1 (omega arith)
+returns c =
+    let a = c.args in
+    let k = c.chunks_exact.ensures in
+    allowed_tests a.holes a.area.now c.all.result
+    (chunks_tested _ _ _ slot_size a.area.now _ _ c.all.result k.runs k.size k.rest c.all.ensures.runs
+    (λ part. allowed_slot a.holes (slot_of part 0)) a.area (omega arith) (λ k h. omega arith) (search rules) (λ x b l h. search rules))

@@ -1,34 +1,55 @@
-use mathlib.Core.Path.{sym, ◌∙◌}
+use mathlib.Core.Path.{refl, sym, ◌∙◌}
 use native.Mathlib.Omega.{arith}
+use Rattle.std.proofs.Common.{rules}
 use Rattle.wire.proofs.NumberLaws.{Bytes}
-use Rattle.layout.proofs.LayoutLaws.{exact_long, place_long, stays_spliced, spliced}
+use Rattle.layout.proofs.LayoutLaws.{exact_long, exact_size, area_long, has_slot_is, placed, place_long, stays_spliced, spliced}
+use Rattle.layout.proofs.StripeLaws.{slots_equal}
 use Rattle.layout.proofs.change_slot.Goals as goal
 
-pub returns-then-has_slot : goal.returns-then-has_slot
+pub slot_start-start-requires : goal.slot_start-start-requires
+slot_start-start-requires c = omega (arith, exact_long _ c.requires.0)
+
+pub slice_bounds-slot_at-count : goal.slice_bounds-slot_at-count
+slice_bounds-slot_at-count c = omega (arith, exact_size _ c.requires.0, c.slot_start-start.ensures)
+
+pub slice_bounds-slot_at-start : goal.slice_bounds-slot_at-start
+slice_bounds-slot_at-start c = omega (arith, exact_size _ c.requires.0, c.slot_start-start.ensures)
+
+pub slot_at-requires : goal.slot_at-requires
+slot_at-requires c = omega (arith, c.requires.1, area_long _ _ _ c.requires.0 c.slot_start-start.ensures refl)
+
+pub returns-then-eq : goal.returns-then-eq
 unfolding Bytes
-returns-then-has_slot c =
-    let k = c in
-    let d = k in
-    stays_spliced d.args.layout.now d.args.j d.args.s (λ i. (k.slice_known-1.given i).fits) d.requires.0 d.requires.1
-    (sym c.if-has_slot.true ∙ c.has_slot.ensures)
+returns-then-eq c =
+    let a = c.args in
+    let h = has_slot_is _ _ _ _ _ _ c.slot_start-start.ensures c.slot_at.ensures (c.eq.ensures ∙ slots_equal _ _) in
+    stays_spliced a.layout.now a.j a.s (λ i. search rules) c.requires.0 c.requires.1 (sym c.if-eq.true ∙ h)
 
 pub le16-g-requires : goal.le16-g-requires
 le16-g-requires c = omega (arith, exact_long _ c.requires.0)
 
+pub overflow_mul-a : goal.overflow_mul-a
+overflow_mul-a c = omega (arith, c.requires.1, exact_size _ c.requires.0)
+
+pub overflow_add-a : goal.overflow_add-a
+overflow_add-a c = omega (arith, c.requires.1, exact_size _ c.requires.0, c.slot_start-start.ensures)
+
+pub overflow_add-e : goal.overflow_add-e
+overflow_add-e c = omega (arith, c.requires.1, exact_size _ c.requires.0, c.slot_start-start.ensures)
+
+pub slice_bounds-put_slot-end : goal.slice_bounds-put_slot-end
+slice_bounds-put_slot-end c = omega (arith, c.requires.1, exact_size _ c.requires.0, c.slot_start-start.ensures)
+
 pub put_le16-requires : goal.put_le16-requires
 put_le16-requires c =
-    let p = c in
-    let d = p in
-    place_long d.args.layout.now d.args.j d.args.s _ d.requires.0 p.place_slot.ensures
+    let a = c.args in
+    place_long a.layout.now a.j a.s _ c.requires.0 (placed _ _ _ _ _ c.requires.0 c.slot_start-start.ensures c.requires.1 c.put_slot.ensures)
 
 pub returns : goal.returns
 unfolding Bytes
 returns c =
-    let u = c in
-    let p = u in
-    let g = p in
-    let h = g in
-    let k = h in
-    let d = k in
-    spliced d.args.layout.now d.args.j d.args.s (λ i. (k.slice_known-1.given i).fits) d.requires.0 d.requires.1 _ _ _ _
-    (sym g.if-has_slot.false ∙ h.has_slot.ensures) g.le16-g.ensures p.place_slot.ensures u.next_generation.ensures u.put_le16.ensures
+    let a = c.args in
+    let h = has_slot_is _ _ _ _ _ _ c.slot_start-start.ensures c.slot_at.ensures (c.eq.ensures ∙ slots_equal _ _) in
+    let p = placed _ _ _ _ _ c.requires.0 c.slot_start-start.ensures c.requires.1 c.put_slot.ensures in
+    spliced a.layout.now a.j a.s (λ i. search rules) c.requires.0 c.requires.1 _ _ _ _
+    (sym c.if-eq.false ∙ h) c.le16-g.ensures p c.next_generation.ensures c.put_le16.ensures

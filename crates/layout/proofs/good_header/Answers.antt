@@ -1,16 +1,11 @@
-use mathlib.Core.Path.{sym, ◌∙◌}
-use Rattle.layout.proofs.HeaderLaws.{unknown_version, unknown_pattern, then_stripe}
+use Rattle.std.proofs.Common.{rules, arith}
+use Rattle.layout.specs.Layout.{good_header}
 use Rattle.layout.proofs.good_header.Goals as goal
 
-pub returns-then-not-known_version : goal.returns-then-not-known_version
-returns-then-not-known_version c = unknown_version _ (sym c.known_version.ensures ∙ c.if-not-known_version.true)
+pub returns-then-known_pattern : goal.returns-then-known_pattern
+unfolding good_header
+returns-then-known_pattern c = grind arith
 
-pub returns-then-not-known_pattern : goal.returns-then-not-known_pattern
-returns-then-not-known_pattern c =
-    unknown_pattern _ (sym c.known_version.ensures ∙ c.if-not-known_version.false)
-    (sym c.known_pattern.ensures ∙ c.if-not-known_pattern.true)
-
-pub returns : goal.returns
-returns c =
-    then_stripe _ _ (sym c.known_version.ensures ∙ c.if-not-known_version.false)
-    (sym c.known_pattern.ensures ∙ c.if-not-known_pattern.false) c.possible_stripe.ensures
+pub returns-else-known_pattern : goal.returns-else-known_pattern
+unfolding good_header
+returns-else-known_pattern c = search rules

@@ -1,8 +1,11 @@
-use Rattle.layout.proofs.HeaderLaws.{pattern_plain, pattern_holes}
+use Rattle.std.proofs.Common.{rules, arith}
+use Rattle.layout.specs.Layout.{known_pattern}
 use Rattle.layout.proofs.known_pattern.Goals as goal
 
 pub returns-then-h-eq-PLAIN_PATTERN : goal.returns-then-h-eq-PLAIN_PATTERN
-returns-then-h-eq-PLAIN_PATTERN c = pattern_plain _ c.if-h-eq-PLAIN_PATTERN.true
+unfolding known_pattern
+returns-then-h-eq-PLAIN_PATTERN c = search rules
 
-pub returns : goal.returns
-returns c = pattern_holes _ c.if-h-eq-PLAIN_PATTERN.false
+pub returns-else-h-eq-PLAIN_PATTERN : goal.returns-else-h-eq-PLAIN_PATTERN
+unfolding known_pattern
+returns-else-h-eq-PLAIN_PATTERN c = grind arith

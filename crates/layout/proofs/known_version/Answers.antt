@@ -1,8 +1,11 @@
-use Rattle.layout.proofs.HeaderLaws.{version_one, version_three}
+use Rattle.std.proofs.Common.{rules, arith}
+use Rattle.layout.specs.Layout.{known_version}
 use Rattle.layout.proofs.known_version.Goals as goal
 
 pub returns-then-h-eq-MAGIC_ONE : goal.returns-then-h-eq-MAGIC_ONE
-returns-then-h-eq-MAGIC_ONE c = version_one _ c.if-h-eq-MAGIC_ONE.true
+unfolding known_version
+returns-then-h-eq-MAGIC_ONE c = grind arith
 
-pub returns : goal.returns
-returns c = version_three _ c.if-h-eq-MAGIC_ONE.false
+pub returns-else-h-eq-MAGIC_ONE : goal.returns-else-h-eq-MAGIC_ONE
+unfolding known_version
+returns-else-h-eq-MAGIC_ONE c = search rules

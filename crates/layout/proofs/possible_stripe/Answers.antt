@@ -1,8 +1,11 @@
-use Rattle.layout.proofs.HeaderLaws.{stripe_uneven, stripe_even}
+use Rattle.std.proofs.Common.{rules, arith}
+use Rattle.layout.specs.Layout.{possible_stripe}
 use Rattle.layout.proofs.possible_stripe.Goals as goal
 
-pub returns-then-size-ne0 : goal.returns-then-size-ne0
-returns-then-size-ne0 c = stripe_uneven _ c.if-size-ne0.true
+pub returns-then-size-gt0 : goal.returns-then-size-gt0
+unfolding possible_stripe
+returns-then-size-gt0 c = grind arith
 
-pub returns : goal.returns
-returns c = stripe_even _ c.if-size-ne0.false
+pub returns-else-size-gt0 : goal.returns-else-size-gt0
+unfolding possible_stripe
+returns-else-size-gt0 c = search rules

@@ -1,5 +1,7 @@
-use Rattle.layout.proofs.StripeLaws.{raised_is}
+use Rattle.std.proofs.Common.{arith}
+use Rattle.layout.specs.Layout.{raised, at_generation}
 use Rattle.layout.proofs.raised.Goals as goal
 
 pub returns : goal.returns
-returns c = raised_is c.args.h _ c.next_generation.ensures
+unfolding raised at_generation
+returns c = grind arith

@@ -1,22 +1,27 @@
-use native.Mathlib.Omega.{arith}
-use mathlib.Core.Path.{sym, ◌∙◌}
-use Rattle.layout_write.proofs.GivenLaws.{given_hole, not_kind, not_id, not_age, not_index, given_names}
+use Rattle.std.proofs.Common.{arith}
+use Rattle.layout_write.specs.Writer.{given_from, names_given}
 use Rattle.layout_write.proofs.given_from.Goals as goal
 
 pub returns-then-is_zero_given : goal.returns-then-is_zero_given
-returns-then-is_zero_given c = given_hole _ _ _ _ _ (sym c.is_zero_given.ensures ∙ c.if-is_zero_given.true)
+unfolding given_from names_given
+returns-then-is_zero_given c = grind arith
 
 pub returns-then-k-ne1 : goal.returns-then-k-ne1
-returns-then-k-ne1 c = not_kind _ _ _ _ _ (sym c.is_zero_given.ensures ∙ c.if-is_zero_given.false) c.if-k-ne1.true
+unfolding given_from names_given
+returns-then-k-ne1 c = grind arith
 
-pub returns-then-o-gt-MAX_WORD : goal.returns-then-o-gt-MAX_WORD
-returns-then-o-gt-MAX_WORD c = not_id _ _ _ _ _ (sym c.is_zero_given.ensures ∙ c.if-is_zero_given.false) (omega arith) (omega arith)
+pub returns-in_err-ok : goal.returns-in_err-ok
+unfolding given_from names_given
+returns-in_err-ok c = grind arith
 
-pub returns-then-g-gt-MAX_WORD : goal.returns-then-g-gt-MAX_WORD
-returns-then-g-gt-MAX_WORD c = not_age _ _ _ _ _ (sym c.is_zero_given.ensures ∙ c.if-is_zero_given.false) (omega arith) (omega arith) (omega arith)
+pub returns-in_err-generation : goal.returns-in_err-generation
+unfolding given_from names_given
+returns-in_err-generation c = grind arith
 
-pub returns-then-i-gt-MAX_WORD : goal.returns-then-i-gt-MAX_WORD
-returns-then-i-gt-MAX_WORD c = not_index _ _ _ _ _ (sym c.is_zero_given.ensures ∙ c.if-is_zero_given.false) (omega arith) (omega arith) (omega arith) (omega arith)
+pub returns-in_err-index : goal.returns-in_err-index
+unfolding given_from names_given
+returns-in_err-index c = grind arith
 
 pub returns : goal.returns
-returns c = given_names _ _ _ _ _ (sym c.is_zero_given.ensures ∙ c.if-is_zero_given.false) (omega arith) (omega arith) (omega arith) (omega arith)
+unfolding given_from names_given
+returns c = grind arith
