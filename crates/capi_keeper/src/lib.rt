@@ -36,7 +36,7 @@ fn asked_fid(sequence: u64, id: u64) -> OstFid
 fn good_asked(sequence: u64, id: u64) -> bool
     ensures { result ≡ good_asked sequence id }
 {
-    id <= MAX_WORD && fid::good_object(asked_fid(sequence, id))
+    id <= MAX_WORD && asked_fid(sequence, id).0.is_good()
 }
 
 // The check of tables and FID: 0, 11 or 13 to 15. A bad FID asked for is 14, as one in the tables is.

@@ -3,17 +3,17 @@ ghost use Rattle.std.specs.Prelude.{◌≡◌, ◌&&◌, length, ◌≤◌};
 ghost use Rattle.tables.specs.Bytes.{object_size, entry_size, parent_rows, object_rows, reserve_entries, owner_at};
 ghost use Rattle.tables.specs.Check.{all, when_used, good_parent, good_claim, fresh_claims, good_object, good_entry};
 
-use fid::{MdtFid, OstFid};
 use layout::MAX_INDEX;
 use tables::rows;
 use tables::rows::{CLAIM_AT, ENTRY_SIZE, FRESH_AT, OBJECT_SIZE, OST_AT, PARENT_SIZE};
+use wire::Little;
 
 // Whether the self FID of a parent row is good, where it is examined.
 pub fn good_parent(row: &[u8]) -> bool
     requires { owner_at ≤ length row.now }
     ensures { result ≡ when_used good_parent row.now }
 {
-    !rows::is_used(row) || fid::good_file(MdtFid(rows::self_fid(row)))
+    !rows::is_used(row) || rows::self_fid(row).is_good()
 }
 
 pub fn good_parents(parents: &[u8]) -> bool
@@ -28,7 +28,7 @@ pub fn good_claim(row: &[u8]) -> bool
     ensures { result ≡ good_claim row.now }
 {
     let f = fid::read_fid(row, CLAIM_AT);
-    rows::is_zero(f) || fid::is_good_number(f)
+    rows::is_zero(f) || f.is_good_number()
 }
 
 // A fresh object has a claim.
@@ -47,8 +47,8 @@ pub fn good_object(row: &[u8]) -> bool
     if !rows::is_used(row) {
         return true;
     }
-    fid::good_object(OstFid(rows::self_fid(row)))
-        && wire::le32(row, OST_AT) <= MAX_INDEX
+    rows::self_fid(row).is_good()
+        && wire::get::<u32, Little>(row, OST_AT) <= MAX_INDEX
         && good_claim(row)
         && fresh_claims(row)
 }
@@ -64,7 +64,7 @@ fn good_entry(entry: &[u8]) -> bool
     requires { length entry.now ≡ entry_size }
     ensures { result ≡ good_entry entry.now }
 {
-    fid::good_reserve(OstFid(fid::read_fid(entry, 0)))
+    fid::read_fid(entry, 0).is_good()
 }
 
 // Whether every entry of the reserve is.

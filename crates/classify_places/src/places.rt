@@ -18,7 +18,7 @@ pub fn claim_is(claim: Option<Place>, f: MdtFid, i: usize) -> bool
 {
     match claim {
         None => false,
-        Some(place) => fid::same_mdt(place.file, f) && place.index as usize == i,
+        Some(place) => place.file == f && place.index as usize == i,
     }
 }
 

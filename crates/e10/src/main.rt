@@ -7,6 +7,7 @@ use fid::Fid;
 use layout::{MAX_SLOTS, PLAIN_HEADER, SLOT_SIZE};
 use std::io;
 use tables::rows::{PARENT_SIZE, ROOM_AT};
+use wire::Little;
 
 // The bytes of a layout of version 1 with all slots that there may be.
 const WIDEST: usize = PLAIN_HEADER + SLOT_SIZE * MAX_SLOTS;
@@ -80,7 +81,7 @@ fn show(rt: &impl Print, index: u32) -> io::Result<()> {
     let mut out = [0u64; 4];
     objects[0] = 1;
     fid::write_fid(&mut objects, 1, object_name());
-    wire::put_le32(&mut objects, 17, 3);
+    wire::put::<u32, Little>(&mut objects, 17, 3);
     fid::write_fid(&mut objects, 29, claim_on(index));
     let answer = capi::classes::lfsck_class(&parents, &objects, 2, 0, 0, &mut out);
     print_number(rt, "index ", index as u64)?;

@@ -10,6 +10,7 @@ ghost use Rattle.layout.specs.Answers.{read_layout, read_slot, rewrite_answer, r
 
 use fid::{FID_SIZE, Fid, OstFid};
 use refusals::Refusal;
+use wire::Little;
 
 // The greatest number of slots.
 pub const MAX_SLOTS: usize = 2000;
@@ -92,8 +93,8 @@ pub fn slot_at(area: &[u8], j: usize) -> Slot
 {
     let at = SLOT_SIZE * j;
     let f = fid::read_fid(area, at);
-    let g = wire::le32(area, at + SLOT_GENERATION_AT);
-    let i = wire::le32(area, at + SLOT_INDEX_AT);
+    let g = wire::get::<u32, Little>(area, at + SLOT_GENERATION_AT);
+    let i = wire::get::<u32, Little>(area, at + SLOT_INDEX_AT);
     if is_zero_slot(f, g, i) {
         Slot::Hole
     } else {
@@ -107,7 +108,7 @@ pub fn names(s: Slot, f: OstFid) -> bool
 {
     match s {
         Slot::Hole => false,
-        Slot::Names(g, _, _) => fid::same_ost(g, f),
+        Slot::Names(g, _, _) => g == f,
     }
 }
 
@@ -117,7 +118,7 @@ pub fn allowed_slot(holes: bool, s: Slot) -> bool
 {
     match s {
         Slot::Hole => holes,
-        Slot::Names(f, _, i) => fid::good_object(f) && i <= MAX_INDEX,
+        Slot::Names(f, _, i) => f.0.is_good() && i <= MAX_INDEX,
     }
 }
 
@@ -136,15 +137,15 @@ pub fn put_slot(part: &mut [u8], s: Slot)
 {
     match s {
         Slot::Hole => {
-            wire::put_le64(part, 0, 0);
-            wire::put_le64(part, 8, 0);
-            wire::put_le64(part, 16, 0);
+            wire::put::<u64, Little>(part, 0, 0);
+            wire::put::<u64, Little>(part, 8, 0);
+            wire::put::<u64, Little>(part, 16, 0);
         }
         Slot::Names(f, g, i) => {
             let named = f.0;
             fid::write_fid(part, 0, named);
-            wire::put_le32(part, SLOT_GENERATION_AT, g);
-            wire::put_le32(part, SLOT_INDEX_AT, i);
+            wire::put::<u32, Little>(part, SLOT_GENERATION_AT, g);
+            wire::put::<u32, Little>(part, SLOT_INDEX_AT, i);
         }
     }
 }
@@ -165,7 +166,7 @@ pub fn slot_start(layout: &[u8]) -> usize
     requires { 4 ≤ length layout.now }
     ensures { result ≡ slot_start layout.now }
 {
-    header_size(wire::le32(layout, 0))
+    header_size(wire::get::<u32, Little>(layout, 0))
 }
 
 // The stripe count of a header.
@@ -173,7 +174,7 @@ pub fn stripe_count(layout: &[u8]) -> u16
     requires { stripe_count_at + 2 ≤ length layout.now }
     ensures { result ≡ stripe_count layout.now }
 {
-    wire::le16(layout, STRIPE_COUNT_AT)
+    wire::get::<u16, Little>(layout, STRIPE_COUNT_AT)
 }
 
 // The header that a layout begins with.
@@ -182,12 +183,12 @@ pub fn read_header(layout: &[u8]) -> Header
     ensures { result ≡ decode_header layout.now }
 {
     Header {
-        magic: wire::le32(layout, 0),
-        pattern: wire::le32(layout, PATTERN_AT),
-        oid: wire::le64(layout, OWN_ID_AT),
-        seq: wire::le64(layout, OWN_SEQUENCE_AT),
-        stripe: wire::le32(layout, STRIPE_SIZE_AT),
-        generation: wire::le16(layout, GENERATION_AT),
+        magic: wire::get::<u32, Little>(layout, 0),
+        pattern: wire::get::<u32, Little>(layout, PATTERN_AT),
+        oid: wire::get::<u64, Little>(layout, OWN_ID_AT),
+        seq: wire::get::<u64, Little>(layout, OWN_SEQUENCE_AT),
+        stripe: wire::get::<u32, Little>(layout, STRIPE_SIZE_AT),
+        generation: wire::get::<u16, Little>(layout, GENERATION_AT),
     }
 }
 
@@ -264,11 +265,11 @@ pub fn change_slot(layout: &mut [u8], j: usize, s: Slot)
     if slot_at(&layout[start..], j) == s {
         return;
     }
-    let g = wire::le16(layout, GENERATION_AT);
+    let g = wire::get::<u16, Little>(layout, GENERATION_AT);
     let a = start + SLOT_SIZE * j;
     let e = a + SLOT_SIZE;
     put_slot(&mut layout[a..e], s);
-    wire::put_le16(layout, GENERATION_AT, next_generation(g));
+    wire::put::<u16, Little>(layout, GENERATION_AT, next_generation(g));
 }
 
 // Whether a layout meets every rule.
@@ -327,11 +328,11 @@ pub fn write_header(dest: &mut [u8], h: Header, count: u16)
     requires { plain_header ≤ length dest.old }
     ensures { dest.new ≡ sets dest.old 0 (encode_header h count) }
 {
-    wire::put_le32(dest, 0, h.magic);
-    wire::put_le32(dest, PATTERN_AT, h.pattern);
-    wire::put_le64(dest, OWN_ID_AT, h.oid);
-    wire::put_le64(dest, OWN_SEQUENCE_AT, h.seq);
-    wire::put_le32(dest, STRIPE_SIZE_AT, h.stripe);
-    wire::put_le16(dest, STRIPE_COUNT_AT, count);
-    wire::put_le16(dest, GENERATION_AT, h.generation);
+    wire::put::<u32, Little>(dest, 0, h.magic);
+    wire::put::<u32, Little>(dest, PATTERN_AT, h.pattern);
+    wire::put::<u64, Little>(dest, OWN_ID_AT, h.oid);
+    wire::put::<u64, Little>(dest, OWN_SEQUENCE_AT, h.seq);
+    wire::put::<u32, Little>(dest, STRIPE_SIZE_AT, h.stripe);
+    wire::put::<u16, Little>(dest, STRIPE_COUNT_AT, count);
+    wire::put::<u16, Little>(dest, GENERATION_AT, h.generation);
 }

@@ -8,6 +8,7 @@ ghost use Rattle.linkea.specs.Answers.{read_link, found_at, step_at, read_record
 
 use fid::{FID_SIZE, MdtFid};
 use refusals::Refusal;
+use wire::{Big, Little};
 
 pub const LINK_MAGIC: u32 = 0x11ea_f1df;
 
@@ -57,10 +58,10 @@ pub fn read_header(l: &[u8]) -> LinkHeader
     ensures { result ≡ decode_link_header l.now }
 {
     LinkHeader {
-        count: wire::le32(l, COUNT_AT),
-        total: wire::le64(l, TOTAL_AT),
-        time: wire::le32(l, TIME_AT),
-        padding: wire::le32(l, PADDING_AT),
+        count: wire::get::<u32, Little>(l, COUNT_AT),
+        total: wire::get::<u64, Little>(l, TOTAL_AT),
+        time: wire::get::<u32, Little>(l, TIME_AT),
+        padding: wire::get::<u32, Little>(l, PADDING_AT),
     }
 }
 
@@ -87,7 +88,7 @@ fn bad_record(l: &[u8], p: usize) -> bool
     if left < SHORTEST_RECORD {
         return true;
     }
-    let n = wire::be16(l, p) as usize;
+    let n = wire::get::<u16, Big>(l, p) as usize;
     if n < SHORTEST_RECORD || left < n {
         return true;
     }
@@ -99,9 +100,9 @@ fn found_at(l: &[u8], p: usize) -> Found
     requires { (p < length l.now) × (bad_record l.now p ≡ false) }
     ensures { result ≡ found_at l.now p }
 {
-    let n = wire::be16(l, p) as usize;
+    let n = wire::get::<u16, Big>(l, p) as usize;
     Found {
-        parent: MdtFid(fid::read_big(l, p + PARENT_AT)),
+        parent: MdtFid(fid::read_in::<Big>(l, p + PARENT_AT)),
         start: p + NAME_AT,
         size: n - NAME_AT,
         next: p + n,
@@ -135,7 +136,7 @@ fn good_records(l: &[u8], count: usize) -> bool
         if bad_record(l, at) {
             return false;
         }
-        at = at + wire::be16(l, at) as usize;
+        at = at + wire::get::<u16, Big>(l, at) as usize;
         k = k + 1;
     }
     count == k
@@ -148,7 +149,7 @@ pub fn refused(l: &[u8]) -> bool
     if l.len() < LINK_HEADER {
         return true;
     }
-    if wire::le32(l, 0) != LINK_MAGIC {
+    if wire::get::<u32, Little>(l, 0) != LINK_MAGIC {
         return true;
     }
     let h = read_header(l);
@@ -180,7 +181,7 @@ fn begins(l: &[u8], p: usize) -> bool
     // A loop: the next place comes from the record read, so no iterator gives it.
     let mut at = LINK_HEADER;
     while at < p {
-        at = at + wire::be16(l, at) as usize;
+        at = at + wire::get::<u16, Big>(l, at) as usize;
     }
     at == p
 }

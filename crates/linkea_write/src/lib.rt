@@ -13,7 +13,7 @@ use linkea::{
     TOTAL_AT,
 };
 use refusals::Refusal;
-use wire::MAX_WORD;
+use wire::{Big, Little, MAX_WORD};
 
 // The numbers of a record that is handed in: sequence, id and version of the parent, where the name starts, its length.
 pub const LINK_NUMBERS: usize = 5;
@@ -110,11 +110,11 @@ pub fn write_header(dest: &mut [u8], h: LinkHeader)
     requires { link_header ≤ length dest.old }
     ensures { dest.new ≡ sets dest.old 0 (encode_link_header h) }
 {
-    wire::put_le32(dest, 0, LINK_MAGIC);
-    wire::put_le32(dest, COUNT_AT, h.count);
-    wire::put_le64(dest, TOTAL_AT, h.total);
-    wire::put_le32(dest, TIME_AT, h.time);
-    wire::put_le32(dest, PADDING_AT, h.padding);
+    wire::put::<u32, Little>(dest, 0, LINK_MAGIC);
+    wire::put::<u32, Little>(dest, COUNT_AT, h.count);
+    wire::put::<u64, Little>(dest, TOTAL_AT, h.total);
+    wire::put::<u32, Little>(dest, TIME_AT, h.time);
+    wire::put::<u32, Little>(dest, PADDING_AT, h.padding);
 }
 
 // Writes a record over the bytes that it is lent.
@@ -127,8 +127,8 @@ fn put_given(part: &mut [u8], given: &[u64; LINK_NUMBERS], names: &[u8])
     let parent = parent_given(given);
     let a = start as usize;
     let n = size as usize;
-    wire::put_be16(part, 0, (NAME_AT + n) as u16);
-    fid::write_big(part, PARENT_AT, parent.0);
+    wire::put::<u16, Big>(part, 0, (NAME_AT + n) as u16);
+    fid::write_in::<Big>(part, PARENT_AT, parent.0);
     wire::put_bytes(part, NAME_AT, &names[a..a + n]);
 }
 

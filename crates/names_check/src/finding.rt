@@ -25,7 +25,7 @@ pub fn fids_finding(f: MdtFid, own: MdtFid) -> FidFinding
     if none {
         return FidFinding::NoDirentFid;
     }
-    if fid::same_mdt(f, own) {
+    if f == own {
         return FidFinding::FidAgrees;
     }
     FidFinding::FidDiffers

@@ -7,6 +7,7 @@ ghost use Rattle.names_check.specs.Asked.{asked};
 
 use fid::MdtFid;
 use linkea::{LINK_HEADER, NAME_AT, PARENT_AT};
+use wire::Big;
 
 // Whether two names are the same.
 pub fn same_name(a: &[u8], b: &[u8]) -> bool
@@ -28,9 +29,9 @@ pub fn is_link(l: &[u8], p: usize, parent: MdtFid, name: &[u8]) -> bool
     requires { (p < length l.now) × (bad_record l.now p ≡ false) }
     ensures { result ≡ same_link (asked parent name.now) (link_at l.now p) }
 {
-    let n = wire::be16(l, p) as usize;
-    let there = MdtFid(fid::read_big(l, p + PARENT_AT));
-    if !fid::same_mdt(parent, there) {
+    let n = wire::get::<u16, Big>(l, p) as usize;
+    let there = MdtFid(fid::read_in::<Big>(l, p + PARENT_AT));
+    if parent != there {
         return false;
     }
     let a = p + NAME_AT;
@@ -48,7 +49,7 @@ pub fn has_link(l: &[u8], parent: MdtFid, name: &[u8]) -> bool
         if is_link(l, at, parent, name) {
             return true;
         }
-        at = at + wire::be16(l, at) as usize;
+        at = at + wire::get::<u16, Big>(l, at) as usize;
     }
     false
 }

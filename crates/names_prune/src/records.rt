@@ -15,6 +15,7 @@ use index::Found;
 use linkea::{LINK_HEADER, NAME_AT, PARENT_AT};
 use names_check::links;
 use names_marks::marked;
+use wire::Big;
 
 // Whether one of the first k records of a linkEA has a directory and a name.
 fn stands_before(l: &[u8], k: usize, parent: MdtFid, name: &[u8]) -> bool
@@ -26,7 +27,7 @@ fn stands_before(l: &[u8], k: usize, parent: MdtFid, name: &[u8]) -> bool
         if links::is_link(l, at, parent, name) {
             return true;
         }
-        at = at + wire::be16(l, at) as usize;
+        at = at + wire::get::<u16, Big>(l, at) as usize;
     }
     false
 }
@@ -77,8 +78,8 @@ fn flag_of(
     requires { Ready entries.now children.now marks.now index.now n places.now notes.now × (refused_link l.now ≡ false) × (p < length l.now) × (bad_record l.now p ≡ false) × (k ≤ length (decode_link_ea l.now).links) }
     ensures { result ≡ one (not (goes (seen_by marks.now (parse_children children.now)) (parse_entries entries.now) r (take k (decode_link_ea l.now).links) (link_at l.now p))) }
 {
-    let size = wire::be16(l, p) as usize;
-    let parent = MdtFid(fid::read_big(l, p + PARENT_AT));
+    let size = wire::get::<u16, Big>(l, p) as usize;
+    let parent = MdtFid(fid::read_in::<Big>(l, p + PARENT_AT));
     let a = p + NAME_AT;
     let e = p + size;
     if must_go(
@@ -126,7 +127,7 @@ pub fn flag(
         flags[k] = stays;
         gone += 1 - stays as usize;
         k += 1;
-        at = at + wire::be16(l, at) as usize;
+        at = at + wire::get::<u16, Big>(l, at) as usize;
     }
     gone
 }

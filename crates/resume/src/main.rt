@@ -11,6 +11,7 @@ use rules::Report;
 use std::io;
 use tables::Position;
 use tables::rows::{PARENT_SIZE, ROOM_AT};
+use wire::Little;
 
 // What a call reports, and the position that it was lent, after it.
 #[derive(Clone, Copy)]
@@ -126,7 +127,7 @@ fn one_file() -> [u8; PARENT_SIZE] {
     };
     parents[0] = 1;
     fid::write_fid(&mut parents, 1, file_name());
-    wire::put_le16(&mut parents, 25, 56);
+    wire::put::<u16, Little>(&mut parents, 25, 56);
     let _ = layout_write::write(header, 1, &pool, &slots, &mut parents[ROOM_AT..PARENT_SIZE]);
     parents
 }
@@ -136,7 +137,7 @@ fn two_objects() -> [u8; 92] {
     let mut objects = [0u8; 92];
     objects[46] = 1;
     fid::write_fid(&mut objects, 47, object_name(18));
-    wire::put_le32(&mut objects, 63, 3);
+    wire::put::<u32, Little>(&mut objects, 63, 3);
     fid::write_fid(&mut objects, 75, file_name());
     objects
 }

@@ -9,6 +9,7 @@ use super::pieces;
 use fid::Fid;
 use tables::rows::{CLAIM_AT, FRESH_AT, OBJECT_OWNER_AT, OBJECT_SIZE, OST_AT, SELF_AT};
 use tables::{Object, Place};
+use wire::Little;
 
 // A claim as a FID whose version is the stripe index.
 pub fn claim_fid(claim: Option<Place>) -> Fid
@@ -41,7 +42,7 @@ pub fn put_row(row: &mut [u8], x: Object)
 {
     pieces::put_byte(row, 0, 1);
     fid::write_fid(row, SELF_AT, x.fid.0);
-    wire::put_le32(row, OST_AT, x.ost);
+    wire::put::<u32, Little>(row, OST_AT, x.ost);
     pieces::put_owner(row, OBJECT_OWNER_AT, x.owner);
     fid::write_fid(row, CLAIM_AT, claim_fid(x.claim));
     pieces::put_byte(row, FRESH_AT, mark_of(x.fresh));

@@ -14,6 +14,7 @@ use fid::MdtFid;
 use layout::{Header, PLAIN_HEADER, SLOT_SIZE, Slot};
 use tables::rows::{LENGTH_AT, OWNER_AT, ROOM_AT, SELF_AT};
 use tables::{Owner, rows};
+use wire::Little;
 
 // The header with the own id and own sequence of its file.
 fn own_header(h: Header, f: MdtFid) -> Header
@@ -57,7 +58,7 @@ pub fn grow(row: &mut [u8], i: usize, s: Slot)
     let start = layout::slot_start(l);
     let n = layout::stripe_count(l) as usize;
     let size = start + SLOT_SIZE * (i + 1);
-    wire::put_le16(row, LENGTH_AT, size as u16);
+    wire::put::<u16, Little>(row, LENGTH_AT, size as u16);
     pieces::put_header(row, ROOM_AT, layout::raised(h), (i + 1) as u16);
     pieces::put_holes(row, ROOM_AT + start + SLOT_SIZE * n, i + 1 - n);
     pieces::put_slot(row, ROOM_AT + start + SLOT_SIZE * i, s);
@@ -91,7 +92,7 @@ fn put_front(row: &mut [u8], f: MdtFid, w: Owner, size: u16)
     pieces::put_byte(row, 0, 1);
     fid::write_fid(row, SELF_AT, f.0);
     pieces::put_owner(row, OWNER_AT, w);
-    wire::put_le16(row, LENGTH_AT, size);
+    wire::put::<u16, Little>(row, LENGTH_AT, size);
 }
 
 // Makes a parent of i + 1 slots, the last of which is s and the others are holes.

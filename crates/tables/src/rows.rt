@@ -5,6 +5,7 @@ ghost use Rattle.tables.specs.Bytes.{owner_at, length_at, room_at, self_fid, obj
 
 use super::{Object, Owner, Place};
 use fid::{FID_SIZE, Fid, MdtFid, OstFid};
+use wire::Little;
 
 // Where the self FID stands in both kinds of row: after the mark.
 pub const SELF_AT: usize = 1;
@@ -73,8 +74,8 @@ pub fn owner_at(row: &[u8], at: usize) -> Owner
     ensures { result ≡ decode_owner (drop at row.now) }
 {
     Owner {
-        uid: wire::le32(row, at),
-        gid: wire::le32(row, at + 4),
+        uid: wire::get::<u32, Little>(row, at),
+        gid: wire::get::<u32, Little>(row, at + 4),
     }
 }
 
@@ -82,12 +83,7 @@ pub fn owner_at(row: &[u8], at: usize) -> Owner
 pub fn is_zero(f: Fid) -> bool
     ensures { result ≡ same_fid f zero_fid }
 {
-    let zero = Fid {
-        seq: 0,
-        oid: 0,
-        ver: 0,
-    };
-    fid::same_fid(f, zero)
+    f == Fid::ZERO
 }
 
 // The claim of a FID whose version is the stripe index: 16 zero bytes are no claim.
@@ -115,7 +111,7 @@ pub fn decode_object(row: &[u8]) -> Object
     ensures { result ≡ decode_object row.now }
 {
     let name = fid::read_fid(row, SELF_AT);
-    let ost = wire::le32(row, OST_AT);
+    let ost = wire::get::<u32, Little>(row, OST_AT);
     let owner = owner_at(row, OBJECT_OWNER_AT);
     let claim = claim_from(fid::read_fid(row, CLAIM_AT));
     let fresh = row[FRESH_AT] == 1;
@@ -149,7 +145,7 @@ pub fn layout_len(row: &[u8]) -> u16
     requires { room_at ≤ length row.now }
     ensures { result ≡ layout_length row.now }
 {
-    wire::le16(row, LENGTH_AT)
+    wire::get::<u16, Little>(row, LENGTH_AT)
 }
 
 // A parent row's layout.

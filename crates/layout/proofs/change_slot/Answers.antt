@@ -25,8 +25,8 @@ returns-then-eq c =
     let h = has_slot_is _ _ _ _ _ _ c.slot_start-start.ensures c.slot_at.ensures (c.eq.ensures ∙ slots_equal _ _) in
     stays_spliced a.layout.now a.j a.s (λ i. search rules) c.requires.0 c.requires.1 (sym c.if-eq.true ∙ h)
 
-pub le16-g-requires : goal.le16-g-requires
-le16-g-requires c = omega (arith, exact_long _ c.requires.0)
+pub get-g-requires : goal.get-g-requires
+get-g-requires c = omega (arith, exact_long _ c.requires.0)
 
 pub overflow_mul-a : goal.overflow_mul-a
 overflow_mul-a c = omega (arith, c.requires.1, exact_size _ c.requires.0)
@@ -40,8 +40,8 @@ overflow_add-e c = omega (arith, c.requires.1, exact_size _ c.requires.0, c.slot
 pub slice_bounds-put_slot-end : goal.slice_bounds-put_slot-end
 slice_bounds-put_slot-end c = omega (arith, c.requires.1, exact_size _ c.requires.0, c.slot_start-start.ensures)
 
-pub put_le16-requires : goal.put_le16-requires
-put_le16-requires c =
+pub put-requires : goal.put-requires
+put-requires c =
     let a = c.args in
     place_long a.layout.now a.j a.s _ c.requires.0 (placed _ _ _ _ _ c.requires.0 c.slot_start-start.ensures c.requires.1 c.put_slot.ensures)
 
@@ -52,4 +52,4 @@ returns c =
     let h = has_slot_is _ _ _ _ _ _ c.slot_start-start.ensures c.slot_at.ensures (c.eq.ensures ∙ slots_equal _ _) in
     let p = placed _ _ _ _ _ c.requires.0 c.slot_start-start.ensures c.requires.1 c.put_slot.ensures in
     spliced a.layout.now a.j a.s (λ i. search rules) c.requires.0 c.requires.1 _ _ _ _
-    (sym c.if-eq.false ∙ h) c.le16-g.ensures p c.next_generation.ensures c.put_le16.ensures
+    (sym c.if-eq.false ∙ h) c.get-g.ensures p c.next_generation.ensures c.put.ensures

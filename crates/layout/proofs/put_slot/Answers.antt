@@ -7,7 +7,7 @@ returns-in-Hole c =
     let b = x in
     let a = b in
     let k = a in
-    put_hole _ _ _ _ _ k.requires k.in-Hole.is a.put_le64.ensures b.put_le64-in-Hole.ensures x.put_le64-in-Hole-2.ensures
+    put_hole _ _ _ _ _ k.requires k.in-Hole.is a.put.ensures b.put-in-Hole.ensures x.put-in-Hole-2.ensures
 
 pub returns-in-Names : goal.returns-in-Names
 returns-in-Names c =
@@ -15,4 +15,4 @@ returns-in-Names c =
     let b = x in
     let a = b in
     let k = a in
-    put_names _ _ _ _ _ k.in-Names.f k.in-Names.g k.in-Names.i k.requires k.in-Names.is a.write_fid.ensures b.put_le32.ensures x.put_le32-in-Names.ensures
+    put_names _ _ _ _ _ k.in-Names.f k.in-Names.g k.in-Names.i k.requires k.in-Names.is a.write_fid.ensures b.put-in-Names.ensures x.put-in-Names-2.ensures

@@ -4,4 +4,4 @@ use Rattle.layout.proofs.slot_start.Goals as goal
 
 pub returns : goal.returns
 unfolding slot_start
-returns c = c.header_size.ensures ∙ ap header_size c.le32.ensures
+returns c = c.header_size.ensures ∙ ap header_size c.get.ensures

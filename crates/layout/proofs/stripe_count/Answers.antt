@@ -3,4 +3,4 @@ use Rattle.layout.proofs.stripe_count.Goals as goal
 
 pub returns : goal.returns
 unfolding stripe_count
-returns c = c.le16.ensures
+returns c = c.get.ensures

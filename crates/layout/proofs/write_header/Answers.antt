@@ -10,4 +10,4 @@ returns c =
     let o = d in
     let b = o in
     let a = b in
-    header_stores _ _ _ _ _ _ _ _ _ _ a.put_le32.ensures b.put_le32-2.ensures o.put_le64.ensures d.put_le64-2.ensures e.put_le32-3.ensures f.put_le16.ensures x.put_le16-2.ensures
+    header_stores _ _ _ _ _ _ _ _ _ _ a.put.ensures b.put-2.ensures o.put-3.ensures d.put-4.ensures e.put-5.ensures f.put-6.ensures x.put-7.ensures

@@ -10,7 +10,7 @@ returns-then-left-lt-SHORTEST_RECORD c = let a = c.args in is_cut a.l.now a.p (o
 pub returns-then-n-lt-SHORTEST_RECORD : goal.returns-then-n-lt-SHORTEST_RECORD
 returns-then-n-lt-SHORTEST_RECORD c =
     let a = c.args in
-    let e = c.be16-n.ensures in
+    let e = c.get-n.ensures in
     let r = length_read a.l.now a.p in
     elim c.then-n-lt-SHORTEST_RECORD.branch [
       | then-n-lt-SHORTEST_RECORD-via-then-n-lt-SHORTEST_RECORD w ↦ let t = w.if-n-lt-SHORTEST_RECORD.true in is_short a.l.now a.p (omega (arith, e, r, t))
@@ -23,4 +23,4 @@ returns-then-n-lt-SHORTEST_RECORD c =
 pub returns : goal.returns
 returns c =
     let a = c.args in
-    c.bad_bytes.ensures ∙ is_name a.l.now a.p _ (c.be16-n.ensures ∙ length_read a.l.now a.p) (omega arith) (omega arith)
+    c.bad_bytes.ensures ∙ is_name a.l.now a.p _ (c.get-n.ensures ∙ length_read a.l.now a.p) (omega arith) (omega arith)

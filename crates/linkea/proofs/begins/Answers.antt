@@ -27,14 +27,14 @@ loop-at-init c =
 pub loop-at-smaller : goal.loop-at-smaller
 loop-at-smaller c =
     let w = c in
-    omega (arith, good (goal.at.loop-at-smaller c).In-loop-at, c.be16.ensures, length_read w.args.l.now w.loop-at.at)
+    omega (arith, good (goal.at.loop-at-smaller c).In-loop-at, c.get.ensures, length_read w.args.l.now w.loop-at.at)
 
 pub loop-at-preserved : goal.loop-at-preserved
 loop-at-preserved c =
     let w = c in
     let l = w.args.l.now in
     let p = w.args.p in
-    let e = sym (c.be16.ensures ∙ length_read l w.loop-at.at) in (
+    let e = sym (c.get.ensures ∙ length_read l w.loop-at.at) in (
       subst (λ (n : ℕ). AllGood l (w.loop-at.at + n)) e (good_on l w.loop-at.at (omega arith) w.loop-at.invariant.0),
       w.loop-at.invariant.1 ∙ pass_by l p w.loop-at.at (omega arith) w.loop-at.invariant.0 (omega arith)
           ∙ ap (λ (n : ℕ). some (eqb p) (from l (w.loop-at.at + n))) e,

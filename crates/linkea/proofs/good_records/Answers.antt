@@ -18,19 +18,19 @@ returns-then-bad_record c =
     let a = w.args in
     sym (good_start a.l.now a.count ∙ w.loop-at.invariant.1 ∙ sym (good_stop_lem a.l.now a.count w.loop-at.k w.loop-at.at (omega arith) (sym c.bad_record.ensures ∙ c.if-bad_record.true)))
 
-pub be16-requires : goal.be16-requires
-be16-requires c = omega (arith, good c)
+pub get-requires : goal.get-requires
+get-requires c = omega (arith, good c)
 
 pub loop-at-smaller : goal.loop-at-smaller
 loop-at-smaller c =
     let w = c in
-    omega (arith, good (goal.at.loop-at-smaller c).Else-bad_record, c.be16.ensures, length_read w.args.l.now w.loop-at.at)
+    omega (arith, good (goal.at.loop-at-smaller c).Else-bad_record, c.get.ensures, length_read w.args.l.now w.loop-at.at)
 
 pub loop-at-preserved : goal.loop-at-preserved
 loop-at-preserved c =
     let w = c in
     let a = w.args in
-    let e = c.be16.ensures ∙ length_read a.l.now w.loop-at.at in (
+    let e = c.get.ensures ∙ length_read a.l.now w.loop-at.at in (
       omega (arith, good (goal.at.loop-at-preserved c).Else-bad_record, e),
       w.loop-at.invariant.1 ∙ good_next a.l.now a.count w.loop-at.k w.loop-at.at (omega arith) (sym c.bad_record.ensures ∙ c.if-bad_record.false)
           ∙ ap (λ (n : ℕ). good_from a.l.now a.count (w.loop-at.k + 1) (w.loop-at.at + n)) (sym e),

@@ -10,8 +10,8 @@ use Rattle.linkea.proofs.refused.Goals as goal
 pub returns-then-l-lt-LINK_HEADER : goal.returns-then-l-lt-LINK_HEADER
 returns-then-l-lt-LINK_HEADER c = refused_short c.args.l.now (omega arith)
 
-pub returns-then-le32-ne-LINK_MAGIC : goal.returns-then-le32-ne-LINK_MAGIC
-returns-then-le32-ne-LINK_MAGIC c = refused_magic c.args.l.now (omega arith) (λ e. c.if-le32-ne-LINK_MAGIC.true (c.le32.ensures ∙ e))
+pub returns-then-get-ne-LINK_MAGIC : goal.returns-then-get-ne-LINK_MAGIC
+returns-then-get-ne-LINK_MAGIC c = refused_magic c.args.l.now (omega arith) (λ e. c.if-get-ne-LINK_MAGIC.true (c.get.ensures ∙ e))
 
 pub returns-then-h-l : goal.returns-then-h-l
 returns-then-h-l c =
@@ -24,4 +24,4 @@ returns c =
     let l = b.args.l.now in
     let e = b.read_header-h.ensures in
     ap (λ (r : Bool). not r) (c.good_records.ensures ∙ good_start l b.read_header-h.result.count ∙ ap (λ (h : LinkHeader). good_from l h.count 0 link_header) e)
-    ∙ refused_records l (omega arith) (sym b.le32.ensures ∙ b.if-le32-ne-LINK_MAGIC.false) (ap (λ (h : LinkHeader). h.total) (sym e) ∙ c.if-h-l.false)
+    ∙ refused_records l (omega arith) (sym b.get.ensures ∙ b.if-get-ne-LINK_MAGIC.false) (ap (λ (h : LinkHeader). h.total) (sym e) ∙ c.if-h-l.false)

@@ -24,10 +24,10 @@ pub put_bytes-requires : goal.put_bytes-requires
 unfolding size_given number_of
 put_bytes-requires c =
     let t = taken_facts c.args.given.now c.args.names.now 0 c.requires.taken in
-    let z : length c.write_big.new.s ≡ length c.args.part.now = rw (c.write_big.ensures, length-sets, c.put_be16.ensures, length-sets) in
+    let z : length c.write_in.new.s ≡ length c.args.part.now = rw (c.write_in.ensures, length-sets, c.put.ensures, length-sets) in
     omega (arith, part_long c.args.names.now (start_of c.args.given.now 0) (size_of c.args.given.now 0) t.inside, c.requires.room, z)
 
 pub returns : goal.returns
 unfolding size_given number_of
 returns c =
-    record_stores _ _ c.args.part.now _ _ _ 0 _ c.requires.taken c.requires.room c.parent_given-parent.ensures c.put_be16.ensures c.write_big.ensures c.put_bytes.ensures
+    record_stores _ _ c.args.part.now _ _ _ 0 _ c.requires.taken c.requires.room c.parent_given-parent.ensures c.put.ensures c.write_in.ensures c.put_bytes.ensures

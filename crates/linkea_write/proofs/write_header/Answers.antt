@@ -8,4 +8,4 @@ returns c =
     let t = d in
     let b = t in
     let a = b in
-    header_stores _ _ _ _ _ _ _ a.put_le32.ensures b.put_le32-2.ensures t.put_le64.ensures d.put_le32-3.ensures x.put_le32-4.ensures
+    header_stores _ _ _ _ _ _ _ a.put.ensures b.put-2.ensures t.put-3.ensures d.put-4.ensures x.put-5.ensures

@@ -8,4 +8,4 @@ overflow_add-d-2 c = omega (arith, bit_small c.args.v, c.visible_bit-bit.ensures
 pub returns : goal.returns
 returns c =
     let a = c.args in
-    note_put a.r a.d _ a.v a.room.now _ c.visible_bit-bit.ensures c.put_le32.ensures
+    note_put a.r a.d _ a.v a.room.now _ c.visible_bit-bit.ensures c.put.ensures

@@ -1,3 +1,4 @@
+use Rattle.fid.proofs.SameLaws.{eq_same}
 use mathlib.Core.Path.{ap, ◌∙◌}
 use mathlib.Core.List.{List}
 use Prim.Native.Nat.{ℕ}
@@ -12,6 +13,6 @@ returns-then-children-k c = let a = c.args in row_past a.children.now a.f a.r (o
 pub returns : goal.returns
 returns c =
     let a = c.args in
-    c.same_mdt.ensures
+    c.eq.ensures ∙ eq_same _ _
     ∙ row_there a.children.now a.f a.r (omega arith) _
     (c.self_of.ensures ∙ ap (λ (l : List ℕ). (decode_child l).self) c.row_at.ensures.0)

@@ -21,8 +21,8 @@ overflow_add-size-2 c = omega (arith, c.requires.0.size, row_start _ _ _ c.requi
 pub overflow_cast-size : goal.overflow_cast-size
 overflow_cast-size c = omega (arith, c.requires.0.size, row_start _ _ _ c.requires.0 c.layout_of-l.ensures.0 c.slot_start-start.ensures, row_count _ _ _ c.layout_of-l.ensures.0 c.stripe_count-n.ensures)
 
-pub put_le16-requires : goal.put_le16-requires
-put_le16-requires c = omega (arith, c.requires.0.size, row_start _ _ _ c.requires.0 c.layout_of-l.ensures.0 c.slot_start-start.ensures, row_count _ _ _ c.layout_of-l.ensures.0 c.stripe_count-n.ensures)
+pub put-requires : goal.put-requires
+put-requires c = omega (arith, c.requires.0.size, row_start _ _ _ c.requires.0 c.layout_of-l.ensures.0 c.slot_start-start.ensures, row_count _ _ _ c.layout_of-l.ensures.0 c.stripe_count-n.ensures)
 
 pub put_header-requires : goal.put_header-requires
 put_header-requires c = omega (arith, c.requires.0.size, row_start _ _ _ c.requires.0 c.layout_of-l.ensures.0 c.slot_start-start.ensures, row_count _ _ _ c.layout_of-l.ensures.0 c.stripe_count-n.ensures)
@@ -54,4 +54,4 @@ returns c =
     let d = c in let a = d.args in
     grow_stores a.row.now (λ i. (c.slice_known-1.given i).fits) d.requires.0 a.i a.s d.requires.1 d.requires.2
     _ c.layout_of-l.ensures.0 _ c.read_header-h.ensures _ c.raised.ensures _ c.slot_start-start.ensures _ c.stripe_count-n.ensures
-    _ _ _ _ c.put_le16.ensures c.put_header.ensures c.put_holes.ensures c.put_slot.ensures
+    _ _ _ _ c.put.ensures c.put_header.ensures c.put_holes.ensures c.put_slot.ensures

@@ -3,4 +3,4 @@ use Rattle.tables.proofs.rows.layout_len.Goals as goal
 
 pub returns : goal.returns
 unfolding layout_length
-returns c = c.le16.ensures
+returns c = c.get.ensures
