@@ -7,6 +7,8 @@ use native.Mathlib.Omega.{arith}
 use lib.ListN.{length, take, drop, length-take, length-drop}
 use lib.Dec.{eqb}
 use borrow.Author.Tests.{eq-eqb, ne_eqb}
+use denote.Enum.Bare.{sameb}
+use Rattle.intake.specs.contracts.Kind.{the_type}
 use Rattle.intake.specs.declared.Kind.{Kind}
 use Rattle.intake.specs.declared.Kind.TheVariants.{Lov, Fid, Lma, Other}
 use Rattle.intake_bytes.specs.declared.Unfinished.{Unfinished}
@@ -32,6 +34,14 @@ module _ (h : List ℕ) (y : Value) (n : is_empty h ≡ false) where
     judge_attribute : starts trusted_word h ≡ true → attribute (kind_of h) (drop 11 h) y ≡ judge h y
     unfolding judge
     judge_attribute a = rw (n, f, a)
+
+-- the derived `==` tells it
+pub other_is : (k : Kind) → is_other k ≡ sameb the_type k Other
+unfolding is_other
+other_is Lov = refl
+other_is Fid = refl
+other_is Lma = refl
+other_is Other = refl
 
 is_skipped : (k : Kind) (a : List ℕ) (y : Value) → is_other k ≡ true → skipped ≡ attribute k a y
 unfolding is_other attribute
