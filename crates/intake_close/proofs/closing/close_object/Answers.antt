@@ -12,12 +12,12 @@ fill_object-requires c =
     let a = c.args in
     (row_fits object_size _ (length a.objects.now) (omega arith) (free_is object_size a.objects.now _ (sym c.free_row.ensures ∙ c.in-RowIs.is)).1, omega arith)
 
-pub returns-in-NoRow : goal.returns-in-NoRow
-returns-in-NoRow c =
+pub returns-in_default : goal.returns-in_default
+returns-in_default c =
     let p = c in let a = p.args in
-    object_none a.buf.now a.w a.index a.objects.now (sym c.free_row.ensures ∙ c.in-NoRow.is)
+    object_none a.buf.now a.w a.index a.objects.now (sym c.free_row.ensures ∙ c.in_default.is)
 
-pub returns-in-RowIs : goal.returns-in-RowIs
-returns-in-RowIs c =
+pub returns : goal.returns
+returns c =
     let p = c in let a = p.args in
     object_filled a.buf.now a.w a.index a.objects.now _ _ (omega arith) (sym c.free_row.ensures ∙ c.in-RowIs.is) c.fill_object.ensures
