@@ -288,3 +288,7 @@ unfolding good_state
 state_end s g =
     let h : good_kept (kept_of s) ≡ true = and_second (eqb (length s) state_size) (good_kept (kept_of s)) g in
     ((stop_passed (kept_of s) h).0, count_passed (kept_of s) h, (line_holds (kept_of s).reader.line (line_passed (kept_of s) h)).seen)
+
+pub state_stop : (s : List ℕ) → good_state s ≡ true → ((kept_of s).answer ≡ 0 → ⊥) → 33 ≤ (kept_of s).answer
+unfolding good_state
+state_stop s g = (stop_passed (kept_of s) (and_second (eqb (length s) state_size) (good_kept (kept_of s)) g)).1

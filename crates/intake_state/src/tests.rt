@@ -4,8 +4,9 @@ ghost use Rattle.intake_line.specs.Entry.{good_mark};
 ghost use Rattle.intake_state.specs.State.{good_stop, bare_marks, good_open, good_line, good_kept, good_state};
 
 use super::{Kept, state};
-use intake::{BAD_DUMP, Kind, NO_FIT};
+use intake::Kind;
 use intake_bytes::{BROKEN, HEAD_SIZE, LAYOUT_AT, Marks, Unfinished};
+use refusals::Refusal;
 use tables::rows::LAYOUT_ROOM;
 
 // The bytes of a state.
@@ -18,13 +19,9 @@ const MAX_READ: usize = 0x8000_0000_0000_0000;
 fn good_stop(answer: usize) -> bool
     ensures { result ≡ good_stop answer }
 {
-    if answer == 0 {
-        return true;
-    }
-    if answer < BAD_DUMP {
-        return false;
-    }
-    answer <= NO_FIT
+    let least = Refusal::BadDump.number() as usize;
+    let most = Refusal::NoFit.number() as usize;
+    answer == 0 || (least <= answer && answer <= most)
 }
 
 // A mark is 0, or that of a good length.
