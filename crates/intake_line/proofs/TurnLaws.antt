@@ -15,17 +15,18 @@ use Rattle.refusals.specs.declared.Refusal.{Refusal}
 use Rattle.intake.specs.Says.{Line, kind_of}
 use Rattle.intake.specs.Reading.{Reading, is_going, take_line, on_line, goes_on}
 use Rattle.intake.specs.Machine.{byte, going_byte, no_line}
-use Rattle.intake_bytes.specs.Lent.{want_of, new_line, kept_in, digits_in, partial_in, Held}
+use Rattle.intake_bytes.specs.Lent.{want_of, new_line, kept_in, digits_of, digits_in, partial_in, HalfFits, Held}
 use Rattle.intake_line.specs.Ending.{line_of, LineSaid}
 use Rattle.intake_line.specs.Entry.{open_in, After, AfterHeld, after_is, Standing, EntryStep, ReaderHeld, TurnHeld, state_in, turn_is, TurnTaken}
 use Rattle.intake_line.proofs.GlueLaws.{stands}
 
 pub new_is : (buf : List ℕ) → no_line ≡ partial_in buf new_line
-unfolding no_line partial_in digits_in kept_in
+unfolding no_line partial_in digits_in digits_of kept_in
 new_is buf = refl
 
 -- and it is held, whatever is wanted
 pub new_held : (want : Kind → ℕ) (buf : List ℕ) → 208 ≤ length buf → Held want buf new_line
+unfolding HalfFits
 new_held want buf h =
     record {
       heads = omega arith;
@@ -34,7 +35,7 @@ new_held want buf h =
       keeps = λ q. absurd (omega arith);
       past = omega arith;
       fits = omega arith;
-      halves = omega arith;
+      halves = tt;
     }
 
 module _ (buf : List ℕ) (r : Reader) (g : ReaderHeld buf r) (s : Said) (l : LineSaid buf r.line s) (a : After)

@@ -8,7 +8,7 @@ ghost use Rattle.intake_line.specs.Ending.{HeadSaid, LineSaid};
 ghost use Rattle.intake_line.specs.Entry.{no_marks, marks_with, EntryStep, ReaderHeld, TurnTaken};
 
 use intake::Kind;
-use intake_bytes::{HEAD_AT, HEAD_SIZE, LMA_SIZE, MARK_AT, Marks, OLDER_SIZE, Unfinished};
+use intake_bytes::{HEAD_AT, HEAD_SIZE, Half, LMA_SIZE, MARK_AT, Marks, OLDER_SIZE, Unfinished};
 use refusals::Refusal;
 
 // What a line says; the length and the bytes of a taken value stand beside it.
@@ -43,7 +43,7 @@ pub fn good_size(k: Kind, n: usize) -> bool
 }
 
 // What a line with this head says, where its value's digits come to so many bytes.
-pub fn head_says(h: &[u8], half: usize, size: usize) -> Said
+pub fn head_says(h: &[u8], half: Half, size: usize) -> Said
     ensures { HeadSaid h.now half size result }
 {
     if h.len() == 0 {
@@ -65,9 +65,9 @@ pub fn head_says(h: &[u8], half: usize, size: usize) -> Said
     if !intake_bytes::starts(b"=0x", &h[MARK_AT..]) {
         return Said::Bad;
     }
-    if half != 0 {
+    let Half::Even = half else {
         return Said::Bad;
-    }
+    };
     if good_size(k, size) {
         return Said::Takes(k);
     }

@@ -43,20 +43,20 @@ returns-then-not-starts-2 c =
     let a = c.args in
     record { says = λ v. ends_unmarked a.h.now a.half a.size v c.if-h-eq0.false (sym c.starts.ensures ∙ c.if-starts.false) (sym c.starts-2.ensures ∙ c.if-not-starts.false) c.kind_of-k.result c.kind_of-k.ensures (other_is c.kind_of-k.result ∙ sym c.eq.ensures ∙ c.if-eq.false) (sym (ap (starts value_word) (drop_take_all 11 a.h.now)) ∙ sym c.starts-3.ensures ∙ c.if-not-starts-2.true); whole = λ k e. absurd (bad_not k e) }
 
-pub returns-then-half-ne0 : goal.returns-then-half-ne0
+pub returns-in_default : goal.returns-in_default
 unfolding line_of
-returns-then-half-ne0 c =
+returns-in_default c =
     let a = c.args in
-    record { says = λ v. ends_odd a.h.now a.half a.size v c.if-h-eq0.false (sym c.starts.ensures ∙ c.if-starts.false) (sym c.starts-2.ensures ∙ c.if-not-starts.false) c.kind_of-k.result c.kind_of-k.ensures (other_is c.kind_of-k.result ∙ sym c.eq.ensures ∙ c.if-eq.false) (sym (ap (starts value_word) (drop_take_all 11 a.h.now)) ∙ sym c.starts-3.ensures ∙ c.if-not-starts-2.false) c.if-half-ne0.true; whole = λ k e. absurd (bad_not k e) }
+    record { says = λ v. ends_odd a.h.now a.half a.size v c.if-h-eq0.false (sym c.starts.ensures ∙ c.if-starts.false) (sym c.starts-2.ensures ∙ c.if-not-starts.false) c.kind_of-k.result c.kind_of-k.ensures (other_is c.kind_of-k.result ∙ sym c.eq.ensures ∙ c.if-eq.false) (sym (ap (starts value_word) (drop_take_all 11 a.h.now)) ∙ sym c.starts-3.ensures ∙ c.if-not-starts-2.false) (λ z. c.in_default.not-Even z); whole = λ k e. absurd (bad_not k e) }
 
 pub returns-then-good_size : goal.returns-then-good_size
 unfolding line_of
 returns-then-good_size c =
     let a = c.args in
-    record { says = λ v. ends_taken a.h.now a.half a.size v c.if-h-eq0.false (sym c.starts.ensures ∙ c.if-starts.false) (sym c.starts-2.ensures ∙ c.if-not-starts.false) c.kind_of-k.result c.kind_of-k.ensures (other_is c.kind_of-k.result ∙ sym c.eq.ensures ∙ c.if-eq.false) (sym (ap (starts value_word) (drop_take_all 11 a.h.now)) ∙ sym c.starts-3.ensures ∙ c.if-not-starts-2.false) c.if-half-ne0.false (sym c.good_size.ensures ∙ c.if-good_size.true); whole = λ k e. (omega arith, takes_same k c.kind_of-k.result e ∙ c.kind_of-k.ensures, ap (λ (z : Kind). good_size z a.size) (takes_same k c.kind_of-k.result e) ∙ sym c.good_size.ensures ∙ c.if-good_size.true) }
+    record { says = λ v. ends_taken a.h.now a.half a.size v c.if-h-eq0.false (sym c.starts.ensures ∙ c.if-starts.false) (sym c.starts-2.ensures ∙ c.if-not-starts.false) c.kind_of-k.result c.kind_of-k.ensures (other_is c.kind_of-k.result ∙ sym c.eq.ensures ∙ c.if-eq.false) (sym (ap (starts value_word) (drop_take_all 11 a.h.now)) ∙ sym c.starts-3.ensures ∙ c.if-not-starts-2.false) c.in-Even.is (sym c.good_size.ensures ∙ c.if-good_size.true); whole = λ k e. (omega arith, takes_same k c.kind_of-k.result e ∙ c.kind_of-k.ensures, ap (λ (z : Kind). good_size z a.size) (takes_same k c.kind_of-k.result e) ∙ sym c.good_size.ensures ∙ c.if-good_size.true) }
 
 pub returns : goal.returns
 unfolding line_of
 returns c =
     let a = c.args in
-    record { says = λ v. ends_unfit a.h.now a.half a.size v c.if-h-eq0.false (sym c.starts.ensures ∙ c.if-starts.false) (sym c.starts-2.ensures ∙ c.if-not-starts.false) c.kind_of-k.result c.kind_of-k.ensures (other_is c.kind_of-k.result ∙ sym c.eq.ensures ∙ c.if-eq.false) (sym (ap (starts value_word) (drop_take_all 11 a.h.now)) ∙ sym c.starts-3.ensures ∙ c.if-not-starts-2.false) c.if-half-ne0.false (sym c.good_size.ensures ∙ c.if-good_size.false); whole = λ k e. absurd (bad_not k e) }
+    record { says = λ v. ends_unfit a.h.now a.half a.size v c.if-h-eq0.false (sym c.starts.ensures ∙ c.if-starts.false) (sym c.starts-2.ensures ∙ c.if-not-starts.false) c.kind_of-k.result c.kind_of-k.ensures (other_is c.kind_of-k.result ∙ sym c.eq.ensures ∙ c.if-eq.false) (sym (ap (starts value_word) (drop_take_all 11 a.h.now)) ∙ sym c.starts-3.ensures ∙ c.if-not-starts-2.false) c.in-Even.is (sym c.good_size.ensures ∙ c.if-good_size.false); whole = λ k e. absurd (bad_not k e) }
