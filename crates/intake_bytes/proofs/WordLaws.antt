@@ -46,13 +46,6 @@ named_more (a ∷ w) [] h k = absurd (omega arith)
 named_more (a ∷ w) (b ∷ s) h k =
     rw (and_first (eqb b a) (starts w s) h) (named_more w s (and_second (eqb b a) (starts w s) h) (omega arith))
 
-module _ (w s : List ℕ) (h : starts w s ≡ true) (k : length w < length s) where
-  pub named_equals : get_or s (length w) 0 ≡ 61 → true ≡ named w s
-  named_equals e = sym (named_more w s h k ∙ eq-eqb (get_or s (length w) 0) 61 e)
-
-  pub named_longer : (get_or s (length w) 0 ≡ 61 → ⊥) → false ≡ named w s
-  named_longer e = sym (named_more w s h k ∙ ne_eqb (get_or s (length w) 0) 61 e)
-
 module _ (s : List ℕ) where
   pub kind_not : starts trusted_word s ≡ false → Other ≡ kind_of s
   unfolding kind_of

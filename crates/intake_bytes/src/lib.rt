@@ -48,6 +48,7 @@ pub enum Half {
 }
 
 // Of each attribute of the open entry its length and 1, or 0 where it has none.
+// Numbers as the state holds them: `state_holds` and `reload` read back each mark of a state that passes, the largest too, which no length has.
 #[derive(Clone, Copy)]
 pub struct Marks {
     pub lov: usize,

@@ -99,6 +99,7 @@ pub fn read_piece(
 {
     let mut k = first;
     let mut at = 0;
+    // A loop: where the next line begins is told by the line that was read.
     while at < piece.len() {
         let fed = intake_bytes::feed_line(state, k.reader.marks, k.reader.line, piece, at);
         let end = fed.at;

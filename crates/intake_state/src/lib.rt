@@ -13,6 +13,7 @@ use refusals::Refusal;
 
 // What the state holds in numbers: the answer that stopped the reading (0 while it goes on) and the line it names, how much of the owners file is
 // taken, and the reader.
+// The answer stays a number: `good_state` tests any that is lent, and `machine_of` says what each one stands for.
 #[derive(Clone, Copy)]
 pub struct Kept {
     pub answer: usize,
