@@ -223,7 +223,11 @@ fn feed_pairs(buf: &mut [u8], line: Unfinished, piece: &[u8], from: usize) -> Re
     requires { PastHead (length buf.old) line (length piece.now) from × (line.half ≡ Even) }
     ensures { DigitsFed buf.old line piece.now from buf.new result.line result.at }
 {
-    let mut x = line;
+    // Written out, so that no half byte is carried through the loop.
+    let mut x = Unfinished {
+        half: Half::Even,
+        ..line
+    };
     let mut at = from;
     // A loop: the place where the digits end is part of the answer.
     while 2 <= piece.len() - at {
