@@ -1,5 +1,5 @@
 -- A line's bytes one after another in the lent bytes. Assumes nothing.
-use Prim.Native.Nat.{ℕ, suc, ◌+◌, ◌-◌, ◌≤◌, ◌<◌}
+use Prim.Native.Nat.{ℕ, suc, ◌+◌, ◌-◌, ◌*◌, ◌≤◌, ◌<◌}
 use mathlib.Core.Path.{◌≡◌, refl, sym, ap, subst, ◌∙◌}
 use mathlib.Core.List.{List, foldl}
 use mathlib.Core.Bool.{true}
@@ -14,7 +14,8 @@ use Rattle.intake_bytes.specs.declared.Unfinished.{Unfinished}
 use Rattle.intake.specs.Reading.{Reading, is_going}
 use Rattle.intake.specs.Says.{kind_of, digit}
 use Rattle.intake.specs.Machine.{Partial, line_byte, State, going_byte, byte, want_in}
-use Rattle.intake_bytes.specs.Lent.{want_of, partial_in, part_of, valued, DigitStep, PairStep, Held, Others, LineStep, Feeding, PastHead, DigitsFed, ValueFed, LineFed}
+use Rattle.intake_bytes.specs.declared.Half.TheVariants.{Even, Odd}
+use Rattle.intake_bytes.specs.Lent.{want_of, partial_in, part_of, valued, DigitStep, ByteStep, Held, Others, LineStep, Feeding, PastHead, DigitsFed, ValueFed, LineFed}
 use Rattle.intake_bytes.specs.declared.Reached.{Reached}
 use Rattle.intake_bytes.proofs.HoldLaws.{digit_step}
 use Rattle.intake_bytes.proofs.StoreLaws.{first_half_lem}
@@ -93,6 +94,10 @@ feeding_then want before x piece from now y at after r end f g =
         (λ (n : ℕ). foldl (byte (n - 208)) (record { reading = R; line = partial_in now y }) (drop at piece) ≡ foldl (byte (n - 208)) (record { reading = R; line = partial_in after r }) (drop end piece))
         f.long (g.same R e (λ k. ap (λ (n : ℕ). want_in (n - 208) R.entry k) f.long ∙ w k))
 
+-- a place past which nothing is left
+pub reaches : (at n : ℕ) → n ≤ at → at ≤ n → at ≡ n
+reaches at n h k = omega arith
+
 -- ## The digits of a value
 
 pub digits_start : (buf : List ℕ) (x : Unfinished) (piece : List ℕ) (from : ℕ) → PastHead (length buf) x (length piece) from → DigitsFed buf x piece from buf x from
@@ -138,14 +143,15 @@ module _ (before : List ℕ) (x : Unfinished) (piece : List ℕ) (from : ℕ) wh
   unfolding digit
   not_newline b d e h n = omega (arith, e ∙ ap digit n)
 
-  pub pair_step : (now : List ℕ) (y : Unfinished) (at high low : ℕ) (after : List ℕ) (r : Unfinished) → DigitsFed before x piece from now y at
-      → PastHead (length before) x (length piece) from → at + 2 ≤ length piece → y.half ≡ 0 → high ≡ digit (get_or piece at 0) → high < 16
-      → low ≡ digit (get_or piece (at + 1) 0) → low < 16 → PairStep now y high low after r → DigitsFed before x piece from after r (at + 2)
-  pair_step now y at high low after r d p h z e i f j s =
-      let one : DigitsFed before x piece from now (valued y (high + 1) y.size) (at + 1) =
-      digits_step now y at _ now (valued y (high + 1) y.size) d p (omega arith) refl (not_newline _ high e i) (first_half_lem now y _ d.room z high e i) in
+  pub pair_step : (now : List ℕ) (y : Unfinished) (at high low v : ℕ) (after : List ℕ) (r : Unfinished) → DigitsFed before x piece from now y at
+      → PastHead (length before) x (length piece) from → at + 2 ≤ length piece → y.half ≡ Even → (high ≡ digit (get_or piece at 0)) × (high < 16)
+      → (low ≡ digit (get_or piece (at + 1) 0)) × (low < 16) → v ≡ 16 * high + low → ByteStep now y v after r → DigitsFed before x piece from after r (at + 2)
+  pair_step now y at high low v after r d p h z i j w s =
+      let one : DigitsFed before x piece from now (valued y (Odd high) y.size) (at + 1) =
+      digits_step now y at _ now (valued y (Odd high) y.size) d p (omega arith) refl (not_newline _ high i.0 i.1) (first_half_lem now y _ z high i.0 i.1) in
       subst (DigitsFed before x piece from after r) (two at)
-      (digits_step now (valued y (high + 1) y.size) (at + 1) _ after r one p (omega arith) refl (not_newline _ low f j) (s.second _ f))
+      (digits_step now (valued y (Odd high) y.size) (at + 1) _ after r one p (omega arith) refl (not_newline _ low j.0 j.1)
+      (s.second high _ i.1 (omega (arith, j.0, j.1)) (omega (arith, w, j.0))))
     where
       two : (n : ℕ) → n + 1 + 1 ≡ n + 2
       two n = omega arith

@@ -14,7 +14,8 @@ use Rattle.intake_bytes.specs.declared.Marks.{Marks}
 use Rattle.intake_bytes.specs.declared.Unfinished.{Unfinished}
 use Rattle.intake.specs.Says.{kind_of, wanted}
 use Rattle.intake.specs.Machine.{Digits, even, digit_byte, line_byte}
-use Rattle.intake_bytes.specs.Lent.{base_of, mark_of, want_of, kept_in, digits_in, partial_in, part_of, Within, DigitStep, Held, Others, LineStep}
+use Rattle.intake_bytes.specs.declared.Half.TheVariants.{Even}
+use Rattle.intake_bytes.specs.Lent.{base_of, mark_of, want_of, kept_in, digits_of, digits_in, HalfFits, partial_in, part_of, Within, DigitStep, Held, Others, LineStep}
 use Rattle.intake.proofs.HeadLaws.{drop_take}
 use Rattle.intake.proofs.LineLaws.{partial, head_byte, digit_byte_lem}
 
@@ -90,8 +91,8 @@ others_kind n before after most Other k w h z = ap (part_of n k) (nothing_change
 
 -- ## The head
 
-none_in : (buf : List ℕ) (r : Unfinished) → r.half ≡ 0 → r.size ≡ 0 → digits_in buf r ≡ even 0 []
-unfolding digits_in kept_in
+none_in : (buf : List ℕ) (r : Unfinished) → r.half ≡ Even → r.size ≡ 0 → digits_in buf r ≡ even 0 []
+unfolding digits_in digits_of kept_in
 none_in buf r e z = rw (e, z)
 
 module _ (want : Kind → ℕ) (buf : List ℕ) (x : Unfinished) (b : ℕ) (long : 208 ≤ length buf) (g : Held want buf x) (h : x.seen < 14) where
@@ -106,7 +107,7 @@ module _ (want : Kind → ℕ) (buf : List ℕ) (x : Unfinished) (b : ℕ) (long
   none_yet : digits_in buf x ≡ even 0 []
   none_yet = none_in buf x (g.short h).0 (g.short h).1
 
-  head_line : (r : Unfinished) → r.seen ≡ x.seen + 1 → r.half ≡ 0 → r.size ≡ 0
+  head_line : (r : Unfinished) → r.seen ≡ x.seen + 1 → r.half ≡ Even → r.size ≡ 0
       → partial_in (set buf (128 + x.seen) b) r ≡ line_byte want (partial_in buf x) b
   unfolding partial_in partial
   head_line r s e z =
@@ -118,7 +119,8 @@ module _ (want : Kind → ℕ) (buf : List ℕ) (x : Unfinished) (b : ℕ) (long
   unfolding Others part_of
   head_others k e = ap (take (wanted (length buf - 208) k)) (drop-set-lt (base_of k) buf (128 + x.seen) b (omega (arith, base_past k)))
 
-  pub head_step : x.seen < 13 → LineStep want buf x b (set buf (128 + x.seen) b) (record { seen = x.seen + 1; base = x.base; most = x.most; half = 0; size = 0 })
+  pub head_step : x.seen < 13 → LineStep want buf x b (set buf (128 + x.seen) b) (record { seen = x.seen + 1; base = x.base; most = x.most; half = Even; size = 0 })
+  unfolding HalfFits
   head_step k =
       record {
         line = head_line _ refl refl refl;
@@ -129,7 +131,7 @@ module _ (want : Kind → ℕ) (buf : List ℕ) (x : Unfinished) (b : ℕ) (long
           keeps = λ q. absurd (omega arith);
           past = g.past;
           fits = rw length-set g.fits;
-          halves = omega arith;
+          halves = tt;
         };
         counts = omega arith;
         long = length-set buf (128 + x.seen) b;
@@ -138,7 +140,8 @@ module _ (want : Kind → ℕ) (buf : List ℕ) (x : Unfinished) (b : ℕ) (long
 
   pub full_step : x.seen ≡ 13 → (base most : ℕ) → base ≡ base_of (kind_of (take 14 (drop 128 (set buf (128 + x.seen) b))))
       → most ≡ want (kind_of (take 14 (drop 128 (set buf (128 + x.seen) b)))) → base + most ≤ length buf
-      → LineStep want buf x b (set buf (128 + x.seen) b) (record { seen = 14; base = base; most = most; half = 0; size = 0 })
+      → LineStep want buf x b (set buf (128 + x.seen) b) (record { seen = 14; base = base; most = most; half = Even; size = 0 })
+  unfolding HalfFits
   full_step k base most p q f =
       record {
         line = head_line _ (omega arith) refl refl;
@@ -149,7 +152,7 @@ module _ (want : Kind → ℕ) (buf : List ℕ) (x : Unfinished) (b : ℕ) (long
           keeps = λ _. q;
           past = subst (λ (n : ℕ). 144 ≤ n) (sym p) (base_past _);
           fits = rw length-set f;
-          halves = omega arith;
+          halves = tt;
         };
         counts = omega arith;
         long = length-set buf (128 + x.seen) b;

@@ -1,16 +1,16 @@
 -- A word at the front of a slice, byte by byte, and a hex digit. Assumes nothing.
-use Prim.Native.Nat.{ℕ, suc, ◌+◌, ◌-◌, ◌≤◌, ◌<◌}
-use mathlib.Core.Path.{◌≡◌, refl, sym, subst, ◌∙◌}
+use Prim.Native.Nat.{ℕ, ◌+◌, ◌-◌, ◌≤◌, ◌<◌}
+use mathlib.Core.Path.{◌≡◌, refl, sym, ap, ◌∙◌}
 use mathlib.Core.List.{List, [], ◌∷◌}
 use mathlib.Core.Bool.{Bool, true, false, cond, ◌&&◌, and-false}
-use native.Mathlib.Numerals.{add-one}
 use native.Mathlib.Omega.{arith}
-use lib.ListN.{length, drop, get_or, drop_of_length-le}
-use lib.Seq.{drop-cons}
+use lib.ListN.{length}
 use lib.Dec.{eqb, ltb}
-use borrow.Author.Tests.{eq-eqb, ne_eqb, le-leb, lt-leb, ltb-true, ltb-false}
-use Rattle.intake.specs.Says.{starts, digit}
-use Rattle.intake_bytes.specs.Lent.{folded}
+use borrow.Author.Tests.{eq-eqb, ne_eqb, eqb-true, eqb-false, le-leb, lt-leb, lt-ltb, ltb-true}
+use Rattle.std.specs.Prelude.{Some, None}
+use Rattle.std.specs.List.{starts_with}
+use Rattle.intake.specs.Says.{starts, digit, is_digit}
+use Rattle.intake_bytes.specs.Lent.{digit_of}
 
 pub starts_short : (w s : List ℕ) → length s < length w → false ≡ starts w s
 unfolding starts
@@ -18,29 +18,18 @@ starts_short [] s h = absurd (omega arith)
 starts_short (a ∷ w) [] h = refl
 starts_short (a ∷ w) (b ∷ s) h = rw (← starts_short w s (omega arith)) (sym (and-false (eqb b a)))
 
--- what is left to compare from byte i on
-pub from : List ℕ → List ℕ → ℕ → Bool
-from w s i = starts (drop i w) (drop i s)
+same_byte : (a b : ℕ) → eqb a b ≡ eqb b a
+same_byte a b = go (eqb a b) refl where
+  go : (t : Bool) → eqb a b ≡ t → t ≡ eqb b a
+  go true e = sym (eq-eqb b a (sym (eqb-true a b e)))
+  go false e = sym (ne_eqb b a (λ z. eqb-false a b e (sym z)))
 
-module _ (w s : List ℕ) where
-  pub starts_begin : starts w s ≡ from w s 0
-  unfolding from
-  starts_begin = refl
-
-  pub starts_end : (i : ℕ) → length w ≤ i → from w s i ≡ true
-  unfolding from starts
-  starts_end i h = rw (drop_of_length-le w h)
-
-  module _ (i : ℕ) (h : i < length w) (k : i < length s) where
-    starts_at : from w s i ≡ (eqb (get_or s i 0) (get_or w i 0) && from w s (suc i))
-    unfolding from starts
-    starts_at = rw (drop-cons w i 0 h, drop-cons s i 0 k)
-
-    pub starts_next : get_or s i 0 ≡ get_or w i 0 → from w s i ≡ from w s (i + 1)
-    starts_next e = rw (add-one, starts_at, eq-eqb (get_or s i 0) (get_or w i 0) e)
-
-    pub starts_not : (get_or s i 0 ≡ get_or w i 0 → ⊥) → from w s i ≡ false
-    starts_not e = rw (starts_at, ne_eqb (get_or s i 0) (get_or w i 0) e)
+-- std's test of a word at the front
+pub starts_is : (s w : List ℕ) → starts_with eqb s w ≡ starts w s
+unfolding starts
+starts_is s [] = refl
+starts_is [] (a ∷ w) = refl
+starts_is (b ∷ s) (a ∷ w) = ap (λ (t : Bool). t && starts_with eqb s w) (same_byte a b) ∙ ap (λ (t : Bool). eqb b a && t) (starts_is s w)
 
 module _ (b : ℕ) where
   pub digit_low : b < 48 → 16 ≡ digit b
@@ -71,24 +60,36 @@ module _ (b : ℕ) where
   unfolding digit
   digit_high h = simp (le-leb 48 b (omega arith), lt-leb b 57 (omega arith), le-leb 65 b (omega arith), lt-leb b 70 (omega arith), le-leb 97 b (omega arith), lt-leb b 102 h)
 
-  -- the same of a letter that was folded
-  fold_cases : (P : ℕ → Type 0) → (b < 97 → P (b + 32)) → (97 ≤ b → P b) → (u : ℕ) → u ≡ folded b → P u
-  unfolding folded
-  fold_cases P small large u e = go (ltb b 97) refl e where
-    go : (t : Bool) → ltb b 97 ≡ t → u ≡ cond t (b + 32) b → P u
-    go true h q = subst P (sym q) (small (ltb-true b 97 h))
-    go false h q = subst P (sym q) (large (ltb-false b 97 h))
+  pub from_55 : 65 ≤ b → b - 65 + 10 ≡ b - 55
+  from_55 h = omega arith
 
-  pub fold_before : (u : ℕ) → u ≡ folded b → 57 < b → u < 97 → 16 ≡ digit b
-  fold_before u e h = fold_cases (λ (w : ℕ). w < 97 → 16 ≡ digit b) (λ s k. digit_gap h (omega arith)) (λ l k. absurd (omega arith)) u e
+  pub from_87 : 97 ≤ b → b - 97 + 10 ≡ b - 87
+  from_87 h = omega arith
 
-  pub fold_digit : (u : ℕ) → u ≡ folded b → 57 < b → 97 ≤ u → u ≤ 102 → u - 87 ≡ digit b
-  fold_digit u e h =
-      fold_cases (λ (w : ℕ). 97 ≤ w → w ≤ 102 → w - 87 ≡ digit b) (λ s k n. sub_32 ∙ digit_upper b refl (omega arith) (omega arith))
-      (λ l k n. digit_lower b refl k n) u e
-    where
-      sub_32 : b + 32 - 87 ≡ b - 55
-      sub_32 = omega arith
+  -- a digit, and none
+  pub digit_some : (d : ℕ) → d ≡ digit b → d < 16 → Some d ≡ digit_of b
+  unfolding digit_of is_digit
+  digit_some d e h = rw (← e, lt-ltb d 16 h)
 
-  pub fold_after : (u : ℕ) → u ≡ folded b → 57 < b → 102 < u → 16 ≡ digit b
-  fold_after u e h = fold_cases (λ (w : ℕ). 102 < w → 16 ≡ digit b) (λ s k. digit_gap_2 (omega arith) s) (λ l k. digit_high k) u e
+  pub digit_none : 16 ≡ digit b → None ≡ digit_of b
+  unfolding digit_of is_digit
+  digit_none e = rw (← e)
+
+  digit_cases : (t : Bool) (d : ℕ) → ltb (digit b) 16 ≡ t → Some d ≡ cond t (Some (digit b)) None → (d ≡ digit b) × (d < 16)
+  digit_cases true d h e =
+      let z : d ≡ digit b = cc in
+      (z, omega (arith, z, ltb-true (digit b) 16 h))
+  digit_cases false d h e = let z : ◌≡◌ {A = ℕ} 0 1 = cc in absurd (omega arith)
+
+  -- what they say
+  pub digit_at : (d : ℕ) → Some d ≡ digit_of b → (d ≡ digit b) × (d < 16)
+  unfolding digit_of is_digit
+  digit_at d e = digit_cases (ltb (digit b) 16) d refl e
+
+  none_cases : (t : Bool) → is_digit b ≡ t → None ≡ cond t (Some (digit b)) None → is_digit b ≡ false
+  none_cases true h e = let z : ◌≡◌ {A = ℕ} 0 1 = cc in absurd (omega arith)
+  none_cases false h e = h
+
+  pub digit_not : None ≡ digit_of b → is_digit b ≡ false
+  unfolding digit_of
+  digit_not e = none_cases (is_digit b) refl e

@@ -1,12 +1,11 @@
 -- A line's name, and the kind that it says. Assumes nothing.
 use Prim.Native.Nat.{ℕ, ◌-◌, ◌≤◌, ◌<◌}
-use mathlib.Core.Path.{◌≡◌, refl, sym, ap, ◌∙◌}
+use mathlib.Core.Path.{◌≡◌, refl, ap}
 use mathlib.Core.List.{List, [], ◌∷◌}
 use mathlib.Core.Bool.{Bool, true, false, cond, ◌&&◌}
 use native.Mathlib.Omega.{arith}
 use lib.ListN.{length, take, drop, get_or}
 use lib.Dec.{eqb}
-use borrow.Author.Tests.{eq-eqb, ne_eqb}
 use Rattle.intake.specs.declared.Kind.{Kind}
 use Rattle.intake.specs.declared.Kind.TheVariants.{Lov, Fid, Lma, Other}
 use Rattle.intake.specs.Says.{starts, named, trusted_word, lov_word, fid_word, lma_word, kind_of, wanted}
@@ -45,13 +44,6 @@ named_more [] (b ∷ s) h k = refl
 named_more (a ∷ w) [] h k = absurd (omega arith)
 named_more (a ∷ w) (b ∷ s) h k =
     rw (and_first (eqb b a) (starts w s) h) (named_more w s (and_second (eqb b a) (starts w s) h) (omega arith))
-
-module _ (w s : List ℕ) (h : starts w s ≡ true) (k : length w < length s) where
-  pub named_equals : get_or s (length w) 0 ≡ 61 → true ≡ named w s
-  named_equals e = sym (named_more w s h k ∙ eq-eqb (get_or s (length w) 0) 61 e)
-
-  pub named_longer : (get_or s (length w) 0 ≡ 61 → ⊥) → false ≡ named w s
-  named_longer e = sym (named_more w s h k ∙ ne_eqb (get_or s (length w) 0) 61 e)
 
 module _ (s : List ℕ) where
   pub kind_not : starts trusted_word s ≡ false → Other ≡ kind_of s

@@ -1,14 +1,16 @@
 -- The unfinished line in lent bytes, and what each function does there. Document 02, 2026-03: "Input arrives in pieces".
-use Rattle.std.specs.Prelude.{ℕ, suc, ◌+◌, ◌-◌, ◌≤◌, ◌<◌, ◌≡◌, true, cond, length, take, drop, get_or, eqb, ltb}
+use Rattle.std.specs.Prelude.{ℕ, suc, ◌+◌, ◌-◌, ◌*◌, ◌≤◌, ◌<◌, ◌≡◌, true, cond, length, take, drop, get_or, eqb, Option, Some, None, ⊤}
 use mathlib.Core.List.{List, foldl}
 use Rattle.fid.specs.Fid.{fid_size}
 use Rattle.intake.specs.Lines.{newline}
 use Rattle.intake.specs.declared.Kind.{Kind}
 use Rattle.intake.specs.declared.Kind.TheVariants.{Lov, Fid, Lma, Other}
 use Rattle.intake_bytes.specs.declared.Marks.{Marks}
+use Rattle.intake_bytes.specs.declared.Half.{Half}
+use Rattle.intake_bytes.specs.declared.Half.TheVariants.{Even, Odd, Broken}
 use Rattle.intake_bytes.specs.declared.Unfinished.{Unfinished}
 use Rattle.intake_bytes.specs.declared.Reached.{Reached}
-use Rattle.intake.specs.Says.{head_size, digit, kind_of, wanted}
+use Rattle.intake.specs.Says.{head_size, digit, is_digit, kind_of, wanted}
 use Rattle.intake.specs.Machine.{Digits, broken, even, odd, digit_byte, Partial, line_byte, byte, want_in}
 use Rattle.intake.specs.Reading.{Reading, is_going}
 
@@ -39,10 +41,6 @@ base_of Other = fid_at
 abbrev pub max_count : ℕ
 max_count = 0xffffffffffffffff
 
--- the half byte of digits that aren't hex
-abbrev pub broken_half : ℕ
-broken_half = 17
-
 -- ## The unfinished line
 
 unfoldable pub mark_of : Marks → Kind → ℕ
@@ -59,31 +57,40 @@ want_of m size k = cond (eqb (mark_of m k) 0) (wanted (size - layout_at) k) 0
 unfoldable pub kept_in : List ℕ → Unfinished → List ℕ
 kept_in buf x = take x.size (take x.most (drop x.base buf))
 
+unfoldable pub digits_of : Half → ℕ → List ℕ → Digits
+digits_of Even n v = even n v
+digits_of (Odd h) n v = odd h n v
+digits_of Broken n v = broken
+
 unfoldable pub digits_in : List ℕ → Unfinished → Digits
-digits_in buf x =
-    cond (eqb x.half 0) (even x.size (kept_in buf x))
-    (cond (eqb x.half broken_half) broken (odd (x.half - 1) x.size (kept_in buf x)))
+digits_in buf x = digits_of x.half x.size (kept_in buf x)
 
 unfoldable pub partial_in : List ℕ → Unfinished → Partial
 partial_in buf x = record { head = take x.seen (drop head_at buf); digits = digits_in buf x }
 
 -- a line of which nothing has been read
 abbrev pub new_line : Unfinished
-new_line = record { seen = 0; base = fid_at; most = 0; half = 0; size = 0 }
+new_line = record { seen = 0; base = fid_at; most = 0; half = Even; size = 0 }
 
--- a letter of upper case as one of lower case, and bytes from there on as they are
-unfoldable pub folded : ℕ → ℕ
-folded v = cond (ltb v 97) (v + 32) v
+-- the digit that a byte is
+unfoldable pub digit_of : ℕ → Option ℕ
+digit_of b = cond (is_digit b) (Some (digit b)) None
+
+-- a first digit is below 16
+unfoldable pub HalfFits : Half → Type 0
+HalfFits Even = ⊤
+HalfFits (Odd h) = h < 16
+HalfFits Broken = ⊤
 
 -- the same line with other digits
-abbrev pub valued : Unfinished → ℕ → ℕ → Unfinished
+abbrev pub valued : Unfinished → Half → ℕ → Unfinished
 valued x half size = record { seen = x.seen; base = x.base; most = x.most; half = half; size = size }
 
 -- a state of n bytes has room for the line, and its counts don't wrap
 pub record Room (n : ℕ) (x : Unfinished) : Type 0 where
   pub fits : x.base + x.most ≤ n
   pub past : fid_at ≤ x.base
-  pub halves : x.half ≤ broken_half
+  pub halves : HalfFits x.half
   pub counts : x.size < max_count
 
 -- bytes from base on, most of them, may have changed, and no others
@@ -98,23 +105,23 @@ pub record DigitStep (before : List ℕ) (x : Unfinished) (b : ℕ) (after : Lis
   pub seen : r.seen ≡ x.seen
   pub base : r.base ≡ x.base
   pub most : r.most ≡ x.most
-  pub halves : r.half ≤ broken_half
+  pub halves : HalfFits r.half
   pub counts : r.size ≤ suc x.size
 
--- two digits of a whole byte: from the first one on, what the second does
-pub record PairStep (before : List ℕ) (x : Unfinished) (high low : ℕ) (after : List ℕ) (r : Unfinished) : Type 0 where
-  pub second : (b : ℕ) → low ≡ digit b → DigitStep before (valued x (high + 1) x.size) b after r
-  pub half : r.half ≡ 0
+-- a whole byte: after its first digit, what the second one does
+pub record ByteStep (before : List ℕ) (x : Unfinished) (v : ℕ) (after : List ℕ) (r : Unfinished) : Type 0 where
+  pub second : (h b : ℕ) → h < 16 → digit b < 16 → v ≡ 16 * h + digit b → DigitStep before (valued x (Odd h) x.size) b after r
+  pub half : r.half ≡ Even
 
 -- what holds of the line so far, where so much is wanted of each kind
 pub record Held (want : Kind → ℕ) (buf : List ℕ) (x : Unfinished) : Type 0 where
   pub heads : x.seen ≤ head_size
-  pub short : x.seen < head_size → (x.half ≡ 0) × (x.size ≡ 0)
+  pub short : x.seen < head_size → (x.half ≡ Even) × (x.size ≡ 0)
   pub at : head_size ≤ x.seen → x.base ≡ base_of (kind_of (take head_size (drop head_at buf)))
   pub keeps : head_size ≤ x.seen → x.most ≡ want (kind_of (take head_size (drop head_at buf)))
   pub past : fid_at ≤ x.base
   pub fits : x.base + x.most ≤ length buf
-  pub halves : x.half ≤ broken_half
+  pub halves : HalfFits x.half
 
 -- the part of the lent bytes in which an attribute is kept
 unfoldable pub part_of : ℕ → Kind → List ℕ → List ℕ

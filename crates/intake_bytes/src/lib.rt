@@ -2,8 +2,9 @@
 #![tactic(auto)]
 
 ghost use Rattle.std.specs.Prelude.{◌≡◌, cond, ◌≤◌, ◌<◌, eqb, length};
-ghost use Rattle.intake.specs.Says.{starts, named, digit, head_size, kind_of};
-ghost use Rattle.intake_bytes.specs.Lent.{layout_at, base_of, want_of, new_line, folded, valued, Room, DigitStep, PairStep, Held, LineStep, Feeds, PastHead, DigitsFed, LineFed, ValueFed};
+ghost use Rattle.intake.specs.Says.{starts, named, head_size, kind_of};
+ghost use Rattle.intake_bytes.specs.declared.Half.TheVariants.{Even};
+ghost use Rattle.intake_bytes.specs.Lent.{layout_at, base_of, want_of, new_line, digit_of, Room, DigitStep, ByteStep, Held, LineStep, Feeds, PastHead, DigitsFed, LineFed, ValueFed};
 
 use intake::Kind;
 
@@ -38,10 +39,16 @@ pub const OLDER_SIZE: usize = 32;
 // The byte that ends a line.
 pub const NEWLINE: u8 = 10;
 
-// Digits that aren't hex.
-pub const BROKEN: usize = 17;
+// The digits of the byte that comes next: none yet, its first one, or digits that aren't hex.
+#[derive(Clone, Copy, Debug, PartialEq, Eq)]
+pub enum Half {
+    Even,
+    Odd(usize),
+    Broken,
+}
 
 // Of each attribute of the open entry its length and 1, or 0 where it has none.
+// Numbers as the state holds them: `state_holds` and `reload` read back each mark of a state that passes, the largest too, which no length has.
 #[derive(Clone, Copy)]
 pub struct Marks {
     pub lov: usize,
@@ -49,14 +56,13 @@ pub struct Marks {
     pub lma: usize,
 }
 
-// The unfinished line: the bytes of its head so far, where its value goes and how much of it is kept, half a byte (0 none, a digit and 1, or 17
-// where it isn't hex) and the value's length so far.
+// The unfinished line: the bytes of its head so far, where its value goes and how much of it is kept, half a byte and the value's length so far.
 #[derive(Clone, Copy)]
 pub struct Unfinished {
     pub seen: usize,
     pub base: usize,
     pub most: usize,
-    pub half: usize,
+    pub half: Half,
     pub size: usize,
 }
 
@@ -67,97 +73,59 @@ pub struct Reached {
     pub line: Unfinished,
 }
 
-fn wide(b: u8) -> usize
-    ensures { result ≡ b }
+// A hex digit of either case.
+pub fn digit(b: u8) -> Option<u8>
+    ensures { result ≡ digit_of b }
 {
-    b as usize
-}
-
-// A letter of upper case as one of lower case, which stands 32 after it.
-fn folded(v: usize) -> usize
-    requires { v < 256 }
-    ensures { result ≡ folded v }
-{
-    if v < 97 {
-        return v + 32;
+    match b {
+        b'0'..=b'9' => Some(b - b'0'),
+        b'a'..=b'f' => Some(b - b'a' + 10),
+        b'A'..=b'F' => Some(b - b'A' + 10),
+        _ => None,
     }
-    v
-}
-
-// A hex digit of either case, else 16.
-pub fn digit(b: u8) -> usize
-    ensures { (result ≡ digit b) × (result ≤ 16) }
-{
-    let v = wide(b);
-    if v < 48 {
-        return 16;
-    }
-    if v <= 57 {
-        return v - 48;
-    }
-    let u = folded(v);
-    if u < 97 {
-        return 16;
-    }
-    if u <= 102 {
-        return u - 87;
-    }
-    16
 }
 
 // Whether the slice begins with the word.
 pub fn starts(w: &[u8], s: &[u8]) -> bool
     ensures { result ≡ starts w.now s.now }
 {
-    if s.len() < w.len() {
-        return false;
-    }
-    let mut i = 0;
-    while i < w.len() {
-        if s[i] != w[i] {
-            return false;
-        }
-        i += 1;
-    }
-    true
+    s.starts_with(w)
 }
 
-// The same line with other digits.
-fn valued(x: Unfinished, half: usize, size: usize) -> Unfinished
-    ensures { result ≡ valued x half size }
+// One more whole byte of a value: past what is wanted it is counted alone.
+fn put_byte(buf: &mut [u8], x: Unfinished, v: u8) -> Unfinished
+    requires { Room (length buf.old) x }
+    ensures { ByteStep buf.old x v buf.new result }
 {
+    if x.size < x.most {
+        buf[x.base + x.size] = v;
+    }
     Unfinished {
-        seen: x.seen,
-        base: x.base,
-        most: x.most,
-        half: half,
-        size: size,
+        half: Half::Even,
+        size: x.size + 1,
+        ..x
     }
 }
 
-// One more digit of a value: past what is wanted a byte is counted alone.
+// One more digit of a value.
 pub fn digit_byte(buf: &mut [u8], x: Unfinished, b: u8) -> Unfinished
     requires { Room (length buf.old) x }
     ensures { DigitStep buf.old x b buf.new result }
 {
-    let half = x.half;
-    if half == BROKEN {
-        return x;
+    let Some(d) = digit(b) else {
+        return Unfinished {
+            half: Half::Broken,
+            ..x
+        };
+    };
+    match x.half {
+        Half::Broken => x,
+        Half::Even => Unfinished {
+            half: Half::Odd(d as usize),
+            ..x
+        },
+        Half::Odd(h) => put_byte(buf, x, (16 * h) as u8 + d),
     }
-    let d = digit(b);
-    let size = x.size;
-    if d == 16 {
-        return valued(x, BROKEN, size);
-    }
-    if half == 0 {
-        return valued(x, d + 1, size);
-    }
-    if size < x.most {
-        let at = x.base + size;
-        buf[at] = (16 * (half - 1) + d) as u8;
-        return valued(x, 0, size + 1);
-    }
-    valued(x, 0, size + 1)
 }
 
 // Whether the name that the slice begins with, to `=` or the end, is the word.
@@ -168,13 +136,7 @@ pub fn named(w: &[u8], s: &[u8]) -> bool
         return false;
     }
     let n = w.len();
-    if s.len() <= n {
-        return true;
-    }
-    if s[n] == 61 {
-        return true;
-    }
-    false
+    s.len() <= n || s[n] == b'='
 }
 
 // Which of the three a line names.
@@ -182,9 +144,6 @@ pub fn kind_of(s: &[u8]) -> Kind
     ensures { result ≡ kind_of s.now }
 {
     if !starts(b"trusted.", s) {
-        return Kind::Other;
-    }
-    if s.len() < NAME_AT {
         return Kind::Other;
     }
     if named(b"lov", &s[NAME_AT..]) {
@@ -238,16 +197,13 @@ pub fn head_byte(buf: &mut [u8], m: Marks, x: Unfinished, b: u8) -> Unfinished
     requires { (layout_at ≤ length buf.old) × Held (want_of m (length buf.old)) buf.old x × (x.seen < head_size) }
     ensures { LineStep (want_of m (length buf.old)) buf.old x b buf.new result }
 {
-    let seen = x.seen;
-    let at = HEAD_AT + seen;
-    buf[at] = b;
-    if seen < HEAD_LAST {
+    buf[HEAD_AT + x.seen] = b;
+    if x.seen < HEAD_LAST {
         return Unfinished {
-            seen: seen + 1,
-            base: x.base,
-            most: x.most,
-            half: 0,
+            seen: x.seen + 1,
+            half: Half::Even,
             size: 0,
+            ..x
         };
     }
     let k = kind_of(&buf[HEAD_AT..HEAD_END]);
@@ -255,48 +211,36 @@ pub fn head_byte(buf: &mut [u8], m: Marks, x: Unfinished, b: u8) -> Unfinished
     let most = most_of(k, m, buf.len());
     Unfinished {
         seen: HEAD_SIZE,
-        base: base,
-        most: most,
-        half: 0,
+        base,
+        most,
+        half: Half::Even,
         size: 0,
     }
 }
 
-// A whole byte of a value, of two digits: past what is wanted it is counted alone.
-fn put_pair(buf: &mut [u8], x: Unfinished, high: usize, low: usize) -> Unfinished
-    requires { Room (length buf.old) x × (x.half ≡ 0) × (high < 16) × (low < 16) }
-    ensures { PairStep buf.old x high low buf.new result }
-{
-    let size = x.size;
-    if size < x.most {
-        let at = x.base + size;
-        buf[at] = (16 * high + low) as u8;
-        return valued(x, 0, size + 1);
-    }
-    valued(x, 0, size + 1)
-}
-
 // Whole bytes of a value: two digits at a time, as long as they are digits.
 fn feed_pairs(buf: &mut [u8], line: Unfinished, piece: &[u8], from: usize) -> Reached
-    requires { PastHead (length buf.old) line (length piece.now) from × (line.half ≡ 0) }
+    requires { PastHead (length buf.old) line (length piece.now) from × (line.half ≡ Even) }
     ensures { DigitsFed buf.old line piece.now from buf.new result.line result.at }
 {
-    let mut x = line;
+    // Written out, so that no half byte is carried through the loop.
+    let mut x = Unfinished {
+        half: Half::Even,
+        ..line
+    };
     let mut at = from;
+    // A loop: the place where the digits end is part of the answer.
     while 2 <= piece.len() - at {
-        let next = at + 1;
-        let high = digit(piece[at]);
-        let low = digit(piece[next]);
-        if high == 16 {
-            return Reached { at: at, line: x };
-        }
-        if low == 16 {
-            return Reached { at: at, line: x };
-        }
-        x = put_pair(buf, x, high, low);
+        let Some(high) = digit(piece[at]) else {
+            return Reached { at, line: x };
+        };
+        let Some(low) = digit(piece[at + 1]) else {
+            return Reached { at, line: x };
+        };
+        x = put_byte(buf, x, 16 * high + low);
         at += 2;
     }
-    Reached { at: at, line: x }
+    Reached { at, line: x }
 }
 
 // The digits of a value one by one, up to the line's end.
@@ -305,16 +249,17 @@ fn feed_digits(buf: &mut [u8], line: Unfinished, piece: &[u8], from: usize) -> R
     ensures { ValueFed buf.old line piece.now from buf.new result }
 {
     let mut x = line;
-    let mut at = from;
-    while at < piece.len() {
+    for at in from..piece.len() {
         let b = piece[at];
         if b == NEWLINE {
-            return Reached { at: at, line: x };
+            return Reached { at, line: x };
         }
         x = digit_byte(buf, x, b);
-        at += 1;
     }
-    Reached { at: at, line: x }
+    Reached {
+        at: piece.len(),
+        line: x,
+    }
 }
 
 // The second digit of a byte whose first is known, if it is the next of a piece: after it come whole bytes.
@@ -322,26 +267,10 @@ fn feed_second(buf: &mut [u8], line: Unfinished, piece: &[u8], from: usize) -> R
     requires { PastHead (length buf.old) line (length piece.now) from }
     ensures { DigitsFed buf.old line piece.now from buf.new result.line result.at }
 {
-    if line.half == 0 {
-        return Reached {
-            at: from,
-            line: line,
-        };
+    if line.half == Half::Even || piece.len() <= from || piece[from] == NEWLINE {
+        return Reached { at: from, line };
     }
-    if piece.len() <= from {
-        return Reached {
-            at: from,
-            line: line,
-        };
-    }
-    let b = piece[from];
-    if b == NEWLINE {
-        return Reached {
-            at: from,
-            line: line,
-        };
-    }
-    let x = digit_byte(buf, line, b);
+    let x = digit_byte(buf, line, piece[from]);
     Reached {
         at: from + 1,
         line: x,
@@ -353,13 +282,11 @@ fn feed_whole(buf: &mut [u8], line: Unfinished, piece: &[u8], from: usize) -> Re
     requires { PastHead (length buf.old) line (length piece.now) from }
     ensures { ValueFed buf.old line piece.now from buf.new result }
 {
-    if line.half != 0 {
+    let Half::Even = line.half else {
         return feed_digits(buf, line, piece, from);
-    }
+    };
     let pairs = feed_pairs(buf, line, piece, from);
-    let x = pairs.line;
-    let at = pairs.at;
-    feed_digits(buf, x, piece, at)
+    feed_digits(buf, pairs.line, piece, pairs.at)
 }
 
 // The bytes of a piece after a line's head, up to the line's end.
@@ -368,9 +295,7 @@ fn feed_value(buf: &mut [u8], line: Unfinished, piece: &[u8], from: usize) -> Re
     ensures { ValueFed buf.old line piece.now from buf.new result }
 {
     let second = feed_second(buf, line, piece, from);
-    let x = second.line;
-    let at = second.at;
-    feed_whole(buf, x, piece, at)
+    feed_whole(buf, second.line, piece, second.at)
 }
 
 // The bytes of a piece up to the line's end.
@@ -379,19 +304,20 @@ pub fn feed_line(buf: &mut [u8], m: Marks, line: Unfinished, piece: &[u8], from:
     ensures { LineFed (want_of m (length buf.old)) buf.old line piece.now from buf.new result }
 {
     let mut x = line;
-    let mut at = from;
-    while at < piece.len() {
+    for at in from..piece.len() {
         if HEAD_SIZE <= x.seen {
             return feed_value(buf, x, piece, at);
         }
         let b = piece[at];
         if b == NEWLINE {
-            return Reached { at: at, line: x };
+            return Reached { at, line: x };
         }
         x = head_byte(buf, m, x, b);
-        at += 1;
     }
-    Reached { at: at, line: x }
+    Reached {
+        at: piece.len(),
+        line: x,
+    }
 }
 
 // A line of which nothing has been read.
@@ -402,7 +328,7 @@ pub fn new_line() -> Unfinished
         seen: 0,
         base: FID_AT,
         most: 0,
-        half: 0,
+        half: Half::Even,
         size: 0,
     }
 }

@@ -15,9 +15,9 @@ use Rattle.tables.specs.Check.{parents_whole, objects_whole}
 use Rattle.intake.specs.Reading.{Stop, going, stopped, is_going}
 use Rattle.intake.specs.Machine.{State, feed, begin, no_line}
 use Rattle.intake.proofs.Simulation.{feed_append}
-use Rattle.intake_bytes.specs.Lent.{kept_in, digits_in, partial_in}
+use Rattle.intake_bytes.specs.Lent.{kept_in, digits_of, digits_in, partial_in}
 use Rattle.intake_line.specs.Entry.{open_in, good_mark}
-use Rattle.intake_state.specs.State.{stop_is, machine_of, number_at, line_in, marks_in, reader_in, kept_of, machine_in, max_read, good_stop, bare_marks, good_open, good_line, good_kept, good_state, state_stands}
+use Rattle.intake_state.specs.State.{stop_is, machine_of, number_at, half_of, line_in, marks_in, reader_in, kept_of, machine_in, max_read, good_stop, bare_marks, good_open, good_half, is_even, good_line, good_kept, good_state, state_stands}
 use Rattle.intake_feed.specs.Feed.{max_piece, feed_refusal, stop_number, stop_line, PieceFed}
 use Rattle.intake_feed.proofs.PieceLaws.{stays}
 use Rattle.intake_feed.proofs.FedLaws.{refuse_none}
@@ -28,15 +28,15 @@ use Rattle.intake_calls.proofs.WholeLaws.{Taken, taken, whole_stays}
 
 -- it stands for the reading that begins
 pub zero_begins : (file p o : List ℕ) → machine_in zero_state file p o ≡ begin (beginning file p o)
-unfolding machine_in machine_of kept_of reader_in marks_in line_in number_at zero_state beginning begin open_in stop_is partial_in digits_in kept_in no_line le
+unfolding machine_in machine_of kept_of reader_in marks_in line_in number_at zero_state beginning begin open_in stop_is partial_in half_of digits_in digits_of kept_in no_line le
 zero_begins file p o = refl
 
 zero_good : good_state zero_state ≡ true
-unfolding good_state good_kept good_stop good_open good_mark bare_marks good_line kept_of reader_in marks_in line_in number_at zero_state le
+unfolding good_state good_kept good_stop good_open good_mark bare_marks good_half is_even good_line kept_of reader_in marks_in line_in half_of number_at zero_state le
 zero_good = refl
 
 zero_numbers : ((kept_of zero_state).taken ≡ 0) × ((kept_of zero_state).reader.count ≡ 0) × ((kept_of zero_state).reader.line.size ≡ 0)
-unfolding kept_of reader_in marks_in line_in number_at zero_state le
+unfolding kept_of reader_in marks_in line_in half_of number_at zero_state le
 zero_numbers = (refl, refl, refl)
 
 -- THE LAW: it passes

@@ -13,10 +13,11 @@ use Rattle.intake.specs.declared.Kind.{Kind}
 use Rattle.intake.specs.declared.Kind.TheVariants.{Lov, Fid, Lma, Other}
 use Rattle.intake.specs.Says.{kind_of, wanted}
 use Rattle.intake.specs.Reading.{none, had, outside, inside, attribute_of}
-use Rattle.intake.specs.Machine.{Digits, broken, even, odd}
 use Rattle.intake_bytes.specs.declared.Marks.{Marks}
+use Rattle.intake_bytes.specs.declared.Half.{Half}
+use Rattle.intake_bytes.specs.declared.Half.TheVariants.{Even, Odd, Broken}
 use Rattle.intake_bytes.specs.declared.Unfinished.{Unfinished}
-use Rattle.intake_bytes.specs.Lent.{base_of, want_of, kept_in, digits_in, partial_in, part_of, Held}
+use Rattle.intake_bytes.specs.Lent.{base_of, want_of, kept_in, digits_of, digits_in, partial_in, part_of, Held}
 use Rattle.intake_line.specs.Entry.{attribute_in, entry_in, open_in, MarksHeld}
 use Rattle.intake_line.proofs.GlueLaws.{want_open}
 use Rattle.intake_state.specs.State.{state_size}
@@ -60,21 +61,18 @@ few_open s from m e = go (eqb from 0) where
 
 few_digits : (s : List ℕ) (x : Unfinished)
     → (length (kept_digits (digits_in s x)) ≤ counted (digits_in s x)) × (length (kept_digits (digits_in s x)) ≤ length (kept_in s x))
-unfolding digits_in kept_digits counted kept_in
-few_digits s x = go (eqb x.half 0) (eqb x.half 17) where
+unfolding digits_in digits_of kept_digits counted kept_in
+few_digits s x = go x.half where
   v : List ℕ
   v = kept_in s x
 
   size : length v ≤ x.size
   size = (take_most x.size (take x.most (drop x.base s))).0
 
-  d : Bool → Bool → Digits
-  d a b = cond a (even x.size v) (cond b broken (odd (x.half - 1) x.size v))
-
-  go : (a b : Bool) → (length (kept_digits (d a b)) ≤ counted (d a b)) × (length (kept_digits (d a b)) ≤ length v)
-  go true b = (size, omega arith)
-  go false true = (omega arith, omega arith)
-  go false false = (size, omega arith)
+  go : (h : Half) → (length (kept_digits (digits_of h x.size v)) ≤ counted (digits_of h x.size v)) × (length (kept_digits (digits_of h x.size v)) ≤ length v)
+  go Even = (size, omega arith)
+  go (Odd h) = (size, omega arith)
+  go Broken = (omega arith, omega arith)
 
 kept_most : (s : List ℕ) (x : Unfinished) → (length (kept_in s x) ≤ x.size) × (length (kept_in s x) ≤ x.most)
 unfolding kept_in

@@ -1,6 +1,5 @@
 -- The closing line, case by case. Assumes nothing.
 use Prim.Native.Nat.{ℕ, ◌+◌, ◌-◌, ◌*◌, ◌/◌, ◌≤◌, ◌<◌}
-use Rattle.std.specs.Prelude.{Some, None}
 use mathlib.Core.Path.{◌≡◌, refl, sym, ap, subst, ◌∙◌}
 use mathlib.Core.List.{List}
 use mathlib.Core.Bool.{Bool, true, false, ◌||◌}
@@ -23,45 +22,45 @@ use Rattle.intake.proofs.HeadLaws.{drop_take}
 use Rattle.intake_bytes.specs.declared.Marks.{Marks}
 use Rattle.intake_bytes.specs.Lent.{mark_of, base_of, part_of}
 use Rattle.intake_line.specs.Entry.{attribute_in, entry_in, good_mark, GoodMarks}
-use Rattle.intake_close.specs.declared.Closed.{Closed}
-use Rattle.intake_close.specs.declared.Closed.TheVariants.{Filled, Refused}
-use Rattle.intake_close.specs.declared.OwnerRead.{OwnerRead}
-use Rattle.intake_close.specs.declared.OwnerRead.TheVariants.{NoOwner, OwnerIs}
-use Rattle.intake_close.specs.OwnerLine.{owner_in, OwnerTold, LineStops}
-use Rattle.intake_close.specs.Closing.{self_in, claim_in, layout_in, with_tables, closed_as, stop_of, ParentClosed, ObjectClosed, OwnedClosed, EntryClosed}
+use Rattle.std.specs.Prelude.{Some, None, Ok, Err}
+use Rattle.refusals.specs.declared.Refusal.{Refusal}
+use Rattle.refusals.specs.declared.Refusal.TheVariants.{BadDump, NoSelf, NoKind, NoFit}
+use Rattle.refusals.specs.Numbers.{number}
+use Rattle.intake_close.specs.OwnerLine.{OwnerRead, owner_in, OwnerTold, LineStops}
+use Rattle.intake_close.specs.Closing.{Closed, self_in, claim_in, layout_in, with_tables, closed_as, stop_of, ParentClosed, ObjectClosed, OwnedClosed, EntryClosed}
 use Rattle.intake_close.proofs.FillLaws.{self_length, claim_length, layout_length_lem, parent_length, object_length, row_changed, free_none, free_is}
 
-refuses : (q : ℕ) → 33 ≤ q → q ≤ 37 → (33 ≤ stop_of (Refused q)) × (stop_of (Refused q) ≤ 37)
+refuses : (q : Refusal) → 33 ≤ number q → number q ≤ 37 → (33 ≤ stop_of (Err q)) × (stop_of (Err q) ≤ 37)
 unfolding stop_of
 refuses q h k = (h, k)
 
-fills_row : (33 ≤ stop_of Filled) × (stop_of Filled ≤ 37)
+fills_row : (33 ≤ stop_of (Ok tt)) × (stop_of (Ok tt) ≤ 37)
 unfolding stop_of
 fills_row = (omega arith, omega arith)
 
 -- ## A file
 
 module _ (buf : List ℕ) (size : ℕ) (w : Owner) (p : List ℕ) where
-  pub parent_long : layout_room < size → ParentClosed buf size w p p (Refused 37)
+  pub parent_long : layout_room < size → ParentClosed buf size w p p (Err NoFit)
   unfolding fills closed_as
   parent_long h = record {
     closes = λ R o line index after v q. rw (lt-leb size layout_room h);
-    number = refuses 37 (omega arith) (omega arith);
+    number = refuses NoFit (omega arith) (omega arith);
   }
 
   module _ (h : size ≤ layout_room) where
-    pub parent_none : free_row p parent_size ≡ None → ParentClosed buf size w p p (Refused 37)
+    pub parent_none : free_row p parent_size ≡ None → ParentClosed buf size w p p (Err NoFit)
     unfolding fills closed_as with_tables parent_rows
     parent_none e = record {
       closes = λ R o line index after v q.
           let k : length p / parent_size ≤ first_unused (rows parent_size (length p / parent_size) p) = free_none parent_size p e in
           rw (le-leb size layout_room h, rows_length parent_size (length p / parent_size) p, le-ltb _ _ k);
-      number = refuses 37 (omega arith) (omega arith);
+      number = refuses NoFit (omega arith) (omega arith);
     }
 
     pub parent_filled : (r : ℕ) (p' : List ℕ) → length buf ≡ 208 + layout_room → free_row p parent_size ≡ Some r
         → p' ≡ sets p (parent_size * r) (parent_from (self_in buf) (layout_in buf size) w.uid w.gid (take parent_size (drop (parent_size * r) p)))
-        → ParentClosed buf size w p p' Filled
+        → ParentClosed buf size w p p' (Ok tt)
     unfolding fills filled closed_as with_tables parent_rows
     parent_filled r p' n e s =
         let f = free_is parent_size p r e in
@@ -80,17 +79,17 @@ module _ (buf : List ℕ) (size : ℕ) (w : Owner) (p : List ℕ) where
 -- ## An object
 
 module _ (buf : List ℕ) (w : Owner) (index : ℕ) (o : List ℕ) where
-  pub object_none : free_row o object_size ≡ None → ObjectClosed buf w index o o (Refused 37)
+  pub object_none : free_row o object_size ≡ None → ObjectClosed buf w index o o (Err NoFit)
   unfolding fills closed_as with_tables object_rows
   object_none e = record {
     closes = λ R p line size after.
         let k : length o / object_size ≤ first_unused (rows object_size (length o / object_size) o) = free_none object_size o e in
         rw (rows_length object_size (length o / object_size) o, le-ltb _ _ k);
-    number = refuses 37 (omega arith) (omega arith);
+    number = refuses NoFit (omega arith) (omega arith);
   }
 
   pub object_filled : (r : ℕ) (o' : List ℕ) → 208 ≤ length buf → free_row o object_size ≡ Some r
-      → o' ≡ sets o (object_size * r) (object_from (self_in buf) (claim_in buf) w.uid w.gid index) → ObjectClosed buf w index o o' Filled
+      → o' ≡ sets o (object_size * r) (object_from (self_in buf) (claim_in buf) w.uid w.gid index) → ObjectClosed buf w index o o' (Ok tt)
   unfolding fills filled closed_as with_tables object_rows
   object_filled r o' n e s =
       let f = free_is object_size o r e in
@@ -152,9 +151,9 @@ module _ (buf : List ℕ) (m : Marks) (g : GoodMarks m) (n : length buf ≡ 208 
   -- ## An entry that has an owner
 
   module _ (w : Owner) (index : ℕ) (p o : List ℕ) where
-    pub owned_bare : m.lma ≡ 0 → OwnedClosed buf m w index p o p o (Refused 35)
+    pub owned_bare : m.lma ≡ 0 → OwnedClosed buf m w index p o p o (Err NoSelf)
     unfolding entry_in with_self closed_as
-    owned_bare e = record { closes = λ R line from after. rw (lma_none e); number = refuses 35 (omega arith) (omega arith) }
+    owned_bare e = record { closes = λ R line from after. rw (lma_none e); number = refuses NoSelf (omega arith) (omega arith) }
 
     module _ (e : m.lma ≡ 0 → ⊥) where
       -- with its self FID
@@ -164,13 +163,13 @@ module _ (buf : List ℕ) (m : Marks) (g : GoodMarks m) (n : length buf ≡ 208 
       unfolding entry_in with_self
       owned R line from after = rw (lma_had e, self_kept)
 
-      pub owned_neither : m.lov ≡ 0 → m.fid ≡ 0 → OwnedClosed buf m w index p o p o (Refused 36)
+      pub owned_neither : m.lov ≡ 0 → m.fid ≡ 0 → OwnedClosed buf m w index p o p o (Err NoKind)
       unfolding fills closed_as
-      owned_neither l f = record { closes = λ R line from after. owned R line from after ∙ rw (lov_none l, fid_none f); number = refuses 36 (omega arith) (omega arith) }
+      owned_neither l f = record { closes = λ R line from after. owned R line from after ∙ rw (lov_none l, fid_none f); number = refuses NoKind (omega arith) (omega arith) }
 
-      pub owned_both : (m.lov ≡ 0 → ⊥) → (m.fid ≡ 0 → ⊥) → OwnedClosed buf m w index p o p o (Refused 36)
+      pub owned_both : (m.lov ≡ 0 → ⊥) → (m.fid ≡ 0 → ⊥) → OwnedClosed buf m w index p o p o (Err NoKind)
       unfolding fills closed_as
-      owned_both l f = record { closes = λ R line from after. owned R line from after ∙ rw (lov_had l, fid_had f); number = refuses 36 (omega arith) (omega arith) }
+      owned_both l f = record { closes = λ R line from after. owned R line from after ∙ rw (lov_had l, fid_had f); number = refuses NoKind (omega arith) (omega arith) }
 
       pub owned_object : (o' : List ℕ) (r : Closed) → m.lov ≡ 0 → (m.fid ≡ 0 → ⊥) → ObjectClosed buf w index o o' r → OwnedClosed buf m w index p o p o' r
       owned_object o' r l f c = record {
@@ -199,11 +198,11 @@ module _ (buf : List ℕ) (m : Marks) (file : List ℕ) (taken end : ℕ) (p o :
   unfolding closes_entry with_tables
   closing R line from e = rw (e, next_is)
 
-  pub entry_none : x ≡ NoOwner → EntryClosed buf m file taken p o p o (Refused 33)
+  pub entry_none : x ≡ None → EntryClosed buf m file taken p o p o (Err BadDump)
   unfolding owner_in with_self closed_as
-  entry_none e = record { closes = λ R line from q. closing R line from q ∙ rw e; number = refuses 33 (omega arith) (omega arith) }
+  entry_none e = record { closes = λ R line from q. closing R line from q ∙ rw e; number = refuses BadDump (omega arith) (omega arith) }
 
-  pub entry_owned : (u g i : ℕ) (p' o' : List ℕ) (r : Closed) → x ≡ OwnerIs u g i → OwnedClosed buf m (record { uid = u; gid = g }) i p o p' o' r
+  pub entry_owned : (u g i : ℕ) (p' o' : List ℕ) (r : Closed) → x ≡ Some (u, g, i) → OwnedClosed buf m (record { uid = u; gid = g }) i p o p' o' r
       → EntryClosed buf m file taken p o p' o' r
   unfolding owner_in
   entry_owned u g i p' o' r e c = record {

@@ -1,6 +1,6 @@
 -- The owners file byte by byte: its numbers, its line and where the next one begins. Assumes nothing.
 use Prim.Native.Nat.{ℕ, suc, ◌+◌, ◌-◌, ◌*◌, ◌≤◌, ◌<◌}
-use mathlib.Core.Path.{◌≡◌, refl, sym, ap, ◌∙◌}
+use mathlib.Core.Path.{◌≡◌, refl, sym, ap, subst, ◌∙◌}
 use mathlib.Core.List.{List, [], ◌∷◌, ◌++◌, append-nil, append_assoc}
 use mathlib.Core.Bool.{Bool, true, false, cond, ◌&&◌}
 use native.Mathlib.Numerals.{add-one}
@@ -12,22 +12,16 @@ use Rattle.wire.proofs.Both.{and_first, and_second}
 use borrow.Author.Tests.{eq-eqb, ne_eqb, leb-true, le-leb, lt-leb, lt-ltb, le-ltb}
 use Rattle.wire.specs.Numbers.{max_word}
 use Rattle.intake.specs.Owners.{Number, no_number, number, is_decimal, told, decimal, after_space, third, second, first, until_line, after_line}
-use Rattle.intake_close.specs.declared.NumberRead.{NumberRead}
-use Rattle.intake_close.specs.declared.NumberRead.TheVariants.{NotNumber, NumberIs}
-use Rattle.intake_close.specs.declared.OwnerRead.{OwnerRead}
-use Rattle.intake_close.specs.declared.OwnerRead.TheVariants.{NoOwner, OwnerIs}
-use Rattle.intake_close.specs.OwnerLine.{told_at, number_in, end_of, NumberTold, SpaceTold, owner_in, GidTold, UidTold, OwnerTold, LineStops, LineAfter}
+use Rattle.std.specs.Prelude.{Some, None}
+use Rattle.std.specs.Char.{is_ascii_digit}
+use Rattle.intake_close.specs.OwnerLine.{NumberRead, OwnerRead, told_at, number_in, end_of, NumberTold, SpaceTold, owner_in, OwnerTold, LineStops, LineAfter}
 
 -- ## A digit
 
 module _ (b : ℕ) where
-  pub decimal_low : b < 48 → false ≡ is_decimal b
+  pub digit_is : is_decimal b ≡ is_ascii_digit b
   unfolding is_decimal
-  decimal_low h = simp (lt-leb 48 b h)
-
-  pub decimal_up : 48 ≤ b → leb b 57 ≡ is_decimal b
-  unfolding is_decimal
-  decimal_up h = rw (le-leb 48 b h)
+  digit_is = refl
 
   pub decimal_least : is_decimal b ≡ true → 48 ≤ b
   unfolding is_decimal
@@ -61,14 +55,14 @@ wide s n (b ∷ l) h = go (is_decimal b) (wide true (10 * n + (b - 48)) l (omega
 told_is : (l : List ℕ) (from n at : ℕ) → n ≤ max_word → told (ltb from at) n (drop at l) ≡ number_in l (told_at n from at)
 unfolding told told_at number_in
 told_is l from n at h = rw (le-leb n max_word h) (go (ltb from at)) where
-  go : (t : Bool) → cond (t && true) (number n (drop at l)) no_number ≡ number_in l (cond t (NumberIs n at) NotNumber)
+  go : (t : Bool) → cond (t && true) (number n (drop at l)) no_number ≡ number_in l (cond t (Some (n, at)) None)
   go true = refl
   go false = refl
 
 told_end : (n from at m : ℕ) → at ≤ m → end_of (told_at n from at) ≤ m
 unfolding told_at end_of
 told_end n from at m h = go (ltb from at) where
-  go : (t : Bool) → end_of (cond t (NumberIs n at) NotNumber) ≤ m
+  go : (t : Bool) → end_of (cond t (Some (n, at)) None) ≤ m
   go true = h
   go false = omega arith
 
@@ -101,30 +95,32 @@ module _ (l : List ℕ) (from n at : ℕ) (e : decimal false 0 (drop from l) ≡
   pub told_other : (r : NumberRead) → at < length l → is_decimal (get_or l at 0) ≡ false → n ≤ max_word → r ≡ told_at n from at → NumberTold l from r
   told_other r h d k q = rw q (record { number = e ∙ left_other l from n at h d k; within = told_end n from at (length l) (omega arith) })
 
-  pub told_wide : at < length l → is_decimal (get_or l at 0) ≡ true → max_word < 10 * n + (get_or l at 0 - 48) → NumberTold l from NotNumber
+  pub told_wide : at < length l → is_decimal (get_or l at 0) ≡ true → max_word < 10 * n + (get_or l at 0 - 48) → NumberTold l from None
   unfolding number_in end_of
   told_wide h d k = record { number = e ∙ left_wide l from n at h d k; within = omega arith }
 
-  pub told_last : (r : NumberRead) → at ≤ length l → length l ≤ at → n ≤ max_word → r ≡ told_at n from at → NumberTold l from r
-  told_last r h g k q = rw q (record { number = e ∙ left_end l from n at g k; within = told_end n from at (length l) h })
+  pub told_last : (r : NumberRead) → at ≤ length l → length l ≤ at → n ≤ max_word → r ≡ told_at n from (length l) → NumberTold l from r
+  told_last r h g k q =
+      let z : length l ≡ at = omega arith in
+      rw (q, z) (record { number = e ∙ left_end l from n at g k; within = told_end n from at (length l) h })
 
-pub told_none : (n from at : ℕ) → at ≡ from → NotNumber ≡ told_at n from at
+pub told_none : (n from at : ℕ) → at ≡ from → None ≡ told_at n from at
 unfolding told_at
 told_none n from at e = rw (le-ltb from at (omega arith))
 
-pub told_some : (n from at : ℕ) → from ≤ at → (at ≡ from → ⊥) → NumberIs n at ≡ told_at n from at
+pub told_some : (n from at : ℕ) → from ≤ at → (at ≡ from → ⊥) → Some (n, at) ≡ told_at n from at
 unfolding told_at
 told_some n from at h e = rw (lt-ltb from at (omega arith))
 
 -- ## After a space
 
 module _ (l : List ℕ) (at : ℕ) where
-  pub space_none : length l ≤ at → SpaceTold l at NotNumber
+  pub space_none : length l ≤ at → SpaceTold l at None
   unfolding number_in end_of after_space
   space_none h = record { number = rw (drop_of_length-le l h); within = omega arith }
 
   module _ (h : at < length l) where
-    pub space_other : (get_or l at 0 ≡ 32 → ⊥) → SpaceTold l at NotNumber
+    pub space_other : (get_or l at 0 ≡ 32 → ⊥) → SpaceTold l at None
     unfolding number_in end_of after_space
     space_other e = record { number = rw (drop-cons l at 0 h, ne_eqb (get_or l at 0) 32 e); within = omega arith }
 
@@ -134,41 +130,48 @@ module _ (l : List ℕ) (at : ℕ) where
 
 -- ## The three numbers
 
+-- what is read from the third number on, and from the second on
+pub record GidTold (l : List ℕ) (u g at : ℕ) (r : OwnerRead) : Type 0 where
+  pub owner : (after : List ℕ) → third u g after (after_space (drop at l)) ≡ owner_in after r
+
+pub record UidTold (l : List ℕ) (u at : ℕ) (r : OwnerRead) : Type 0 where
+  pub owner : (after : List ℕ) → second u after (after_space (drop at l)) ≡ owner_in after r
+
 module _ (l : List ℕ) (u g at : ℕ) (x : NumberRead) (t : SpaceTold l at x) where
-  pub gid_none : x ≡ NotNumber → GidTold l u g at NoOwner
+  pub gid_none : x ≡ None → GidTold l u g at None
   unfolding number_in third owner_in
   gid_none e = record { owner = λ after. rw (t.number, e) }
 
-  pub gid_last : (i end : ℕ) → x ≡ NumberIs i end → end ≡ length l → GidTold l u g at (OwnerIs u g i)
+  pub gid_last : (i end : ℕ) → x ≡ Some (i, end) → end ≡ length l → GidTold l u g at (Some (u, g, i))
   unfolding number_in third owner_in
   gid_last i end e q = record { owner = λ after. rw (t.number, e, q, drop-length l) }
 
-  pub gid_more : (i end : ℕ) → x ≡ NumberIs i end → (end ≡ length l → ⊥) → GidTold l u g at NoOwner
+  pub gid_more : (i end : ℕ) → x ≡ Some (i, end) → (end ≡ length l → ⊥) → GidTold l u g at None
   unfolding number_in third owner_in end_of
   gid_more i end e q =
       let w : end ≤ length l = let z : end_of x ≤ length l = t.within in rw e at z in
       record { owner = λ after. rw (t.number, e, drop-cons l end 0 (omega arith)) }
 
 module _ (l : List ℕ) (u at : ℕ) (x : NumberRead) (t : SpaceTold l at x) where
-  pub uid_none : x ≡ NotNumber → UidTold l u at NoOwner
+  pub uid_none : x ≡ None → UidTold l u at None
   unfolding number_in second owner_in
   uid_none e = record { owner = λ after. rw (t.number, e) }
 
-  pub uid_more : (g end : ℕ) (r : OwnerRead) → x ≡ NumberIs g end → GidTold l u g end r → UidTold l u at r
+  pub uid_more : (g end : ℕ) (r : OwnerRead) → x ≡ Some (g, end) → GidTold l u g end r → UidTold l u at r
   unfolding number_in second
   uid_more g end r e z = record { owner = λ after. rw (t.number, e) (z.owner after) }
 
 module _ (l : List ℕ) (x : NumberRead) (t : NumberTold l 0 x) where
-  pub owner_none : x ≡ NotNumber → OwnerTold l NoOwner
+  pub owner_none : x ≡ None → OwnerTold l None
   unfolding number_in first owner_in
   owner_none e = record { owner = λ after. ap (first after) t.number ∙ rw e }
 
-  pub owner_more : (u end : ℕ) (r : OwnerRead) → x ≡ NumberIs u end → UidTold l u end r → OwnerTold l r
+  pub owner_more : (u end : ℕ) (r : OwnerRead) → x ≡ Some (u, end) → UidTold l u end r → OwnerTold l r
   unfolding number_in first
   owner_more u end r e z = record { owner = λ after. ap (first after) t.number ∙ rw e (z.owner after) }
 
 -- where a number that was read ends
-pub ends_within : (m : ℕ) (x : NumberRead) (n end : ℕ) → end_of x ≤ m → x ≡ NumberIs n end → end ≤ m
+pub ends_within : (m : ℕ) (x : NumberRead) (n end : ℕ) → end_of x ≤ m → x ≡ Some (n, end) → end ≤ m
 unfolding end_of
 ends_within m x n end h e = rw e at h
 
@@ -220,9 +223,9 @@ module _ (s : List ℕ) (from : ℕ) where
       after = g.after ∙ rw (drop-cons s at 0 h, eq-eqb (get_or s at 0) 10 e);
     }
 
-  pub pass_last : (at : ℕ) → Passed s from at → length s ≤ at → LineStops s from at
+  pass_end_at : (at : ℕ) → Passed s from at → length s ≤ at → LineStops s from at
   unfolding until_line after_line
-  pass_last at g h =
+  pass_end_at at g h =
       let z : drop (suc at) s ≡ [] = drop_of_length-le s {i = suc at} (omega arith) in
       record {
         least = g.least;
@@ -230,6 +233,11 @@ module _ (s : List ℕ) (from : ℕ) where
         line = g.line ∙ rw (drop_of_length-le s h, append-nil);
         after = g.after ∙ rw (drop_of_length-le s h, z);
       }
+
+  pub pass_last : (at : ℕ) → Passed s from at → length s ≤ at → LineStops s from (length s)
+  pass_last at g h =
+      let e : at ≡ length s = omega (arith, g.within) in
+      subst (λ (n : ℕ). LineStops s from n) e (pass_end_at at g h)
 
   pub after_next : (end : ℕ) → LineStops s from end → end < length s → LineAfter s from (end + 1)
   after_next end g h = record { least = omega (arith, g.least); within = omega arith; after = g.after ∙ rw add-one }

@@ -1,6 +1,6 @@
 -- The closing line on the lent bytes. Document 02, 2026-03: "at the closing line, no self FID (35), a file of neither kind or both (36) and a row that
 -- doesn't fit (37)".
-use Rattle.std.specs.Prelude.{ℕ, ◌+◌, ◌≤◌, ◌≡◌, List, take, drop}
+use Rattle.std.specs.Prelude.{ℕ, ◌+◌, ◌≤◌, ◌≡◌, List, take, drop, Result, Ok, Err, ⊤}
 use Rattle.fid.specs.Fid.{fid_size}
 use Rattle.tables.specs.Bytes.{layout_room, parent_rows, object_rows}
 use Rattle.tables.specs.declared.Owner.{Owner}
@@ -10,8 +10,12 @@ use Rattle.intake.specs.Reading.{bad_dump, no_fit, none, had, Reading, stops_at,
 use Rattle.intake_bytes.specs.declared.Marks.{Marks}
 use Rattle.intake_bytes.specs.Lent.{fid_at, lma_at, layout_at}
 use Rattle.intake_line.specs.Entry.{entry_in}
-use Rattle.intake_close.specs.declared.Closed.{Closed}
-use Rattle.intake_close.specs.declared.Closed.TheVariants.{Filled, Refused}
+use Rattle.refusals.specs.declared.Refusal.{Refusal}
+use Rattle.refusals.specs.Numbers.{number}
+
+-- what a closing line comes to: a row is filled, or the reading stops
+abbrev pub Closed : Type 0
+Closed = Result ⊤ Refusal
 
 -- what is kept of the entry: the self FID, the claim, and the layout's first bytes
 unfoldable pub self_in : List ℕ → List ℕ
@@ -30,13 +34,13 @@ with_tables R p o =
 
 -- the reading after a closing line that came to this
 unfoldable pub closed_as : Reading → ℕ → List ℕ → List ℕ → List ℕ → Closed → Reading
-closed_as R line after p o Filled = filled R line after (parent_rows p) (object_rows o)
-closed_as R line after p o (Refused q) = stops_at (with_tables R p o) q line
+closed_as R line after p o (Ok x) = filled R line after (parent_rows p) (object_rows o)
+closed_as R line after p o (Err q) = stops_at (with_tables R p o) (number q) line
 
 -- the number of a refusal; a row that is filled has none, and stands for any that is good
 unfoldable pub stop_of : Closed → ℕ
-stop_of Filled = no_fit
-stop_of (Refused q) = q
+stop_of (Ok x) = no_fit
+stop_of (Err q) = number q
 
 pub record ParentClosed (buf : List ℕ) (size : ℕ) (w : Owner) (p p' : List ℕ) (r : Closed) : Type 0 where
   pub closes : (R : Reading) (o : List ℕ) (line index : ℕ) (after v : List ℕ) → (size ≤ layout_room → v ≡ layout_in buf size)

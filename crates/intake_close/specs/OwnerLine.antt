@@ -1,23 +1,27 @@
 -- The owners file, read in its bytes. Document 02, 2026-03: "A second file, lent whole, gives `uid gid index` in decimal".
-use Rattle.std.specs.Prelude.{ℕ, suc, ◌-◌, ◌≤◌, ◌≡◌, List, cond, false, length, take, drop, ltb}
-use Rattle.intake.specs.Owners.{Owning, no_owner, owning, Number, no_number, number, decimal, after_space, third, second, first, until_line, after_line}
-use Rattle.intake_close.specs.declared.NumberRead.{NumberRead}
-use Rattle.intake_close.specs.declared.NumberRead.TheVariants.{NotNumber, NumberIs}
-use Rattle.intake_close.specs.declared.OwnerRead.{OwnerRead}
-use Rattle.intake_close.specs.declared.OwnerRead.TheVariants.{NoOwner, OwnerIs}
+use Rattle.std.specs.Prelude.{ℕ, suc, ◌-◌, ◌≤◌, ◌≡◌, List, cond, false, length, take, drop, ltb, Option, Some, None}
+use Rattle.intake.specs.Owners.{Owning, no_owner, owning, Number, no_number, number, decimal, after_space, first, until_line, after_line}
+
+-- a decimal number, and the place after it
+abbrev pub NumberRead : Type 0
+NumberRead = Option (ℕ × ℕ)
+
+-- the uid, gid and index of an owners line
+abbrev pub OwnerRead : Type 0
+OwnerRead = Option (ℕ × ℕ × ℕ)
 
 -- the number whose digits stand between two places
 unfoldable pub told_at : ℕ → ℕ → ℕ → NumberRead
-told_at n from at = cond (ltb from at) (NumberIs n at) NotNumber
+told_at n from at = cond (ltb from at) (Some (n, at)) None
 
 -- what is read at a place of a line, and where it ends
 unfoldable pub number_in : List ℕ → NumberRead → Number
-number_in l NotNumber = no_number
-number_in l (NumberIs n at) = number n (drop at l)
+number_in l None = no_number
+number_in l (Some (n, at)) = number n (drop at l)
 
 unfoldable pub end_of : NumberRead → ℕ
-end_of NotNumber = 0
-end_of (NumberIs n at) = at
+end_of None = 0
+end_of (Some (n, at)) = at
 
 pub record NumberTold (l : List ℕ) (from : ℕ) (r : NumberRead) : Type 0 where
   pub number : decimal false 0 (drop from l) ≡ number_in l r
@@ -29,14 +33,8 @@ pub record SpaceTold (l : List ℕ) (at : ℕ) (r : NumberRead) : Type 0 where
 
 -- a line's owner, and what follows the line
 unfoldable pub owner_in : List ℕ → OwnerRead → Owning
-owner_in after NoOwner = no_owner
-owner_in after (OwnerIs u g i) = owning u g i after
-
-pub record GidTold (l : List ℕ) (u g at : ℕ) (r : OwnerRead) : Type 0 where
-  pub owner : (after : List ℕ) → third u g after (after_space (drop at l)) ≡ owner_in after r
-
-pub record UidTold (l : List ℕ) (u at : ℕ) (r : OwnerRead) : Type 0 where
-  pub owner : (after : List ℕ) → second u after (after_space (drop at l)) ≡ owner_in after r
+owner_in after None = no_owner
+owner_in after (Some (u, g, i)) = owning u g i after
 
 pub record OwnerTold (l : List ℕ) (r : OwnerRead) : Type 0 where
   pub owner : (after : List ℕ) → first after (decimal false 0 l) ≡ owner_in after r

@@ -5,42 +5,38 @@ ghost use Rattle.intake_bytes.specs.Lent.{layout_at};
 ghost use Rattle.intake_line.specs.Entry.{GoodMarks};
 ghost use Rattle.intake_close.specs.Closing.{ParentClosed, ObjectClosed, EntryClosed, OwnedClosed};
 
-use super::{Closed, OwnerRead, filled, owners};
-use intake::{BAD_DUMP, NO_FIT, NO_KIND, NO_SELF};
+use super::{filled, owners};
 use intake_bytes::Marks;
+use refusals::Refusal;
 use search::first;
 use tables::Owner;
 use tables::rows::{LAYOUT_ROOM, OBJECT_SIZE, PARENT_SIZE};
 
 // A file: its layout fits the room, and there is an unused row.
-fn close_parent(buf: &[u8], size: usize, w: Owner, parents: &mut [u8]) -> Closed
+fn close_parent(buf: &[u8], size: usize, w: Owner, parents: &mut [u8]) -> Result<(), Refusal>
     requires { length buf.now ≡ layout_at + layout_room }
     ensures { ParentClosed buf.now size w parents.old parents.new result }
 {
     if LAYOUT_ROOM < size {
-        return Closed::Refused(NO_FIT);
+        return Err(Refusal::NoFit);
     }
-    match first::free_row(parents, PARENT_SIZE) {
-        None => Closed::Refused(NO_FIT),
-        Some(r) => {
-            filled::fill_parent(parents, r, buf, size, w);
-            Closed::Filled
-        }
-    }
+    let Some(r) = first::free_row(parents, PARENT_SIZE) else {
+        return Err(Refusal::NoFit);
+    };
+    filled::fill_parent(parents, r, buf, size, w);
+    Ok(())
 }
 
 // An object: there is an unused row.
-fn close_object(buf: &[u8], w: Owner, index: u32, objects: &mut [u8]) -> Closed
+fn close_object(buf: &[u8], w: Owner, index: u32, objects: &mut [u8]) -> Result<(), Refusal>
     requires { length buf.now ≡ layout_at + layout_room }
     ensures { ObjectClosed buf.now w index objects.old objects.new result }
 {
-    match first::free_row(objects, OBJECT_SIZE) {
-        None => Closed::Refused(NO_FIT),
-        Some(r) => {
-            filled::fill_object(objects, r, buf, index, w);
-            Closed::Filled
-        }
-    }
+    let Some(r) = first::free_row(objects, OBJECT_SIZE) else {
+        return Err(Refusal::NoFit);
+    };
+    filled::fill_object(objects, r, buf, index, w);
+    Ok(())
 }
 
 // An entry of this owner.
@@ -51,21 +47,21 @@ fn close_owned(
     index: u32,
     parents: &mut [u8],
     objects: &mut [u8],
-) -> Closed
+) -> Result<(), Refusal>
     requires { (length buf.now ≡ layout_at + layout_room) × GoodMarks m }
     ensures { OwnedClosed buf.now m w index parents.old objects.old parents.new objects.new result }
 {
     if m.lma == 0 {
-        return Closed::Refused(NO_SELF);
+        return Err(Refusal::NoSelf);
     }
     if m.lov == 0 {
         if m.fid == 0 {
-            return Closed::Refused(NO_KIND);
+            return Err(Refusal::NoKind);
         }
         return close_object(buf, w, index, objects);
     }
     if m.fid != 0 {
-        return Closed::Refused(NO_KIND);
+        return Err(Refusal::NoKind);
     }
     close_parent(buf, m.lov - 1, w, parents)
 }
@@ -78,16 +74,13 @@ pub fn close(
     taken: usize,
     parents: &mut [u8],
     objects: &mut [u8],
-) -> Closed
+) -> Result<(), Refusal>
     requires { (length buf.now ≡ layout_at + layout_room) × GoodMarks m × (taken ≤ length file.now) }
     ensures { EntryClosed buf.now m file.now taken parents.old objects.old parents.new objects.new result }
 {
     let end = owners::line_stop(file, taken);
-    match owners::owner_line(&file[taken..end]) {
-        OwnerRead::NoOwner => Closed::Refused(BAD_DUMP),
-        OwnerRead::OwnerIs(u, g, i) => {
-            let w = Owner { uid: u, gid: g };
-            close_owned(buf, m, w, i, parents, objects)
-        }
-    }
+    let Some((uid, gid, index)) = owners::owner_line(&file[taken..end]) else {
+        return Err(Refusal::BadDump);
+    };
+    close_owned(buf, m, Owner { uid, gid }, index, parents, objects)
 }

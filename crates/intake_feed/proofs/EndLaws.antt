@@ -19,27 +19,27 @@ use Rattle.intake_state.specs.declared.Kept.{Kept}
 use Rattle.intake_state.specs.State.{stop_is, machine_of, kept_of, good_state, machine_in}
 use Rattle.intake_feed.specs.Feed.{stop_number, out_line, stop_line}
 use Rattle.intake_feed.specs.End.{unclosed_at, end_is, EndTold, end_refusal, end_stop, Ended}
-use Rattle.intake_state.proofs.TestLaws.{state_long, state_end}
+use Rattle.intake_state.proofs.TestLaws.{state_long, state_end, state_stop}
 use Rattle.intake_feed.proofs.FedLaws.{stop_number_lem, stop_line_lem}
 
 module _ (k : Kept) where
-  pub end_stopped : k.answer ≤ 37 → (k.answer ≡ 0 → ⊥) → EndTold k k
+  pub end_stopped : k.answer ≤ 37 → 33 ≤ k.answer → (k.answer ≡ 0 → ⊥) → EndTold k k
   unfolding stop_is end_is
-  end_stopped h e = record { stop = rw (ne_eqb k.answer 0 e); answer = h }
+  end_stopped h l e = record { stop = rw (ne_eqb k.answer 0 e); answer = h; number = λ z. l }
 
   module _ (z : k.answer ≡ 0) where
     pub end_open : (r : Kept) → (k.reader.from ≡ 0 → ⊥) → r ≡ unclosed_at k k.reader.from → EndTold k r
     unfolding stop_is end_is unclosed_at
-    end_open r e q = subst (EndTold k) (sym q) (record { stop = rw (z, ne_eqb k.reader.from 0 e); answer = omega arith })
+    end_open r e q = subst (EndTold k) (sym q) (record { stop = rw (z, ne_eqb k.reader.from 0 e); answer = omega arith; number = λ y. omega arith })
 
     module _ (f : k.reader.from ≡ 0) where
       pub end_line : (r : Kept) → (k.reader.line.seen ≡ 0 → ⊥) → r ≡ unclosed_at k (k.reader.count + 1) → EndTold k r
       unfolding stop_is end_is unclosed_at
-      end_line r e q = subst (EndTold k) (sym q) (record { stop = rw (z, f, ne_eqb k.reader.line.seen 0 e); answer = omega arith })
+      end_line r e q = subst (EndTold k) (sym q) (record { stop = rw (z, f, ne_eqb k.reader.line.seen 0 e); answer = omega arith; number = λ y. omega arith })
 
       pub end_none : k.reader.line.seen ≡ 0 → EndTold k k
       unfolding stop_is end_is
-      end_none e = record { stop = rw (z, f, e); answer = omega arith }
+      end_none e = record { stop = rw (z, f, e); answer = omega arith; number = λ y. absurd (y z) }
 
 -- ## The end as the definition has it
 
@@ -108,7 +108,7 @@ module _ (s out : List ℕ) where
           line = w.1 ∙ sym (stop_line_lem r.answer r.named out) ∙ ap (λ (S : Stop). stop_line S out) (sym (stop_is_lem k r q t));
         })
 
-    pub end_requires : (k : Kept) → k ≡ kept_of s → (k.answer ≤ 37) × (k.reader.count < max_count)
+    pub end_requires : (k : Kept) → k ≡ kept_of s → (k.answer ≤ 37) × ((k.answer ≡ 0 → ⊥) → 33 ≤ k.answer) × (k.reader.count < max_count)
     end_requires k q =
         let b = state_end s g in
-        subst (λ (x : Kept). (x.answer ≤ 37) × (x.reader.count < max_count)) (sym q) (b.0, omega (arith, b.1))
+        subst (λ (x : Kept). (x.answer ≤ 37) × ((x.answer ≡ 0 → ⊥) → 33 ≤ x.answer) × (x.reader.count < max_count)) (sym q) (b.0, state_stop s g, omega (arith, b.1))

@@ -8,6 +8,10 @@ use lib.ListN.{length, set}
 use lib.Dec.{eqb, leb}
 use borrow.Author.Tests.{ne_eqb, eqb-true, le-leb, lt-leb, leb-true}
 use Rattle.wire.proofs.Both.{and_first, and_second}
+use Rattle.refusals.specs.declared.Refusal.{Refusal}
+use Rattle.refusals.specs.declared.Refusal.TheVariants.{LongClimb}
+use Rattle.refusals.specs.Numbers.{number, refusal}
+use Rattle.refusals.proofs.NumberLaws.{refusal_of_number}
 use Rattle.tables.specs.Bytes.{parent_size, object_size, layout_room, join, parent_rows, object_rows}
 use Rattle.tables.specs.Check.{whole_rows, parents_whole, objects_whole, all, used_mark, fresh_mark, when_used, test, first_failing}
 use Rattle.stores.proofs.TableLaws.{join_rows}
@@ -22,6 +26,13 @@ use Rattle.intake_feed.proofs.PieceLaws.{stays, stopped_is}
 use Rattle.intake_state.proofs.TestLaws.{state_holds, state_bounds, state_long}
 use Rattle.intake_state.proofs.ReloadLaws.{reload}
 use Rattle.intake_state.proofs.PassLaws.{count_back, size_back, stored_stands}
+
+-- no refusal has the number 0
+pub some_number : (e : Refusal) → number e ≡ 0 → ⊥
+unfolding refusal
+some_number e h =
+    let z : e ≡ LongClimb = sym (refusal_of_number e) ∙ ap refusal h in
+    omega (arith, h, ap number z)
 
 pub stands_not : (s file : List ℕ) → good_state s ≡ false → false ≡ state_stands s file
 unfolding state_stands
@@ -225,12 +236,13 @@ goes_in s piece file p o places k g q z =
     subst (λ (x : Kept). x.answer ≡ 0 → Going s file x × (x.reader.count + length piece < max_count) × (x.reader.line.size + length piece + length piece < max_count)) (sym q)
     (λ y. (record { kept = state_holds s file gs tk; goes = y }, omega (arith, b.0, g.short), omega (arith, b.1, g.short))) z
 
-pub answer_fits : (s piece file p o : List ℕ) (places : ℕ) (k : Kept) → Passed s piece file p o places → k ≡ kept_of s → k.answer ≤ 37
+pub answer_fits : (s piece file p o : List ℕ) (places : ℕ) (k : Kept) → Passed s piece file p o places → k ≡ kept_of s → (k.answer ≤ 37) × ((k.answer ≡ 0 → ⊥) → 33 ≤ k.answer)
 unfolding state_stands
 answer_fits s piece file p o places k g q =
     let gs : good_state s ≡ true = and_first (good_state s) (leb (kept_of s).taken (length file)) g.state in
     let tk : (kept_of s).taken ≤ length file = leb-true (kept_of s).taken (length file) (and_second (good_state s) (leb (kept_of s).taken (length file)) g.state) in
-    subst (λ (x : Kept). x.answer ≤ 37) (sym q) (state_holds s file gs tk).answer
+    let h = state_holds s file gs tk in
+    subst (λ (x : Kept). (x.answer ≤ 37) × ((x.answer ≡ 0 → ⊥) → 33 ≤ x.answer)) (sym q) (h.answer, h.number)
 
 pub long_state : (s piece file p o : List ℕ) (places : ℕ) → Passed s piece file p o places → 208 ≤ length s
 unfolding state_stands

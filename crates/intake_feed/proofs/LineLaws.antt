@@ -12,16 +12,15 @@ use Rattle.intake.specs.Owners.{after_line}
 use Rattle.intake.specs.Machine.{State, byte, no_line}
 use Rattle.intake_bytes.specs.declared.Marks.{Marks}
 use Rattle.intake_line.specs.declared.Reader.{Reader}
-use Rattle.intake_line.specs.declared.Turn.{Turn}
-use Rattle.intake_line.specs.declared.Turn.TheVariants.{Next, Stop as Halt, Close}
+use Rattle.std.specs.Prelude.{Some, None, Ok, Err}
+use Rattle.refusals.specs.declared.Refusal.{Refusal}
+use Rattle.refusals.specs.Numbers.{number}
 use Rattle.intake_bytes.specs.Lent.{max_count, new_line, want_of}
-use Rattle.intake_line.specs.Entry.{no_marks, entry_in, open_in, MarksHeld, ReaderHeld, NextHeld, TurnHeld, state_in, turn_is, TurnTaken}
+use Rattle.intake_line.specs.Entry.{no_marks, entry_in, open_in, MarksHeld, ReaderHeld, NextHeld, Turn, TurnHeld, state_in, turn_is, TurnTaken}
 use Rattle.intake_line.proofs.EntryLaws.{no_entry_lem}
 use Rattle.intake_line.proofs.TurnLaws.{new_is, new_held}
-use Rattle.intake_close.specs.declared.Closed.{Closed}
-use Rattle.intake_close.specs.declared.Closed.TheVariants.{Filled, Refused}
 use Rattle.intake_close.specs.OwnerLine.{LineAfter}
-use Rattle.intake_close.specs.Closing.{with_tables, closed_as, stop_of, EntryClosed}
+use Rattle.intake_close.specs.Closing.{Closed, with_tables, closed_as, stop_of, EntryClosed}
 use Rattle.intake_state.specs.declared.Kept.{Kept}
 use Rattle.intake_feed.specs.Piece.{stopped_at, closed_at, Going, closing_of, LineClosed, LineEnded}
 use Rattle.intake_state.specs.State.{stop_is, machine_of, KeptHeld}
@@ -96,12 +95,12 @@ module _ (s file : List ℕ) (k : Kept) (p o : List ℕ) (g : Going s file k) wh
       (ap (λ (z : Reading). closes_entry layout_room z (suc k.reader.count) (entry_in s k.reader.from k.reader.marks)) (sym (with_tables_lem p o))
       ∙ c.closes (machine_of s k file p o).reading (suc k.reader.count) k.reader.from owners_are)
 
-  refused_machine : (p' o' : List ℕ) (q : ℕ) → 33 ≤ q
-      → record { reading = closed_as (machine_of s k file p o).reading (suc k.reader.count) (after_line (drop k.taken file)) p' o' (Refused q); line = no_line }
-      ≡ machine_of s (stopped_at k q) file p' o'
+  refused_machine : (p' o' : List ℕ) (q : Refusal) → 33 ≤ number q
+      → record { reading = closed_as (machine_of s k file p o).reading (suc k.reader.count) (after_line (drop k.taken file)) p' o' (Err q); line = no_line }
+      ≡ machine_of s (stopped_at k (number q)) file p' o'
   unfolding closed_as
   refused_machine p' o' q h =
-      ap (λ (z : Reading). record { reading = stops_at z q (suc k.reader.count); line = no_line }) (with_tables_lem p' o') ∙ stop_machine p' o' q h
+      ap (λ (z : Reading). record { reading = stops_at z (number q) (suc k.reader.count); line = no_line }) (with_tables_lem p' o') ∙ stop_machine p' o' (number q) h
 
   stop_count : (q : ℕ) → (stopped_at k q).reader.count ≡ k.reader.count + 1
   unfolding stopped_at
@@ -119,11 +118,11 @@ module _ (s file : List ℕ) (k : Kept) (p o : List ℕ) (g : Going s file k) wh
   unfolding closed_at
   row_size taken = refl
 
-  stop_number_lem : (x : Closed) (q : ℕ) → x ≡ Refused q → (33 ≤ stop_of x) × (stop_of x ≤ 37) → (33 ≤ q) × (q ≤ 37)
+  stop_number_lem : (x : Closed) (q : Refusal) → x ≡ Err q → (33 ≤ stop_of x) × (stop_of x ≤ 37) → (33 ≤ number q) × (number q ≤ 37)
   unfolding stop_of
   stop_number_lem x q e h = subst (λ (y : Closed). (33 ≤ stop_of y) × (stop_of y ≤ 37)) e h
 
-  pub closed_stop : (p' o' : List ℕ) (x : Closed) (q : ℕ) (r : Kept) → EntryClosed s k.reader.marks file k.taken p o p' o' x → x ≡ Refused q → r ≡ stopped_at k q
+  pub closed_stop : (p' o' : List ℕ) (x : Closed) (q : Refusal) (r : Kept) → EntryClosed s k.reader.marks file k.taken p o p' o' x → x ≡ Err q → r ≡ stopped_at k (number q)
       → LineClosed s file k p o p' o' r
   closed_stop p' o' x q r c e w =
       let n = stop_number_lem x q e c.number in
@@ -133,18 +132,18 @@ module _ (s file : List ℕ) (k : Kept) (p o : List ℕ) (g : Going s file k) wh
             closing_is p' o' x c
             ∙ ap (λ (y : Closed). record { reading = closed_as (machine_of s k file p o).reading (suc k.reader.count) (after_line (drop k.taken file)) p' o' y; line = no_line }) e
             ∙ refused_machine p' o' q n.0;
-        count = stop_count q;
-        size = stop_size q;
-        kept = stops_kept q n.0 n.1;
+        count = stop_count (number q);
+        size = stop_size (number q);
+        kept = stops_kept (number q) n.0 n.1;
       })
 
   filled_machine : (p' o' : List ℕ) (taken : ℕ) → after_line (drop k.taken file) ≡ drop taken file
-      → record { reading = closed_as (machine_of s k file p o).reading (suc k.reader.count) (after_line (drop k.taken file)) p' o' Filled; line = no_line }
+      → record { reading = closed_as (machine_of s k file p o).reading (suc k.reader.count) (after_line (drop k.taken file)) p' o' (Ok tt); line = no_line }
       ≡ machine_of s (closed_at k taken) file p' o'
   unfolding closed_as
   filled_machine p' o' taken e = row_machine p' o' taken (machine_of s k file p o).reading (after_line (drop k.taken file)) e
 
-  pub closed_row : (p' o' : List ℕ) (x : Closed) (taken : ℕ) (r : Kept) → EntryClosed s k.reader.marks file k.taken p o p' o' x → x ≡ Filled
+  pub closed_row : (p' o' : List ℕ) (x : Closed) (taken : ℕ) (r : Kept) → EntryClosed s k.reader.marks file k.taken p o p' o' x → x ≡ Ok tt
       → LineAfter file k.taken taken → r ≡ closed_at k taken → LineClosed s file k p o p' o' r
   closed_row p' o' x taken r c e a w =
       subst (LineClosed s file k p o p' o') (sym w)
@@ -172,7 +171,7 @@ module _ (s file : List ℕ) (k : Kept) (p o : List ℕ) (g : Going s file k) wh
     unfolding state_in machine_of stop_is
     next_machine n = refl
 
-    pub ended_next : (n : Reader) → t ≡ Next n → LineEnded s file k p o p o (record { answer = 0; named = 0; taken = k.taken; reader = n })
+    pub ended_next : (n : Reader) → t ≡ Ok (Some n) → LineEnded s file k p o p o (record { answer = 0; named = 0; taken = k.taken; reader = n })
     unfolding turn_is TurnHeld
     ended_next n e =
         let w : NextHeld s k.reader n = subst (TurnHeld s k.reader) e h.held in
@@ -189,22 +188,22 @@ module _ (s file : List ℕ) (k : Kept) (p o : List ℕ) (g : Going s file k) wh
           };
         }
 
-    pub ended_stop : (q : ℕ) (r : Kept) → t ≡ Halt q → r ≡ stopped_at k q → LineEnded s file k p o p o r
+    pub ended_stop : (q : Refusal) (r : Kept) → t ≡ Err q → r ≡ stopped_at k (number q) → LineEnded s file k p o p o r
     unfolding turn_is TurnHeld
     ended_stop q r e w =
-        let n : (33 ≤ q) × (q ≤ 34) = subst (TurnHeld s k.reader) e h.held in
+        let n : (33 ≤ number q) × (number q ≤ 34) = subst (TurnHeld s k.reader) e h.held in
         subst (LineEnded s file k p o p o) (sym w)
         (record {
           machine =
               ended ∙ ap (turn_is layout_room (machine_of s k file p o).reading s k.reader) e
-              ∙ ap (λ (S : State). record { reading = stops_at S.reading q (suc k.reader.count); line = no_line }) state_is
-              ∙ stop_machine p o q n.0;
-          count = stop_count q;
-          size = stop_size q;
-          kept = stops_kept q n.0 (omega (arith, n.1));
+              ∙ ap (λ (S : State). record { reading = stops_at S.reading (number q) (suc k.reader.count); line = no_line }) state_is
+              ∙ stop_machine p o (number q) n.0;
+          count = stop_count (number q);
+          size = stop_size (number q);
+          kept = stops_kept (number q) n.0 (omega (arith, n.1));
         })
 
-    pub ended_close : (p' o' : List ℕ) (r : Kept) → t ≡ Close → LineClosed s file k p o p' o' r → LineEnded s file k p o p' o' r
+    pub ended_close : (p' o' : List ℕ) (r : Kept) → t ≡ Ok None → LineClosed s file k p o p' o' r → LineEnded s file k p o p' o' r
     unfolding turn_is closing_of
     ended_close p' o' r e c =
         record {

@@ -20,6 +20,7 @@ end_is k =
 pub record EndTold (k r : Kept) : Type 0 where
   pub stop : stop_is r.answer r.named ≡ end_is k
   pub answer : r.answer ≤ no_fit
+  pub number : (r.answer ≡ 0 → ⊥) → bad_dump ≤ r.answer
 
 -- 16 and 17 in this order, else 0
 unfoldable pub end_refusal : List ℕ → ℕ → ℕ

@@ -1,6 +1,7 @@
 // A piece taken in, and the end of a dump.
 ghost use Rattle.std.specs.Prelude.{◌≡◌, ◌≤◌, ◌<◌, length, leb};
-ghost use Rattle.intake.specs.Reading.{no_fit};
+ghost use Rattle.refusals.specs.Numbers.{answer};
+ghost use Rattle.intake.specs.Reading.{bad_dump, no_fit};
 ghost use Rattle.intake_bytes.specs.Lent.{layout_at, max_count};
 ghost use Rattle.intake_state.specs.State.{kept_of, state_stands};
 ghost use Rattle.intake_feed.specs.Feed.{feed_refusal, out_line, PieceFed};
@@ -8,8 +9,8 @@ ghost use Rattle.intake_feed.specs.End.{unclosed_at, EndTold, DumpEnded};
 
 use super::lines;
 use checks::whole;
-use intake::BAD_DUMP;
 use intake_state::{Kept, state, tests};
+use refusals::Refusal;
 
 // The most bytes of a piece.
 const MAX_PIECE: usize = 65536;
@@ -27,10 +28,7 @@ fn owners_reach(s: &[u8], file: &[u8]) -> bool
 fn state_stands(s: &[u8], file: &[u8]) -> bool
     ensures { result ≡ state_stands s.now file.now }
 {
-    if !tests::good_state(s) {
-        return false;
-    }
-    owners_reach(s, file)
+    tests::good_state(s) && owners_reach(s, file)
 }
 
 // 11, 16 and 17, in this order.
@@ -41,34 +39,33 @@ fn refusal(
     parents: &[u8],
     objects: &[u8],
     places: usize,
-) -> u32
-    ensures { result ≡ feed_refusal s.now piece.now file.now parents.now objects.now places }
+) -> Result<(), Refusal>
+    ensures { answer result ≡ feed_refusal s.now piece.now file.now parents.now objects.now places }
 {
     if MAX_PIECE < piece.len() {
-        return 11;
+        return Err(Refusal::BadTable);
     }
     if !whole::both_whole(parents, objects) {
-        return 11;
+        return Err(Refusal::BadTable);
     }
     if !state_stands(s, file) {
-        return 16;
+        return Err(Refusal::NoPlace);
     }
     if places < 1 {
-        return 17;
+        return Err(Refusal::TooShort);
     }
-    0
+    Ok(())
 }
 
 // The answer of a state, and the line that it names.
-fn told(out: &mut [u64], k: Kept) -> u32
-    requires { (1 ≤ length out.old) × (k.answer ≤ no_fit) }
-    ensures { (result ≡ k.answer) × (out.new ≡ out_line k.answer k.named out.old) }
+fn told(out: &mut [u64], k: Kept) -> Result<(), Refusal>
+    requires { (1 ≤ length out.old) × (k.answer ≤ no_fit) × ((k.answer ≡ 0 → ⊥) → bad_dump ≤ k.answer) }
+    ensures { (answer result ≡ k.answer) × (out.new ≡ out_line k.answer k.named out.old) }
 {
-    if k.answer == 0 {
-        return 0;
+    if k.answer != 0 {
+        out[0] = k.named as u64;
     }
-    out[0] = k.named as u64;
-    k.answer as u32
+    k.told()
 }
 
 // Takes a piece in.
@@ -79,13 +76,10 @@ pub fn feed(
     parents: &mut [u8],
     objects: &mut [u8],
     out: &mut [u64],
-) -> u32
-    ensures { PieceFed s.old piece.now file.now parents.old objects.old out.old s.new parents.new objects.new out.new result }
+) -> Result<(), Refusal>
+    ensures { PieceFed s.old piece.now file.now parents.old objects.old out.old s.new parents.new objects.new out.new (answer result) }
 {
-    let refused = refusal(s, piece, file, parents, objects, out.len());
-    if refused != 0 {
-        return refused;
-    }
+    refusal(s, piece, file, parents, objects, out.len())?;
     let k = state::load(s);
     if k.answer != 0 {
         return told(out, k);
@@ -99,18 +93,16 @@ pub fn feed(
 fn unclosed(k: Kept, line: usize) -> Kept
     ensures { result ≡ unclosed_at k line }
 {
-    let x = k.reader;
     Kept {
-        answer: BAD_DUMP,
+        answer: Refusal::BadDump.number() as usize,
         named: line,
-        taken: k.taken,
-        reader: x,
+        ..k
     }
 }
 
 // What the end finds: an open entry, or an unfinished line.
 fn at_end(k: Kept) -> Kept
-    requires { (k.answer ≤ no_fit) × (k.reader.count < max_count) }
+    requires { (k.answer ≤ no_fit) × ((k.answer ≡ 0 → ⊥) → bad_dump ≤ k.answer) × (k.reader.count < max_count) }
     ensures { EndTold k result }
 {
     if k.answer != 0 {
@@ -120,22 +112,21 @@ fn at_end(k: Kept) -> Kept
     if x.from != 0 {
         return unclosed(k, x.from);
     }
-    let line = x.line;
-    if line.seen != 0 {
+    if x.line.seen != 0 {
         return unclosed(k, x.count + 1);
     }
     k
 }
 
 // The end of a dump.
-pub fn end(s: &[u8], out: &mut [u64]) -> u32
-    ensures { DumpEnded s.now out.old out.new result }
+pub fn end(s: &[u8], out: &mut [u64]) -> Result<(), Refusal>
+    ensures { DumpEnded s.now out.old out.new (answer result) }
 {
     if !tests::good_state(s) {
-        return 16;
+        return Err(Refusal::NoPlace);
     }
     if out.len() < 1 {
-        return 17;
+        return Err(Refusal::TooShort);
     }
     told(out, at_end(state::load(s)))
 }

@@ -1,32 +1,31 @@
 // The lines of a piece, one after another, with the state's numbers in local values.
 ghost use Rattle.std.specs.Prelude.{◌≡◌, ◌+◌, ◌≤◌, ◌<◌, length};
+ghost use Rattle.refusals.specs.Numbers.{number};
 ghost use Rattle.intake_bytes.specs.Lent.{max_count};
 ghost use Rattle.intake_feed.specs.Piece.{stopped_at, closed_at, with_line, Going, LineClosed, LineEnded, PieceRead};
 
 use intake_bytes::Unfinished;
-use intake_close::{Closed, closing, owners};
-use intake_line::{Reader, Turn};
+use intake_close::{closing, owners};
+use intake_line::Reader;
 use intake_state::Kept;
+use refusals::Refusal;
 
 // The state after a line that stops the reading.
-fn stopped(k: Kept, q: usize) -> Kept
+fn stopped(k: Kept, q: Refusal) -> Kept
     requires { k.reader.count < max_count }
-    ensures { result ≡ stopped_at k q }
+    ensures { result ≡ stopped_at k (number q) }
 {
-    let x = k.reader;
-    let m = x.marks;
-    let line = x.count + 1;
-    let reader = Reader {
-        from: x.from,
-        marks: m,
-        count: line,
-        line: intake_bytes::new_line(),
-    };
+    let count = k.reader.count + 1;
+    let line = intake_bytes::new_line();
     Kept {
-        answer: q,
-        named: line,
-        taken: k.taken,
-        reader: reader,
+        answer: q.number() as usize,
+        named: count,
+        reader: Reader {
+            count,
+            line,
+            ..k.reader
+        },
+        ..k
     }
 }
 
@@ -35,18 +34,16 @@ fn closed(k: Kept, taken: usize) -> Kept
     requires { k.reader.count < max_count }
     ensures { result ≡ closed_at k taken }
 {
-    let x = k.reader;
-    let reader = Reader {
-        from: 0,
-        marks: intake_line::no_marks(),
-        count: x.count + 1,
-        line: intake_bytes::new_line(),
-    };
     Kept {
         answer: 0,
         named: 0,
-        taken: taken,
-        reader: reader,
+        taken,
+        reader: Reader {
+            from: 0,
+            marks: intake_line::no_marks(),
+            count: k.reader.count + 1,
+            line: intake_bytes::new_line(),
+        },
     }
 }
 
@@ -54,19 +51,9 @@ fn closed(k: Kept, taken: usize) -> Kept
 fn with_line(k: Kept, line: Unfinished) -> Kept
     ensures { result ≡ with_line k line }
 {
-    let x = k.reader;
-    let m = x.marks;
-    let reader = Reader {
-        from: x.from,
-        marks: m,
-        count: x.count,
-        line: line,
-    };
     Kept {
-        answer: k.answer,
-        named: k.named,
-        taken: k.taken,
-        reader: reader,
+        reader: Reader { line, ..k.reader },
+        ..k
     }
 }
 
@@ -75,12 +62,9 @@ fn close_line(state: &[u8], k: Kept, file: &[u8], parents: &mut [u8], objects: &
     requires { Going state.now file.now k }
     ensures { LineClosed state.now file.now k parents.old objects.old parents.new objects.new result }
 {
-    let x = k.reader;
-    let m = x.marks;
-    let taken = k.taken;
-    match closing::close(state, m, file, taken, parents, objects) {
-        Closed::Filled => closed(k, owners::next_line(file, taken)),
-        Closed::Refused(q) => stopped(k, q),
+    match closing::close(state, k.reader.marks, file, k.taken, parents, objects) {
+        Ok(()) => closed(k, owners::next_line(file, k.taken)),
+        Err(q) => stopped(k, q),
     }
 }
 
@@ -89,16 +73,15 @@ fn end_line(state: &[u8], k: Kept, file: &[u8], parents: &mut [u8], objects: &mu
     requires { Going state.now file.now k }
     ensures { LineEnded state.now file.now k parents.old objects.old parents.new objects.new result }
 {
-    let x = k.reader;
-    match intake_line::line_end(state, x) {
-        Turn::Next(n) => Kept {
+    match intake_line::line_end(state, k.reader) {
+        Ok(Some(reader)) => Kept {
             answer: 0,
             named: 0,
-            taken: k.taken,
-            reader: n,
+            reader,
+            ..k
         },
-        Turn::Stop(q) => stopped(k, q),
-        Turn::Close => close_line(state, k, file, parents, objects),
+        Ok(None) => close_line(state, k, file, parents, objects),
+        Err(q) => stopped(k, q),
     }
 }
 
@@ -116,14 +99,11 @@ pub fn read_piece(
 {
     let mut k = first;
     let mut at = 0;
+    // A loop: where the next line begins is told by the line that was read.
     while at < piece.len() {
-        let x = k.reader;
-        let m = x.marks;
-        let line = x.line;
-        let fed = intake_bytes::feed_line(state, m, line, piece, at);
+        let fed = intake_bytes::feed_line(state, k.reader.marks, k.reader.line, piece, at);
         let end = fed.at;
-        let part = fed.line;
-        k = with_line(k, part);
+        k = with_line(k, fed.line);
         if piece.len() <= end {
             return k;
         }

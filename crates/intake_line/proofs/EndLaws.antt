@@ -1,6 +1,5 @@
 -- What the machine says at a line's end, read off the lent bytes. Assumes nothing.
 use Prim.Native.Nat.{ℕ, ◌+◌, ◌-◌, ◌≤◌, ◌<◌}
-use Rattle.std.specs.Prelude.{Some}
 use mathlib.Core.Path.{◌≡◌, refl, sym, ap, subst, ◌∙◌}
 use mathlib.Core.List.{List, [], ◌∷◌}
 use mathlib.Core.Bool.{Bool, true, false, cond}
@@ -8,13 +7,17 @@ use native.Mathlib.Omega.{arith}
 use lib.ListN.{length, take, drop, length-take, length-drop}
 use lib.Dec.{eqb}
 use borrow.Author.Tests.{eq-eqb, ne_eqb}
+use denote.Enum.Bare.{sameb}
+use Rattle.intake.specs.contracts.Kind.{the_type}
 use Rattle.intake.specs.declared.Kind.{Kind}
 use Rattle.intake.specs.declared.Kind.TheVariants.{Lov, Fid, Lma, Other}
+use Rattle.intake_bytes.specs.declared.Half.{Half}
+use Rattle.intake_bytes.specs.declared.Half.TheVariants.{Even, Odd, Broken}
 use Rattle.intake_bytes.specs.declared.Unfinished.{Unfinished}
-use Rattle.intake_line.specs.declared.Said.TheVariants.{Opens, Closes, Skipped, Bad}
+use Rattle.intake_line.specs.declared.Said.TheVariants.{Opens, Closes, Skipped, Bad, Takes}
 use Rattle.intake.specs.Says.{Value, wrong, holds, opens, closes, skipped, bad, takes, starts, file_word, trusted_word, value_word, kind_of, good_size, sized, attribute, is_empty, judge}
 use Rattle.intake.specs.Machine.{broken, even, odd, value_of, line_end}
-use Rattle.intake_bytes.specs.Lent.{kept_in, digits_in, partial_in}
+use Rattle.intake_bytes.specs.Lent.{kept_in, digits_of, digits_in, partial_in}
 use Rattle.intake_line.specs.Ending.{is_other, value_is}
 use Rattle.intake_bytes.proofs.StartsLaws.{starts_short}
 
@@ -34,6 +37,14 @@ module _ (h : List ℕ) (y : Value) (n : is_empty h ≡ false) where
     unfolding judge
     judge_attribute a = rw (n, f, a)
 
+-- the derived `==` tells it
+pub other_is : (k : Kind) → is_other k ≡ sameb the_type k Other
+unfolding is_other
+other_is Lov = refl
+other_is Fid = refl
+other_is Lma = refl
+other_is Other = refl
+
 is_skipped : (k : Kind) (a : List ℕ) (y : Value) → is_other k ≡ true → skipped ≡ attribute k a y
 unfolding is_other attribute
 is_skipped Lov a y e = let z : ◌≡◌ {A = ℕ} 0 1 = cc in absurd (omega arith)
@@ -48,9 +59,16 @@ is_valued Fid a y e = refl
 is_valued Lma a y e = refl
 is_valued Other a y e = let z : ◌≡◌ {A = ℕ} 0 1 = cc in absurd (omega arith)
 
+-- digits that don't end with a whole byte are no value
+odd_value : (half : Half) (size : ℕ) (v : List ℕ) → (half ≡ Even → ⊥) → value_is half size v ≡ wrong
+unfolding value_is
+odd_value Even size v e = absurd (e refl)
+odd_value (Odd h) size v e = refl
+odd_value Broken size v e = refl
+
 -- ## What is said of a head, where the value is v
 
-module _ (h : List ℕ) (half size : ℕ) (v : List ℕ) where
+module _ (h : List ℕ) (half : Half) (size : ℕ) (v : List ℕ) where
   not_empty : (length h ≡ 0 → ⊥) → is_empty h ≡ false
   unfolding is_empty
   not_empty = go h where
@@ -91,30 +109,29 @@ module _ (h : List ℕ) (half size : ℕ) (v : List ℕ) where
           ends_unmarked a = valued false (sym a)
 
           module _ (a : starts value_word (drop 11 h) ≡ true) where
-            pub ends_odd : (half ≡ 0 → ⊥) → bad ≡ judge h (value_is half size v)
-            unfolding sized value_is
-            ends_odd e = ap (λ (z : Bool). sized k (cond z (holds size v) wrong)) (sym (ne_eqb half 0 e)) ∙ valued true (sym a)
+            pub ends_odd : (half ≡ Even → ⊥) → bad ≡ judge h (value_is half size v)
+            unfolding sized
+            ends_odd e = ap (sized k) (sym (odd_value half size v e)) ∙ valued true (sym a)
 
-            even_value : half ≡ 0 → cond (good_size k size) (takes k size v) bad ≡ judge h (value_is half size v)
+            even_value : half ≡ Even → cond (good_size k size) (takes k size v) bad ≡ judge h (value_is half size v)
             unfolding sized value_is
-            even_value e = ap (λ (z : Bool). sized k (cond z (holds size v) wrong)) (sym (eq-eqb half 0 e)) ∙ valued true (sym a)
+            even_value e = ap (λ (z : Half). sized k (value_is z size v)) (sym e) ∙ valued true (sym a)
 
-            pub ends_taken : half ≡ 0 → good_size k size ≡ true → takes k size v ≡ judge h (value_is half size v)
+            pub ends_taken : half ≡ Even → good_size k size ≡ true → takes k size v ≡ judge h (value_is half size v)
             ends_taken e g = ap (λ (z : Bool). cond z (takes k size v) bad) (sym g) ∙ even_value e
 
-            pub ends_unfit : half ≡ 0 → good_size k size ≡ false → bad ≡ judge h (value_is half size v)
+            pub ends_unfit : half ≡ Even → good_size k size ≡ false → bad ≡ judge h (value_is half size v)
             ends_unfit e g = ap (λ (z : Bool). cond z (takes k size v) bad) (sym g) ∙ even_value e
 
 -- ## Over the lent bytes
 
 value_is_lem : (buf : List ℕ) (x : Unfinished) → value_is x.half x.size (kept_in buf x) ≡ value_of (digits_in buf x)
-unfolding digits_in value_of value_is
-value_is_lem buf x = go (eqb x.half 0) (eqb x.half 17) where
-  go : (s t : Bool) → cond s (holds x.size (kept_in buf x)) wrong
-      ≡ value_of (cond s (even x.size (kept_in buf x)) (cond t broken (odd (x.half - 1) x.size (kept_in buf x))))
-  go true t = refl
-  go false true = refl
-  go false false = refl
+unfolding digits_in digits_of value_of value_is
+value_is_lem buf x = go x.half where
+  go : (h : Half) → value_is h x.size (kept_in buf x) ≡ value_of (digits_of h x.size (kept_in buf x))
+  go Even = refl
+  go (Odd h) = refl
+  go Broken = refl
 
 -- the head as a part of the lent bytes
 pub ends_lent : (buf : List ℕ) (x : Unfinished) → judge (take (128 + x.seen - 128) (drop 128 buf)) (value_is x.half x.size (kept_in buf x)) ≡ line_end (partial_in buf x)
@@ -148,19 +165,19 @@ module _ (k : Kind) (n : ℕ) where
 -- ## Which answers take a value
 
 module _ (k : Kind) where
-  pub opens_not : Opens ≡ Some k → ⊥
+  pub opens_not : Opens ≡ Takes k → ⊥
   opens_not e = let z : ◌≡◌ {A = ℕ} 0 1 = cc in omega arith
 
-  pub closes_not : Closes ≡ Some k → ⊥
+  pub closes_not : Closes ≡ Takes k → ⊥
   closes_not e = let z : ◌≡◌ {A = ℕ} 0 1 = cc in omega arith
 
-  pub skipped_not : Skipped ≡ Some k → ⊥
+  pub skipped_not : Skipped ≡ Takes k → ⊥
   skipped_not e = let z : ◌≡◌ {A = ℕ} 0 1 = cc in omega arith
 
-  pub bad_not : Bad ≡ Some k → ⊥
+  pub bad_not : Bad ≡ Takes k → ⊥
   bad_not e = let z : ◌≡◌ {A = ℕ} 0 1 = cc in omega arith
 
-  pub takes_same : (j : Kind) → Some j ≡ Some k → k ≡ j
+  pub takes_same : (j : Kind) → Takes j ≡ Takes k → k ≡ j
   takes_same j e = cc
 
 pub ends_whole : (buf : List ℕ) (x : Unfinished) (k : Kind)

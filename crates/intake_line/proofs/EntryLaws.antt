@@ -1,6 +1,5 @@
 -- What each line does to the open entry in the lent bytes. Assumes nothing.
 use Prim.Native.Nat.{ℕ, suc, ◌+◌, ◌-◌, ◌<◌}
-use Rattle.std.specs.Prelude.{Some}
 use mathlib.Core.Path.{◌≡◌, refl, sym, ap, subst}
 use mathlib.Core.List.{List}
 use mathlib.Core.Bool.{Bool, true, false, cond}
@@ -12,8 +11,9 @@ use Rattle.intake.specs.declared.Kind.{Kind}
 use Rattle.intake.specs.declared.Kind.TheVariants.{Lov, Fid, Lma, Other}
 use Rattle.intake_bytes.specs.declared.Marks.{Marks}
 use Rattle.intake_line.specs.declared.Said.{Said}
-use Rattle.intake_line.specs.declared.Said.TheVariants.{Opens, Closes, Skipped, Bad}
-use Rattle.intake_line.specs.declared.After.TheVariants.{Goes, Stops, Closing}
+use Rattle.intake_line.specs.declared.Said.TheVariants.{Opens, Closes, Skipped, Bad, Takes}
+use Rattle.std.specs.Prelude.{Some, None, Ok, Err}
+use Rattle.refusals.specs.declared.Refusal.TheVariants.{BadDump, AttributeTwice}
 use Rattle.intake.specs.Says.{good_size}
 use Rattle.intake.specs.Reading.{Attribute, had, outside, inside, Reading, stops_at, has, attribute_of, with_attribute, on_line}
 use Rattle.intake_bytes.specs.Lent.{mark_of, part_of}
@@ -105,7 +105,7 @@ module _ (from : ℕ) (m : Marks) (e : from ≡ 0 → ⊥) where
 
 module _ (from : ℕ) (m : Marks) (s : Said) (size line : ℕ) where
   -- outside an entry every line but an opening one stops the reading
-  pub step_bad : s ≡ Bad → EntryStep from m s size line (Stops 33)
+  pub step_bad : s ≡ Bad → EntryStep from m s size line (Err BadDump)
   unfolding line_of on_line after_is open_in AfterHeld
   step_bad e = record { step = λ room R buf v h. rw e (go room R buf v (eqb from 0)); marked = λ g h. (omega arith, omega arith) } where
     go : (room : ℕ) (R : Reading) (buf v : List ℕ) (t : Bool) → on_line room R line (cond t outside (inside (entry_in buf from m))) (line_of Bad size v) ≡ stops_at R 33 line
@@ -113,40 +113,40 @@ module _ (from : ℕ) (m : Marks) (s : Said) (size line : ℕ) where
     go room R buf v false = refl
 
   module _ (e : from ≡ 0) where
-    pub step_open : s ≡ Opens → 0 < line → EntryStep from m s size line (Goes line no_marks)
+    pub step_open : s ≡ Opens → 0 < line → EntryStep from m s size line (Ok (Some (line, no_marks)))
     unfolding line_of on_line after_is entry_in attribute_in AfterHeld
     step_open q l = record { step = λ room R buf v h. rw (q, open_out buf from m e, open_in_lem buf line no_marks (λ z. omega arith)); marked = λ g h. opened l }
 
-    pub step_close_out : s ≡ Closes → EntryStep from m s size line (Stops 33)
+    pub step_close_out : s ≡ Closes → EntryStep from m s size line (Err BadDump)
     unfolding line_of on_line after_is AfterHeld
     step_close_out q = record { step = λ room R buf v h. rw (q, open_out buf from m e); marked = λ g h. (omega arith, omega arith) }
 
-    pub step_skip_out : s ≡ Skipped → EntryStep from m s size line (Stops 33)
+    pub step_skip_out : s ≡ Skipped → EntryStep from m s size line (Err BadDump)
     unfolding line_of on_line after_is AfterHeld
     step_skip_out q = record { step = λ room R buf v h. rw (q, open_out buf from m e); marked = λ g h. (omega arith, omega arith) }
 
-    pub step_take_out : (k : Kind) → s ≡ Some k → EntryStep from m s size line (Stops 33)
+    pub step_take_out : (k : Kind) → s ≡ Takes k → EntryStep from m s size line (Err BadDump)
     unfolding line_of on_line after_is AfterHeld
     step_take_out k q = record { step = λ room R buf v h. rw (q, open_out buf from m e); marked = λ g h. (omega arith, omega arith) }
 
   module _ (e : from ≡ 0 → ⊥) where
-    pub step_open_in : s ≡ Opens → EntryStep from m s size line (Stops 33)
+    pub step_open_in : s ≡ Opens → EntryStep from m s size line (Err BadDump)
     unfolding line_of on_line after_is AfterHeld
     step_open_in q = record { step = λ room R buf v h. rw (q, open_in_lem buf from m e); marked = λ g h. (omega arith, omega arith) }
 
-    pub step_close : s ≡ Closes → EntryStep from m s size line Closing
+    pub step_close : s ≡ Closes → EntryStep from m s size line (Ok None)
     unfolding line_of on_line after_is AfterHeld
     step_close q = record { step = λ room R buf v h. rw (q, open_in_lem buf from m e); marked = λ g h. e }
 
-    pub step_skip : s ≡ Skipped → EntryStep from m s size line (Goes from m)
+    pub step_skip : s ≡ Skipped → EntryStep from m s size line (Ok (Some (from, m)))
     unfolding line_of on_line after_is AfterHeld
     step_skip q = record { step = λ room R buf v h. rw (q, open_in_lem buf from m e); marked = λ g h. h }
 
-    pub step_twice : (k : Kind) → s ≡ Some k → (mark_of m k ≡ 0 → ⊥) → EntryStep from m s size line (Stops 34)
+    pub step_twice : (k : Kind) → s ≡ Takes k → (mark_of m k ≡ 0 → ⊥) → EntryStep from m s size line (Err AttributeTwice)
     unfolding line_of on_line after_is AfterHeld
     step_twice k q z = record { step = λ room R buf v h. rw (q, open_in_lem buf from m e, kind_in buf from m k, has_one buf k (mark_of m k) z); marked = λ g h. (omega arith, omega arith) }
 
-    pub step_take : (k : Kind) (n : Marks) → s ≡ Some k → mark_of m k ≡ 0 → n ≡ marks_with k (size + 1) m → EntryStep from m s size line (Goes from n)
+    pub step_take : (k : Kind) (n : Marks) → s ≡ Takes k → mark_of m k ≡ 0 → n ≡ marks_with k (size + 1) m → EntryStep from m s size line (Ok (Some (from, n)))
     unfolding line_of on_line after_is Standing AfterHeld
     step_take k n q z w = record {
       step = λ room R buf v h.

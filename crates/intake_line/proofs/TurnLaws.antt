@@ -10,23 +10,23 @@ use Rattle.intake_bytes.specs.declared.Marks.{Marks}
 use Rattle.intake_bytes.specs.declared.Unfinished.{Unfinished}
 use Rattle.intake_line.specs.declared.Reader.{Reader}
 use Rattle.intake_line.specs.declared.Said.{Said}
-use Rattle.intake_line.specs.declared.After.{After}
-use Rattle.intake_line.specs.declared.After.TheVariants.{Goes, Stops, Closing}
-use Rattle.intake_line.specs.declared.Turn.TheVariants.{Next, Stop, Close}
+use Rattle.std.specs.Prelude.{Some, None, Ok, Err}
+use Rattle.refusals.specs.declared.Refusal.{Refusal}
 use Rattle.intake.specs.Says.{Line, kind_of}
 use Rattle.intake.specs.Reading.{Reading, is_going, take_line, on_line, goes_on}
 use Rattle.intake.specs.Machine.{byte, going_byte, no_line}
-use Rattle.intake_bytes.specs.Lent.{want_of, new_line, kept_in, digits_in, partial_in, Held}
+use Rattle.intake_bytes.specs.Lent.{want_of, new_line, kept_in, digits_of, digits_in, partial_in, HalfFits, Held}
 use Rattle.intake_line.specs.Ending.{line_of, LineSaid}
-use Rattle.intake_line.specs.Entry.{open_in, AfterHeld, after_is, Standing, EntryStep, ReaderHeld, TurnHeld, state_in, turn_is, TurnTaken}
+use Rattle.intake_line.specs.Entry.{open_in, After, AfterHeld, after_is, Standing, EntryStep, ReaderHeld, TurnHeld, state_in, turn_is, TurnTaken}
 use Rattle.intake_line.proofs.GlueLaws.{stands}
 
 pub new_is : (buf : List ℕ) → no_line ≡ partial_in buf new_line
-unfolding no_line partial_in digits_in kept_in
+unfolding no_line partial_in digits_in digits_of kept_in
 new_is buf = refl
 
 -- and it is held, whatever is wanted
 pub new_held : (want : Kind → ℕ) (buf : List ℕ) → 208 ≤ length buf → Held want buf new_line
+unfolding HalfFits
 new_held want buf h =
     record {
       heads = omega arith;
@@ -35,7 +35,7 @@ new_held want buf h =
       keeps = λ q. absurd (omega arith);
       past = omega arith;
       fits = omega arith;
-      halves = omega arith;
+      halves = tt;
     }
 
 module _ (buf : List ℕ) (r : Reader) (g : ReaderHeld buf r) (s : Said) (l : LineSaid buf r.line s) (a : After)
@@ -61,7 +61,7 @@ module _ (buf : List ℕ) (r : Reader) (g : ReaderHeld buf r) (s : Said) (l : Li
   marks : AfterHeld r.from a
   marks = e.marked (λ k q. (l.whole k q).2) g.marked
 
-  pub turn_next : (f : ℕ) (n : Marks) (x : Unfinished) → a ≡ Goes f n → x ≡ new_line → TurnTaken buf r (Next (record { from = f; marks = n; count = r.count + 1; line = x }))
+  pub turn_next : (f : ℕ) (n : Marks) (x : Unfinished) → a ≡ Ok (Some (f, n)) → x ≡ new_line → TurnTaken buf r (Ok (Some (record { from = f; marks = n; count = r.count + 1; line = x })))
   unfolding turn_is after_is goes_on state_in TurnHeld AfterHeld
   turn_next f n x q z = record {
     turn = λ room R. ended room R ∙ rw (q, z, add-one, ← new_is buf);
@@ -73,10 +73,10 @@ module _ (buf : List ℕ) (r : Reader) (g : ReaderHeld buf r) (s : Said) (l : Li
     };
   }
 
-  pub turn_stop : (n : ℕ) → a ≡ Stops n → TurnTaken buf r (Stop n)
+  pub turn_stop : (n : Refusal) → a ≡ Err n → TurnTaken buf r (Err n)
   unfolding turn_is after_is TurnHeld AfterHeld
   turn_stop n q = record { turn = λ room R. ended room R ∙ rw q; held = subst (AfterHeld r.from) q marks }
 
-  pub turn_close : a ≡ Closing → TurnTaken buf r Close
+  pub turn_close : a ≡ Ok None → TurnTaken buf r (Ok None)
   unfolding turn_is after_is TurnHeld AfterHeld
   turn_close q = record { turn = λ room R. ended room R ∙ rw q; held = subst (AfterHeld r.from) q marks }

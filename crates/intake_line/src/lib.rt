@@ -4,11 +4,12 @@
 ghost use Rattle.std.specs.Prelude.{◌≡◌, ◌≤◌, ◌<◌, length};
 ghost use Rattle.intake.specs.Says.{head_size, good_size};
 ghost use Rattle.intake_bytes.specs.Lent.{layout_at, max_count, mark_of};
-ghost use Rattle.intake_line.specs.Ending.{is_other, HeadSaid, LineSaid};
+ghost use Rattle.intake_line.specs.Ending.{HeadSaid, LineSaid};
 ghost use Rattle.intake_line.specs.Entry.{no_marks, marks_with, EntryStep, ReaderHeld, TurnTaken};
 
-use intake::{ATTRIBUTE_TWICE, BAD_DUMP, Kind};
-use intake_bytes::{HEAD_AT, HEAD_SIZE, LMA_SIZE, MARK_AT, Marks, OLDER_SIZE, Unfinished};
+use intake::Kind;
+use intake_bytes::{HEAD_AT, HEAD_SIZE, Half, LMA_SIZE, MARK_AT, Marks, OLDER_SIZE, Unfinished};
+use refusals::Refusal;
 
 // What a line says; the length and the bytes of a taken value stand beside it.
 #[derive(Clone, Copy)]
@@ -20,14 +21,6 @@ pub enum Said {
     Takes(Kind),
 }
 
-// What a line leaves: an open entry or none (its first line, or 0, and what it has), a stop, or an entry to close.
-#[derive(Clone, Copy)]
-pub enum After {
-    Goes(usize, Marks),
-    Stops(usize),
-    Closing,
-}
-
 // The entry that is open (its first line, or 0, and what it has), the lines read and the unfinished one.
 #[derive(Clone, Copy)]
 pub struct Reader {
@@ -37,44 +30,20 @@ pub struct Reader {
     pub line: Unfinished,
 }
 
-// What the end of a line leads to: the reader at the next line, the number that stops it, or an entry to close.
-#[derive(Clone, Copy)]
-pub enum Turn {
-    Next(Reader),
-    Stop(usize),
-    Close,
-}
-
 // Whether a length is good for its kind.
 pub fn good_size(k: Kind, n: usize) -> bool
     ensures { result ≡ good_size k n }
 {
     match k {
         Kind::Lov => true,
-        Kind::Fid => {
-            if n == fid::FID_SIZE {
-                return true;
-            }
-            n == OLDER_SIZE
-        }
+        Kind::Fid => n == fid::FID_SIZE || n == OLDER_SIZE,
         Kind::Lma => n == LMA_SIZE,
         Kind::Other => false,
     }
 }
 
-fn is_other(k: Kind) -> bool
-    ensures { result ≡ is_other k }
-{
-    match k {
-        Kind::Lov => false,
-        Kind::Fid => false,
-        Kind::Lma => false,
-        Kind::Other => true,
-    }
-}
-
 // What a line with this head says, where its value's digits come to so many bytes.
-pub fn head_says(h: &[u8], half: usize, size: usize) -> Said
+pub fn head_says(h: &[u8], half: Half, size: usize) -> Said
     ensures { HeadSaid h.now half size result }
 {
     if h.len() == 0 {
@@ -87,7 +56,7 @@ pub fn head_says(h: &[u8], half: usize, size: usize) -> Said
         return Said::Bad;
     }
     let k = intake_bytes::kind_of(h);
-    if is_other(k) {
+    if k == Kind::Other {
         return Said::Skipped;
     }
     if h.len() < HEAD_SIZE {
@@ -96,9 +65,9 @@ pub fn head_says(h: &[u8], half: usize, size: usize) -> Said
     if !intake_bytes::starts(b"=0x", &h[MARK_AT..]) {
         return Said::Bad;
     }
-    if half != 0 {
+    let Half::Even = half else {
         return Said::Bad;
-    }
+    };
     if good_size(k, size) {
         return Said::Takes(k);
     }
@@ -119,21 +88,9 @@ fn marks_with(k: Kind, mark: usize, m: Marks) -> Marks
     ensures { result ≡ marks_with k mark m }
 {
     match k {
-        Kind::Lov => Marks {
-            lov: mark,
-            fid: m.fid,
-            lma: m.lma,
-        },
-        Kind::Fid => Marks {
-            lov: m.lov,
-            fid: mark,
-            lma: m.lma,
-        },
-        Kind::Lma => Marks {
-            lov: m.lov,
-            fid: m.fid,
-            lma: mark,
-        },
+        Kind::Lov => Marks { lov: mark, ..m },
+        Kind::Fid => Marks { fid: mark, ..m },
+        Kind::Lma => Marks { lma: mark, ..m },
         Kind::Other => m,
     }
 }
@@ -160,65 +117,45 @@ pub fn no_marks() -> Marks
     }
 }
 
-// What a line of this number does.
-pub fn entry_line(from: usize, m: Marks, s: Said, size: usize, line: usize) -> After
+// What a line of this number leaves: an open entry (its first line and what it has), or none where the entry closes.
+pub fn entry_line(
+    from: usize,
+    m: Marks,
+    s: Said,
+    size: usize,
+    line: usize,
+) -> Result<Option<(usize, Marks)>, Refusal>
     requires { (0 < line) × (size < max_count) }
     ensures { EntryStep from m s size line result }
 {
     match s {
-        Said::Bad => After::Stops(BAD_DUMP),
-        Said::Opens => {
-            if from == 0 {
-                return After::Goes(line, no_marks());
-            }
-            After::Stops(BAD_DUMP)
-        }
-        Said::Closes => {
-            if from == 0 {
-                return After::Stops(BAD_DUMP);
-            }
-            After::Closing
-        }
-        Said::Skipped => {
-            if from == 0 {
-                return After::Stops(BAD_DUMP);
-            }
-            After::Goes(from, m)
-        }
-        Said::Takes(k) => {
-            if from == 0 {
-                return After::Stops(BAD_DUMP);
-            }
+        Said::Opens if from == 0 => Ok(Some((line, no_marks()))),
+        Said::Closes if from != 0 => Ok(None),
+        Said::Skipped if from != 0 => Ok(Some((from, m))),
+        Said::Takes(k) if from != 0 => {
             if mark_of(k, m) != 0 {
-                return After::Stops(ATTRIBUTE_TWICE);
+                return Err(Refusal::AttributeTwice);
             }
-            After::Goes(from, marks_with(k, size + 1, m))
+            Ok(Some((from, marks_with(k, size + 1, m))))
         }
+        _ => Err(Refusal::BadDump),
     }
 }
 
-// The end of the reader's line.
-pub fn line_end(buf: &[u8], r: Reader) -> Turn
+// The end of the reader's line: the reader at the next one, or none where the entry closes.
+pub fn line_end(buf: &[u8], r: Reader) -> Result<Option<Reader>, Refusal>
     requires { ReaderHeld buf.now r }
     ensures { TurnTaken buf.now r result }
 {
-    let x = r.line;
-    let size = x.size;
-    let line = r.count + 1;
-    let m = r.marks;
-    let s = line_says(buf, x);
-    let a = entry_line(r.from, m, s, size, line);
-    match a {
-        After::Goes(f, n) => {
-            let next = intake_bytes::new_line();
-            Turn::Next(Reader {
-                from: f,
-                marks: n,
-                count: line,
-                line: next,
-            })
-        }
-        After::Stops(q) => Turn::Stop(q),
-        After::Closing => Turn::Close,
-    }
+    let count = r.count + 1;
+    let said = line_says(buf, r.line);
+    let Some((from, marks)) = entry_line(r.from, r.marks, said, r.line.size, count)? else {
+        return Ok(None);
+    };
+    Ok(Some(Reader {
+        from,
+        marks,
+        count,
+        line: intake_bytes::new_line(),
+    }))
 }

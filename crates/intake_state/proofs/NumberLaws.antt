@@ -14,11 +14,12 @@ use Rattle.wire.proofs.RowLaws.{drop_sets_le}
 use Rattle.intake.specs.declared.Kind.{Kind}
 use Rattle.intake.specs.Says.{kind_of}
 use Rattle.intake_bytes.specs.declared.Marks.{Marks}
+use Rattle.intake_bytes.specs.declared.Half.{Half}
 use Rattle.intake_bytes.specs.declared.Unfinished.{Unfinished}
 use Rattle.intake_line.specs.declared.Reader.{Reader}
 use Rattle.intake_bytes.specs.Lent.{base_of, want_of}
 use Rattle.intake_state.specs.declared.Kept.{Kept}
-use Rattle.intake_state.specs.State.{number_at, eights, line_in, marks_in, reader_in, kept_of, numbers_in, numbers_of, Stored}
+use Rattle.intake_state.specs.State.{number_at, eights, half_of, half_number, line_in, marks_in, reader_in, kept_of, numbers_in, numbers_of, Stored}
 
 pub length_eights : (vs : List ℕ) → length (eights vs) ≡ 8 * length vs
 unfolding eights
@@ -60,10 +61,10 @@ module _ (s : List ℕ) (k : Kept) (t u v w : List ℕ) (h : 208 ≤ length s)
     (e1 : t ≡ sets s 0 (eights (k.answer ∷ k.named ∷ k.taken ∷ [])))
     (e2 : u ≡ sets t 24 (eights (k.reader.from ∷ k.reader.count ∷ k.reader.marks.lov ∷ [])))
     (e3 : v ≡ sets u 48 (eights (k.reader.marks.fid ∷ k.reader.marks.lma ∷ k.reader.line.seen ∷ [])))
-    (e4 : w ≡ sets v 72 (eights (k.reader.line.half ∷ k.reader.line.size ∷ 0 ∷ []))) where
+    (e4 : w ≡ sets v 72 (eights (half_number k.reader.line.half ∷ k.reader.line.size ∷ 0 ∷ []))) where
   abbrev all : List ℕ
   all = k.answer ∷ k.named ∷ k.taken ∷ k.reader.from ∷ k.reader.count ∷ k.reader.marks.lov ∷ k.reader.marks.fid ∷ k.reader.marks.lma
-      ∷ k.reader.line.seen ∷ k.reader.line.half ∷ k.reader.line.size ∷ 0 ∷ []
+      ∷ k.reader.line.seen ∷ half_number k.reader.line.half ∷ k.reader.line.size ∷ 0 ∷ []
 
   all_put : w ≡ sets s 0 (eights all)
   all_put =
@@ -71,7 +72,7 @@ module _ (s : List ℕ) (k : Kept) (t u v w : List ℕ) (h : 208 ≤ length s)
       let k3 = eights_on s u v (k.answer ∷ k.named ∷ k.taken ∷ k.reader.from ∷ k.reader.count ∷ k.reader.marks.lov ∷ [])
       (k.reader.marks.fid ∷ k.reader.marks.lma ∷ k.reader.line.seen ∷ []) 48 refl k2 e3 in
       eights_on s v w (k.answer ∷ k.named ∷ k.taken ∷ k.reader.from ∷ k.reader.count ∷ k.reader.marks.lov ∷ k.reader.marks.fid ∷ k.reader.marks.lma ∷ k.reader.line.seen ∷ [])
-      (k.reader.line.half ∷ k.reader.line.size ∷ 0 ∷ []) 72 refl k3 e4
+      (half_number k.reader.line.half ∷ k.reader.line.size ∷ 0 ∷ []) 72 refl k3 e4
 
   all_front : w ≡ eights all ++ drop 96 s
   all_front = all_put ∙ sets_front (eights all) s (omega (arith, length_eights all)) ∙ ap (λ (n : ℕ). eights all ++ drop n s) (length_eights all)
@@ -82,7 +83,7 @@ module _ (s : List ℕ) (k : Kept) (t u v w : List ℕ) (h : 208 ≤ length s)
 
   pub stored_is : k.answer < 256 ^ 8 → k.named < 256 ^ 8 → k.taken < 256 ^ 8 → k.reader.from < 256 ^ 8 → k.reader.count < 256 ^ 8 →
       k.reader.marks.lov < 256 ^ 8 → k.reader.marks.fid < 256 ^ 8 → k.reader.marks.lma < 256 ^ 8 → k.reader.line.seen < 256 ^ 8 →
-      k.reader.line.half < 256 ^ 8 → k.reader.line.size < 256 ^ 8 → Stored s k w
+      half_number k.reader.line.half < 256 ^ 8 → k.reader.line.size < 256 ^ 8 → Stored s k w
   unfolding numbers_in numbers_of
   stored_is a b c d e f g i j l m =
       record {
@@ -106,11 +107,11 @@ module _ (s : List ℕ) (k : Kept) (t u v w : List ℕ) (h : 208 ≤ length s)
 -- ## Loaded
 
 module _ (s : List ℕ) where
-  pub line_short : (m : Marks) (seen half size : ℕ) → seen < 14 → record { seen = seen; base = 144; most = 0; half = half; size = size } ≡ line_in s m seen half size
+  pub line_short : (m : Marks) (seen : ℕ) (half : Half) (size : ℕ) → seen < 14 → record { seen = seen; base = 144; most = 0; half = half; size = size } ≡ line_in s m seen half size
   unfolding line_in
   line_short m seen half size h = rw (lt-ltb seen 14 h)
 
-  pub line_full : (m : Marks) (seen half size : ℕ) (k : Kind) (base most : ℕ) → 14 ≤ seen → k ≡ kind_of (take (142 - 128) (drop 128 s)) → base ≡ base_of k
+  pub line_full : (m : Marks) (seen : ℕ) (half : Half) (size : ℕ) (k : Kind) (base most : ℕ) → 14 ≤ seen → k ≡ kind_of (take (142 - 128) (drop 128 s)) → base ≡ base_of k
       → most ≡ want_of m (length s) k → record { seen = seen; base = base; most = most; half = half; size = size } ≡ line_in s m seen half size
   unfolding line_in
   line_full m seen half size k base most h e p q = rw (le-ltb seen 14 h, p, q, e)
@@ -119,7 +120,7 @@ module _ (s : List ℕ) where
   unfolding marks_in
   marks_are a b c p q r = rw (p, q, r)
 
-  pub reader_are : (m : Marks) (seen half size : ℕ) (x : Unfinished) (from count : ℕ) → m ≡ marks_in s → seen ≡ number_at s 64 → half ≡ number_at s 72 → size ≡ number_at s 80
+  pub reader_are : (m : Marks) (seen : ℕ) (half : Half) (size : ℕ) (x : Unfinished) (from count : ℕ) → m ≡ marks_in s → seen ≡ number_at s 64 → half ≡ half_of (number_at s 72) → size ≡ number_at s 80
       → x ≡ line_in s m seen half size → from ≡ number_at s 24 → count ≡ number_at s 32 → record { from = from; marks = m; count = count; line = x } ≡ reader_in s
   unfolding reader_in
   reader_are m seen half size x from count p q r t u v w = rw (u, p, q, r, t, v, w)

@@ -12,12 +12,15 @@ use Rattle.intake.specs.Says.{kind_of}
 use Rattle.intake.specs.declared.Kind.{Kind}
 use Rattle.intake.specs.declared.Kind.TheVariants.{Lov, Fid, Lma}
 use Rattle.intake_bytes.specs.declared.Marks.{Marks}
+use Rattle.intake_bytes.specs.declared.Half.{Half}
+use Rattle.intake_bytes.specs.declared.Half.TheVariants.{Even}
 use Rattle.intake_bytes.specs.declared.Unfinished.{Unfinished}
 use Rattle.intake_bytes.specs.Lent.{mark_of, base_of, want_of, Held}
 use Rattle.intake_line.specs.Entry.{good_mark, MarksHeld}
 use Rattle.intake_state.specs.declared.Kept.{Kept}
-use Rattle.intake_state.specs.State.{state_size, KeptHeld, line_in, kept_of, max_read, good_stop, bare_marks, good_open, good_line, good_kept, good_state, Stored, state_stands}
-use Rattle.intake_state.proofs.ReloadLaws.{kept_back}
+use Rattle.intake_state.specs.State.{state_size, KeptHeld, line_in, kept_of, max_read, good_stop, bare_marks, good_open, good_half, is_even, good_line, good_kept, good_state, Stored, state_stands}
+use Rattle.intake_state.proofs.ReloadLaws.{kept_raw, kept_back}
+use Rattle.intake_state.proofs.TestLaws.{half_good}
 
 -- ## Each part of the test
 
@@ -45,44 +48,44 @@ marks_pass from m h =
     go false e = refl
 
 line_passes : (want : Kind → ℕ) (s : List ℕ) (x : Unfinished) → Held want s x → x.size ≤ max_read → good_line x ≡ true
-unfolding good_line
+unfolding good_line is_even
 line_passes want s x h k =
-    and_both (leb x.seen 14) (leb x.half 17 && (leb x.size max_read && rest (eqb 14 x.seen))) (le-leb x.seen 14 h.heads)
-    (and_both (leb x.half 17) (leb x.size max_read && rest (eqb 14 x.seen)) (le-leb x.half 17 h.halves)
+    and_both (leb x.seen 14) (good_half x.half && (leb x.size max_read && rest (eqb 14 x.seen))) (le-leb x.seen 14 h.heads)
+    (and_both (good_half x.half) (leb x.size max_read && rest (eqb 14 x.seen)) (half_good x.half h.halves)
     (and_both (leb x.size max_read) (rest (eqb 14 x.seen)) (le-leb x.size max_read k) (go (eqb 14 x.seen) refl)))
   where
     rest : Bool → Bool
-    rest t = cond t true (eqb x.half 0 && eqb x.size 0)
+    rest t = cond t true (is_even x.half && eqb x.size 0)
 
-    go : (t : Bool) → eqb 14 x.seen ≡ t → cond t true (eqb x.half 0 && eqb x.size 0) ≡ true
+    go : (t : Bool) → eqb 14 x.seen ≡ t → cond t true (is_even x.half && eqb x.size 0) ≡ true
     go true e = refl
     go false e =
-        let none : (x.half ≡ 0) × (x.size ≡ 0) = h.short (omega (arith, h.heads, eqb-false 14 x.seen e)) in
-        and_both (eqb x.half 0) (eqb x.size 0) (eq-eqb x.half 0 none.0) (eq-eqb x.size 0 none.1)
+        let none : (x.half ≡ Even) × (x.size ≡ 0) = h.short (omega (arith, h.heads, eqb-false 14 x.seen e)) in
+        and_both (is_even x.half) (eqb x.size 0) (ap is_even none.0) (eq-eqb x.size 0 none.1)
 
 -- ## What is stored
 
 -- a line's numbers are read back as they are; where its value goes the test doesn't ask
-module _ (s : List ℕ) (m : Marks) (x : Unfinished) where
+module _ (s : List ℕ) (m : Marks) (x : Unfinished) (half : Half) where
   abbrev back : Bool → Unfinished
   back t =
-      cond t (record { seen = x.seen; base = 144; most = 0; half = x.half; size = x.size })
+      cond t (record { seen = x.seen; base = 144; most = 0; half = half; size = x.size })
       (record {
         seen = x.seen;
         base = base_of (kind_of (take 14 (drop 128 s)));
         most = want_of m (length s) (kind_of (take 14 (drop 128 s)));
-        half = x.half;
+        half = half;
         size = x.size;
       })
 
-  same_test : good_line (line_in s m x.seen x.half x.size) ≡ good_line x
+  same_test : x.half ≡ half → good_line (line_in s m x.seen half x.size) ≡ good_line x
   unfolding line_in good_line
-  same_test = go (ltb x.seen 14) where
+  same_test e = go (ltb x.seen 14) where
     go : (t : Bool) → good_line (back t) ≡ good_line x
-    go true = refl
-    go false = refl
+    go true = rw e
+    go false = rw e
 
-  same_size : (line_in s m x.seen x.half x.size).size ≡ x.size
+  same_size : (line_in s m x.seen half x.size).size ≡ x.size
   unfolding line_in
   same_size = go (ltb x.seen 14) where
     go : (t : Bool) → (back t).size ≡ x.size
@@ -91,21 +94,21 @@ module _ (s : List ℕ) (m : Marks) (x : Unfinished) where
 
 module _ (s : List ℕ) (k : Kept) (s' : List ℕ) (t : Stored s k s') where
   pub count_back : (kept_of s').reader.count ≡ k.reader.count
-  count_back = ap (λ (x : Kept). x.reader.count) (kept_back s k s' t)
+  count_back = ap (λ (x : Kept). x.reader.count) (kept_raw s k s' t)
 
   pub size_back : (kept_of s').reader.line.size ≡ k.reader.line.size
-  size_back = ap (λ (x : Kept). x.reader.line.size) (kept_back s k s' t) ∙ same_size s' k.reader.marks k.reader.line
+  size_back = ap (λ (x : Kept). x.reader.line.size) (kept_raw s k s' t) ∙ same_size s' k.reader.marks k.reader.line _
 
   kept_passes : (file : List ℕ) → KeptHeld s file k → k.reader.count ≤ max_read → k.reader.line.size ≤ max_read → good_kept (kept_of s') ≡ true
   unfolding good_kept
   kept_passes file h c z =
-      ap good_kept (kept_back s k s' t)
+      ap good_kept (kept_back s k s' t h.held.held.halves)
       ∙ and_both (good_stop k.answer) (good_open k.reader.from k.reader.marks && (good_line L && leb k.reader.count max_read))
       (stop_passes k.answer h.answer h.number)
       (and_both (good_open k.reader.from k.reader.marks) (good_line L && leb k.reader.count max_read)
       (marks_pass k.reader.from k.reader.marks h.held.marked)
       (and_both (good_line L) (leb k.reader.count max_read)
-      (same_test s' k.reader.marks k.reader.line ∙ line_passes (want_of k.reader.marks (length s)) s k.reader.line h.held.held z)
+      (same_test s' k.reader.marks k.reader.line k.reader.line.half refl ∙ line_passes (want_of k.reader.marks (length s)) s k.reader.line h.held.held z)
       (le-leb k.reader.count max_read c)))
     where
       L : Unfinished
@@ -117,7 +120,7 @@ module _ (s : List ℕ) (k : Kept) (s' : List ℕ) (t : Stored s k s') where
   unfolding state_stands good_state
   stored_stands file h c z =
       let n : length s' ≡ state_size = t.long ∙ h.size in
-      let taken : (kept_of s').taken ≡ k.taken = ap (λ (x : Kept). x.taken) (kept_back s k s' t) in
+      let taken : (kept_of s').taken ≡ k.taken = ap (λ (x : Kept). x.taken) (kept_raw s k s' t) in
       and_both (eqb (length s') state_size && good_kept (kept_of s')) (leb (kept_of s').taken (length file))
       (and_both (eqb (length s') state_size) (good_kept (kept_of s')) (eq-eqb (length s') state_size n)
       (kept_passes file h (omega (arith, c, count_back)) (omega (arith, z, size_back))))

@@ -1,32 +1,49 @@
 -- What is stored is read back as the same reading. Assumes nothing.
-use Prim.Native.Nat.{ℕ, ◌+◌, ◌-◌, ◌≤◌}
+use Prim.Native.Nat.{ℕ, ◌+◌, ◌-◌, ◌^◌, ◌%◌, ◌≤◌}
 use mathlib.Core.Path.{◌≡◌, refl, sym, ap, ◌∙◌}
 use mathlib.Core.List.{List}
 use mathlib.Core.Bool.{Bool, true, false, cond}
+use native.Mathlib.Nat.{mod-eq_of_lt}
 use native.Mathlib.Omega.{arith}
 use lib.ListN.{length, take, drop, get_or}
 use lib.Seq.{drop-drop}
-use lib.Dec.{eqb, ltb}
-use borrow.Author.Tests.{ltb-true, ltb-false}
+use lib.Dec.{ltb}
+use borrow.Author.Tests.{ne_eqb, ltb-true, ltb-false}
 use Rattle.tables.specs.Bytes.{parent_rows, object_rows}
 use Rattle.intake.specs.declared.Kind.{Kind}
 use Rattle.intake.specs.Says.{kind_of, wanted}
 use Rattle.intake.specs.Reading.{Open}
-use Rattle.intake.specs.Machine.{Digits, broken, even, odd, Partial, State}
+use Rattle.intake.specs.Machine.{Digits, Partial, State}
 use Rattle.intake_bytes.specs.declared.Marks.{Marks}
+use Rattle.intake_bytes.specs.declared.Half.{Half}
+use Rattle.intake_bytes.specs.declared.Half.TheVariants.{Even, Odd, Broken}
 use Rattle.intake_bytes.specs.declared.Unfinished.{Unfinished}
-use Rattle.intake_bytes.specs.Lent.{base_of, want_of, part_of, Held, Others, kept_in, digits_in, partial_in}
+use Rattle.intake_bytes.specs.Lent.{base_of, want_of, part_of, Held, Others, kept_in, digits_of, digits_in, partial_in, HalfFits}
 use Rattle.intake_line.proofs.GlueLaws.{open_stays}
 use Rattle.intake_bytes.proofs.HoldLaws.{base_past}
 use Rattle.intake_state.specs.declared.Kept.{Kept}
-use Rattle.intake_state.specs.State.{stop_is, machine_of, KeptHeld, number_at, line_in, marks_in, reader_in, kept_of, numbers_in, numbers_of, machine_in, Stored}
+use Rattle.intake_state.specs.State.{stop_is, machine_of, KeptHeld, number_at, half_of, half_number, line_in, marks_in, reader_in, kept_of, numbers_in, numbers_of, machine_in, Stored}
 
 same_partial : (h k : List ℕ) (d e : Digits) → h ≡ k → d ≡ e → ◌≡◌ {A = Partial} (record { head = h; digits = d }) (record { head = k; digits = e })
 same_partial h k d e p q = rw (p, q)
 
-same_digits : (h k m n : ℕ) (v w : List ℕ) → h ≡ k → m ≡ n → v ≡ w
-    → cond (eqb h 0) (even m v) (cond (eqb h 17) broken (odd (h - 1) m v)) ≡ cond (eqb k 0) (even n w) (cond (eqb k 17) broken (odd (k - 1) n w))
+same_digits : (h k : Half) (m n : ℕ) (v w : List ℕ) → h ≡ k → m ≡ n → v ≡ w → digits_of h m v ≡ digits_of k n w
 same_digits h k m n v w a b c = rw (a, b, c)
+
+-- half a byte whose digit is known
+pub half_odd : (n : ℕ) → (n ≡ 0 → ⊥) → (n ≡ 17 → ⊥) → Odd (n - 1) ≡ half_of n
+unfolding half_of
+half_odd n e f = rw (ne_eqb n 0 e, ne_eqb n 17 f)
+
+-- half a byte is read back
+pub half_back : (h : Half) → HalfFits h → half_of (half_number h) ≡ h
+unfolding half_of half_number HalfFits
+half_back Even f = refl
+half_back (Odd h) f =
+    let e : (h + 1) % 2 ^ 64 ≡ h + 1 = mod-eq_of_lt (omega arith) in
+    let d : h + 1 - 1 ≡ h = omega arith in
+    rw (e, ne_eqb (h + 1) 0 (λ z. omega arith), ne_eqb (h + 1) 17 (λ z. omega arith), d)
+half_back Broken f = refl
 
 module _ (s s' : List ℕ) (r : drop 128 s' ≡ drop 128 s) (long : length s' ≡ length s) where
   -- past the numbers nothing differs
@@ -79,7 +96,8 @@ module _ (s : List ℕ) (k : Kept) (s' : List ℕ) (t : Stored s k s') where
   at : (i : ℕ) → get_or (numbers_in s') i 0 ≡ get_or (numbers_of k) i 0
   at i = ap (λ (l : List ℕ). get_or l i 0) t.numbers
 
-  pub kept_back : kept_of s' ≡ record {
+  abbrev kept_at : Half → Kept
+  kept_at h = record {
     answer = k.answer;
     named = k.named;
     taken = k.taken;
@@ -87,11 +105,13 @@ module _ (s : List ℕ) (k : Kept) (s' : List ℕ) (t : Stored s k s') where
       from = k.reader.from;
       marks = k.reader.marks;
       count = k.reader.count;
-      line = line_in s' k.reader.marks k.reader.line.seen k.reader.line.half k.reader.line.size;
+      line = line_in s' k.reader.marks k.reader.line.seen h k.reader.line.size;
     };
   }
+
+  pub kept_raw : kept_of s' ≡ kept_at (half_of (half_number k.reader.line.half))
   unfolding kept_of reader_in marks_in numbers_in numbers_of
-  kept_back =
+  kept_raw =
       let a0 : number_at s' 0 ≡ k.answer = at 0 in
       let a1 : number_at s' 8 ≡ k.named = at 1 in
       let a2 : number_at s' 16 ≡ k.taken = at 2 in
@@ -101,15 +121,18 @@ module _ (s : List ℕ) (k : Kept) (s' : List ℕ) (t : Stored s k s') where
       let a6 : number_at s' 48 ≡ k.reader.marks.fid = at 6 in
       let a7 : number_at s' 56 ≡ k.reader.marks.lma = at 7 in
       let a8 : number_at s' 64 ≡ k.reader.line.seen = at 8 in
-      let a9 : number_at s' 72 ≡ k.reader.line.half = at 9 in
+      let a9 : number_at s' 72 ≡ half_number k.reader.line.half = at 9 in
       let b0 : number_at s' 80 ≡ k.reader.line.size = at 10 in
       rw (a0, a1, a2, a3, a4, a5, a6, a7, a8, a9, b0)
+
+  pub kept_back : HalfFits k.reader.line.half → kept_of s' ≡ kept_at k.reader.line.half
+  kept_back f = kept_raw ∙ ap kept_at (half_back k.reader.line.half f)
 
   -- THE LAW: what is stored stands for the same reading
   pub reload : (file p o : List ℕ) → KeptHeld s file k → machine_in s' file p o ≡ machine_of s k file p o
   unfolding machine_in machine_of
   reload file p o g =
-      ap (λ (x : Kept). machine_of s' x file p o) kept_back
+      ap (λ (x : Kept). machine_of s' x file p o) (kept_back g.held.held.halves)
       ∙ two (open_stays s s' k.reader.marks t.long (same_others s s' t.rest t.long (want_of k.reader.marks (length s))) k.reader.from)
       (line_back s s' t.rest t.long k.reader.marks k.reader.line g.held.held)
     where

@@ -6,18 +6,20 @@ use mathlib.Core.Bool.{Bool, true, false, cond, ◌&&◌, ◌||◌}
 use native.Mathlib.Omega.{arith}
 use lib.ListN.{length, take, drop}
 use lib.Dec.{eqb, leb, ltb}
-use borrow.Author.Tests.{eq-eqb, ne_eqb, eqb-true, le-leb, lt-leb, leb-true, ltb-true}
+use borrow.Author.Tests.{eq-eqb, ne_eqb, eqb-true, le-leb, lt-leb, leb-true, lt-ltb, ltb-true}
 use Rattle.wire.proofs.Both.{and_first, and_second}
 use Rattle.intake.specs.declared.Kind.{Kind}
 use Rattle.intake.specs.declared.Kind.TheVariants.{Lov, Fid, Lma, Other}
 use Rattle.intake.specs.Says.{good_size, kind_of}
 use Rattle.intake_bytes.specs.declared.Marks.{Marks}
+use Rattle.intake_bytes.specs.declared.Half.{Half}
+use Rattle.intake_bytes.specs.declared.Half.TheVariants.{Even, Odd, Broken}
 use Rattle.intake_bytes.specs.declared.Unfinished.{Unfinished}
-use Rattle.intake_bytes.specs.Lent.{mark_of, base_of, want_of, Held}
+use Rattle.intake_bytes.specs.Lent.{mark_of, base_of, want_of, HalfFits, Held}
 use Rattle.intake_line.specs.Entry.{good_mark, GoodMarks, MarksHeld}
 use Rattle.intake_bytes.proofs.HoldLaws.{base_past, want_fits}
 use Rattle.intake_state.specs.declared.Kept.{Kept}
-use Rattle.intake_state.specs.State.{state_size, KeptHeld, line_in, marks_in, reader_in, kept_of, max_read, good_stop, bare_marks, good_open, good_line, good_kept, good_state}
+use Rattle.intake_state.specs.State.{state_size, KeptHeld, line_in, marks_in, reader_in, kept_of, max_read, good_stop, bare_marks, good_open, good_half, is_even, good_line, good_kept, good_state}
 
 -- a test that fails, and one that is passed
 pub fails : (a b : Bool) → a ≡ false → false ≡ (a && b)
@@ -85,28 +87,60 @@ module _ (x : Unfinished) where
   line_seen h = rw (lt-leb x.seen 14 h)
 
   module _ (a : x.seen ≤ 14) where
-    pub line_half : 17 < x.half → false ≡ good_line x
+    pub line_half : good_half x.half ≡ false → false ≡ good_line x
     unfolding good_line
-    line_half h = rw (le-leb x.seen 14 a, lt-leb x.half 17 h)
+    line_half h = rw (le-leb x.seen 14 a, h)
 
-    module _ (b : x.half ≤ 17) where
+    module _ (b : good_half x.half ≡ true) where
       pub line_size : max_read < x.size → false ≡ good_line x
       unfolding good_line
-      line_size h = rw (le-leb x.seen 14 a, le-leb x.half 17 b, lt-leb x.size max_read h)
+      line_size h = rw (le-leb x.seen 14 a, b, lt-leb x.size max_read h)
 
       module _ (c : x.size ≤ max_read) where
         pub line_head : 14 ≡ x.seen → true ≡ good_line x
         unfolding good_line
-        line_head h = rw (le-leb x.seen 14 a, le-leb x.half 17 b, le-leb x.size max_read c, eq-eqb 14 x.seen h)
+        line_head h = rw (le-leb x.seen 14 a, b, le-leb x.size max_read c, eq-eqb 14 x.seen h)
 
         module _ (h : 14 ≡ x.seen → ⊥) where
-          pub line_digit : (x.half ≡ 0 → ⊥) → false ≡ good_line x
+          pub line_digit : is_even x.half ≡ false → false ≡ good_line x
           unfolding good_line
-          line_digit e = rw (le-leb x.seen 14 a, le-leb x.half 17 b, le-leb x.size max_read c, ne_eqb 14 x.seen h, ne_eqb x.half 0 e)
+          line_digit e = rw (le-leb x.seen 14 a, b, le-leb x.size max_read c, ne_eqb 14 x.seen h, e)
 
-          pub line_none : x.half ≡ 0 → eqb x.size 0 ≡ good_line x
+          pub line_none : is_even x.half ≡ true → eqb x.size 0 ≡ good_line x
           unfolding good_line
-          line_none e = rw (le-leb x.seen 14 a, le-leb x.half 17 b, le-leb x.size max_read c, ne_eqb 14 x.seen h, eq-eqb x.half 0 e)
+          line_none e = rw (le-leb x.seen 14 a, b, le-leb x.size max_read c, ne_eqb 14 x.seen h, e)
+
+-- a half byte of which no digit is known
+pub half_other : (h : Half) → ((d : ℕ) → h ≡ Odd d → ⊥) → true ≡ good_half h
+unfolding good_half
+half_other Even f = refl
+half_other (Odd d) f = absurd (f d refl)
+half_other Broken f = refl
+
+pub not_even : (h : Half) → (h ≡ Even → ⊥) → false ≡ is_even h
+unfolding is_even
+not_even Even f = absurd (f refl)
+not_even (Odd d) f = refl
+not_even Broken f = refl
+
+-- a half byte that passes
+pub half_true : (h : Half) → good_half h ≡ true → HalfFits h
+unfolding good_half HalfFits
+half_true Even e = tt
+half_true (Odd h) e = ltb-true h 16 e
+half_true Broken e = tt
+
+pub half_good : (h : Half) → HalfFits h → good_half h ≡ true
+unfolding good_half HalfFits
+half_good Even f = refl
+half_good (Odd h) f = lt-ltb h 16 f
+half_good Broken f = refl
+
+pub even_true : (h : Half) → is_even h ≡ true → h ≡ Even
+unfolding is_even
+even_true Even e = refl
+even_true (Odd h) e = let z : ◌≡◌ {A = ℕ} 0 1 = cc in absurd (omega arith)
+even_true Broken e = let z : ◌≡◌ {A = ℕ} 0 1 = cc in absurd (omega arith)
 
 module _ (k : Kept) where
   pub kept_stop : good_stop k.answer ≡ false → false ≡ good_kept k
@@ -169,25 +203,25 @@ module _ (k : Kept) (g : good_kept k ≡ true) where
 
 pub record LinePassed (x : Unfinished) : Type 0 where
   pub seen : x.seen ≤ 14
-  pub half : x.half ≤ 17
+  pub half : HalfFits x.half
   pub size : x.size ≤ max_read
-  pub short : x.seen < 14 → (x.half ≡ 0) × (x.size ≡ 0)
+  pub short : x.seen < 14 → (x.half ≡ Even) × (x.size ≡ 0)
 
 pub line_holds : (x : Unfinished) → good_line x ≡ true → LinePassed x
 unfolding good_line
 line_holds x g =
-    let B : Bool = cond (eqb 14 x.seen) true (eqb x.half 0 && eqb x.size 0) in
-    let r1 : (leb x.half 17 && (leb x.size max_read && B)) ≡ true = and_second (leb x.seen 14) (leb x.half 17 && (leb x.size max_read && B)) g in
-    let r2 : (leb x.size max_read && B) ≡ true = and_second (leb x.half 17) (leb x.size max_read && B) r1 in
+    let B : Bool = cond (eqb 14 x.seen) true (is_even x.half && eqb x.size 0) in
+    let r1 : (good_half x.half && (leb x.size max_read && B)) ≡ true = and_second (leb x.seen 14) (good_half x.half && (leb x.size max_read && B)) g in
+    let r2 : (leb x.size max_read && B) ≡ true = and_second (good_half x.half) (leb x.size max_read && B) r1 in
     let r3 : B ≡ true = and_second (leb x.size max_read) B r2 in
     record {
-      seen = leb-true x.seen 14 (and_first (leb x.seen 14) (leb x.half 17 && (leb x.size max_read && B)) g);
-      half = leb-true x.half 17 (and_first (leb x.half 17) (leb x.size max_read && B) r1);
+      seen = leb-true x.seen 14 (and_first (leb x.seen 14) (good_half x.half && (leb x.size max_read && B)) g);
+      half = half_true x.half (and_first (good_half x.half) (leb x.size max_read && B) r1);
       size = leb-true x.size max_read (and_first (leb x.size max_read) B r2);
       short = λ h.
           let n : eqb 14 x.seen ≡ false = ne_eqb 14 x.seen (λ z. omega arith) in
-          let r4 : (eqb x.half 0 && eqb x.size 0) ≡ true = subst (λ (t : Bool). cond t true (eqb x.half 0 && eqb x.size 0) ≡ true) n r3 in
-          (eqb-true x.half 0 (and_first (eqb x.half 0) (eqb x.size 0) r4), eqb-true x.size 0 (and_second (eqb x.half 0) (eqb x.size 0) r4));
+          let r4 : (is_even x.half && eqb x.size 0) ≡ true = subst (λ (t : Bool). cond t true (is_even x.half && eqb x.size 0) ≡ true) n r3 in
+          (even_true x.half (and_first (is_even x.half) (eqb x.size 0) r4), eqb-true x.size 0 (and_second (is_even x.half) (eqb x.size 0) r4));
     }
 
 or_true : (t : Bool) → (t || true) ≡ true
@@ -224,7 +258,7 @@ module _ (from : ℕ) (m : Marks) where
       each f l Other = refl
 
 -- the line of a state that passes is held
-pub line_held : (s : List ℕ) (m : Marks) (seen half size : ℕ) → 208 ≤ length s → LinePassed (line_in s m seen half size) → Held (want_of m (length s)) s (line_in s m seen half size)
+pub line_held : (s : List ℕ) (m : Marks) (seen : ℕ) (half : Half) (size : ℕ) → 208 ≤ length s → LinePassed (line_in s m seen half size) → Held (want_of m (length s)) s (line_in s m seen half size)
 unfolding line_in
 line_held s m seen half size n = go (ltb seen 14) refl where
   K : Kind
@@ -288,3 +322,7 @@ unfolding good_state
 state_end s g =
     let h : good_kept (kept_of s) ≡ true = and_second (eqb (length s) state_size) (good_kept (kept_of s)) g in
     ((stop_passed (kept_of s) h).0, count_passed (kept_of s) h, (line_holds (kept_of s).reader.line (line_passed (kept_of s) h)).seen)
+
+pub state_stop : (s : List ℕ) → good_state s ≡ true → ((kept_of s).answer ≡ 0 → ⊥) → 33 ≤ (kept_of s).answer
+unfolding good_state
+state_stop s g = (stop_passed (kept_of s) (and_second (eqb (length s) state_size) (good_kept (kept_of s)) g)).1

@@ -1,5 +1,5 @@
 -- The state in its lent bytes: all zero to begin. Its test is one that every reading's state passes, and under which every step is defined.
-use Rattle.std.specs.Prelude.{ℕ, ◌+◌, ◌≤◌, ◌≡◌, List, [], ◌∷◌, ◌++◌, Bool, true, cond, ◌&&◌, length, take, drop, eqb, leb, ltb}
+use Rattle.std.specs.Prelude.{ℕ, ◌+◌, ◌-◌, ◌^◌, ◌%◌, ◌≤◌, ◌≡◌, List, [], ◌∷◌, ◌++◌, Bool, true, false, cond, ◌&&◌, length, take, drop, eqb, leb, ltb}
 use Rattle.wire.specs.Numbers.{le, bytes}
 use Rattle.intake.specs.Says.{head_size, kind_of}
 use Rattle.intake.specs.declared.Kind.TheVariants.{Fid, Lma}
@@ -7,9 +7,11 @@ use Rattle.tables.specs.Bytes.{layout_room, parent_rows, object_rows}
 use Rattle.intake.specs.Reading.{bad_dump, no_fit, Stop, going, stopped}
 use Rattle.intake.specs.Machine.{State}
 use Rattle.intake_bytes.specs.declared.Marks.{Marks}
+use Rattle.intake_bytes.specs.declared.Half.{Half}
+use Rattle.intake_bytes.specs.declared.Half.TheVariants.{Even, Odd, Broken}
 use Rattle.intake_bytes.specs.declared.Unfinished.{Unfinished}
 use Rattle.intake_line.specs.declared.Reader.{Reader}
-use Rattle.intake_bytes.specs.Lent.{head_at, fid_at, layout_at, base_of, want_of, broken_half, partial_in}
+use Rattle.intake_bytes.specs.Lent.{head_at, fid_at, layout_at, base_of, want_of, partial_in}
 use Rattle.intake_line.specs.Entry.{good_mark, open_in, ReaderHeld}
 use Rattle.intake_state.specs.declared.Kept.{Kept}
 
@@ -85,8 +87,21 @@ eights (v ∷ vs) = bytes 8 v ++ eights vs
 unfoldable pub marks_in : List ℕ → Marks
 marks_in s = record { lov = number_at s lov_mark_at; fid = number_at s fid_mark_at; lma = number_at s lma_mark_at }
 
+-- the half byte of digits that aren't hex
+abbrev pub broken_half : ℕ
+broken_half = 17
+
+-- half a byte from its number: 0 where there is none, a digit and 1, or 17
+unfoldable pub half_of : ℕ → Half
+half_of n = cond (eqb n 0) Even (cond (eqb n broken_half) Broken (Odd (n - 1)))
+
+unfoldable pub half_number : Half → ℕ
+half_number Even = 0
+half_number (Odd h) = (h + 1) % 2 ^ 64
+half_number Broken = broken_half
+
 -- the unfinished line of these numbers: its head tells where its value goes
-unfoldable pub line_in : List ℕ → Marks → ℕ → ℕ → ℕ → Unfinished
+unfoldable pub line_in : List ℕ → Marks → ℕ → Half → ℕ → Unfinished
 line_in s m seen half size =
     cond (ltb seen head_size) (record { seen = seen; base = fid_at; most = 0; half = half; size = size })
     (record { seen = seen; base = base_of (kind_of (take head_size (drop head_at s))); most = want_of m (length s) (kind_of (take head_size (drop head_at s))); half = half; size = size })
@@ -97,7 +112,7 @@ reader_in s =
       from = number_at s from_at;
       marks = marks_in s;
       count = number_at s count_at;
-      line = line_in s (marks_in s) (number_at s seen_at) (number_at s half_at) (number_at s size_at);
+      line = line_in s (marks_in s) (number_at s seen_at) (half_of (number_at s half_at)) (number_at s size_at);
     }
 
 unfoldable pub kept_of : List ℕ → Kept
@@ -117,7 +132,7 @@ numbers_in s =
 unfoldable pub numbers_of : Kept → List ℕ
 numbers_of k =
     k.answer ∷ k.named ∷ k.taken ∷ k.reader.from ∷ k.reader.count ∷ k.reader.marks.lov ∷ k.reader.marks.fid ∷ k.reader.marks.lma
-    ∷ k.reader.line.seen ∷ k.reader.line.half ∷ k.reader.line.size ∷ []
+    ∷ k.reader.line.seen ∷ half_number k.reader.line.half ∷ k.reader.line.size ∷ []
 
 pub record Stored (s : List ℕ) (k : Kept) (s' : List ℕ) : Type 0 where
   pub numbers : numbers_in s' ≡ numbers_of k
@@ -140,10 +155,21 @@ bare_marks m = eqb m.lov 0 && (eqb m.fid 0 && eqb m.lma 0)
 unfoldable pub good_open : ℕ → Marks → Bool
 good_open from m = good_mark Fid m.fid && (good_mark Lma m.lma && cond (eqb from 0) (bare_marks m) true)
 
+-- a first digit is one
+unfoldable pub good_half : Half → Bool
+good_half Even = true
+good_half (Odd h) = ltb h 16
+good_half Broken = true
+
+unfoldable pub is_even : Half → Bool
+is_even Even = true
+is_even (Odd h) = false
+is_even Broken = false
+
 -- a line has digits only after its head
 unfoldable pub good_line : Unfinished → Bool
 good_line x =
-    leb x.seen head_size && (leb x.half broken_half && (leb x.size max_read && cond (eqb head_size x.seen) true (eqb x.half 0 && eqb x.size 0)))
+    leb x.seen head_size && (good_half x.half && (leb x.size max_read && cond (eqb head_size x.seen) true (is_even x.half && eqb x.size 0)))
 
 unfoldable pub good_kept : Kept → Bool
 good_kept k = good_stop k.answer && (good_open k.reader.from k.reader.marks && (good_line k.reader.line && leb k.reader.count max_read))

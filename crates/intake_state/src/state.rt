@@ -2,12 +2,11 @@
 ghost use Rattle.std.specs.Prelude.{◌≡◌, [], ◌∷◌, ◌+◌, ◌≤◌, length};
 ghost use Rattle.std.proofs.lemmas.List.Edits.{sets};
 ghost use Rattle.intake_bytes.specs.Lent.{layout_at};
-ghost use Rattle.intake_state.specs.State.{number_at, eights, line_in, marks_in, reader_in, kept_of, Stored};
+ghost use Rattle.intake_state.specs.State.{number_at, eights, half_of, half_number, line_in, marks_in, reader_in, kept_of, Stored};
 
 use super::Kept;
-use intake_bytes::{FID_AT, HEAD_AT, HEAD_END, HEAD_SIZE, Marks, Unfinished};
+use intake_bytes::{FID_AT, HEAD_AT, HEAD_END, HEAD_SIZE, Half, Marks, Unfinished};
 use intake_line::Reader;
-use wire::Little;
 
 // Where the numbers stand, 8 bytes each: the stop, the entry and its marks, the unfinished line.
 const ANSWER_AT: usize = 0;
@@ -32,34 +31,58 @@ const HALF_AT: usize = SEEN_AT + 8;
 
 const SIZE_AT: usize = HALF_AT + 8;
 
+// The number of digits that aren't hex.
+const BROKEN: usize = 17;
+
 fn number_at(state: &[u8], at: usize) -> usize
     requires { at + 8 ≤ length state.now }
     ensures { result ≡ number_at state.now at }
 {
-    wire::get::<u64, Little>(state, at) as usize
+    wire::le64(state, at) as usize
+}
+
+// Half a byte from its number: 0 where there is none, a digit and 1, or 17.
+fn half_of(n: usize) -> Half
+    ensures { result ≡ half_of n }
+{
+    match n {
+        0 => Half::Even,
+        BROKEN => Half::Broken,
+        _ => Half::Odd(n - 1),
+    }
+}
+
+fn half_number(half: Half) -> usize
+    ensures { result ≡ half_number half }
+{
+    match half {
+        Half::Even => 0,
+        Half::Odd(h) => h.wrapping_add(1),
+        Half::Broken => BROKEN,
+    }
 }
 
 // The unfinished line of these numbers: its head tells where its value goes.
-fn line_in(state: &[u8], m: Marks, seen: usize, half: usize, size: usize) -> Unfinished
+fn line_in(state: &[u8], m: Marks, seen: usize, half: Half, size: usize) -> Unfinished
     requires { layout_at ≤ length state.now }
     ensures { result ≡ line_in state.now m seen half size }
 {
     if seen < HEAD_SIZE {
         return Unfinished {
-            seen: seen,
+            seen,
             base: FID_AT,
             most: 0,
-            half: half,
-            size: size,
+            half,
+            size,
         };
     }
     let k = intake_bytes::kind_of(&state[HEAD_AT..HEAD_END]);
     Unfinished {
-        seen: seen,
+        seen,
         base: intake_bytes::base_of(k),
         most: intake_bytes::most_of(k, m, state.len()),
-        half: half,
-        size: size,
+        half,
+        size,
     }
 }
 
@@ -80,14 +103,14 @@ fn reader_in(state: &[u8]) -> Reader
 {
     let m = marks_in(state);
     let seen = number_at(state, SEEN_AT);
-    let half = number_at(state, HALF_AT);
+    let half = half_of(number_at(state, HALF_AT));
     let size = number_at(state, SIZE_AT);
     let line = line_in(state, m, seen, half, size);
     Reader {
         from: number_at(state, FROM_AT),
         marks: m,
         count: number_at(state, COUNT_AT),
-        line: line,
+        line,
     }
 }
 
@@ -101,7 +124,7 @@ pub fn load(state: &[u8]) -> Kept
         answer: number_at(state, ANSWER_AT),
         named: number_at(state, NAMED_AT),
         taken: number_at(state, TAKEN_AT),
-        reader: reader,
+        reader,
     }
 }
 
@@ -110,9 +133,9 @@ fn put_three(state: &mut [u8], at: usize, a: usize, b: usize, c: usize)
     requires { at + 24 ≤ length state.old }
     ensures { state.new ≡ sets state.old at (eights (a ∷ b ∷ c ∷ [])) }
 {
-    wire::put::<u64, Little>(state, at, a as u64);
-    wire::put::<u64, Little>(state, at + 8, b as u64);
-    wire::put::<u64, Little>(state, at + 16, c as u64);
+    wire::put_le64(state, at, a as u64);
+    wire::put_le64(state, at + 8, b as u64);
+    wire::put_le64(state, at + 16, c as u64);
 }
 
 // Stores the numbers; the last place is spare.
@@ -126,5 +149,5 @@ pub fn store(state: &mut [u8], k: Kept)
     put_three(state, ANSWER_AT, k.answer, k.named, k.taken);
     put_three(state, FROM_AT, x.from, x.count, m.lov);
     put_three(state, FID_MARK_AT, m.fid, m.lma, line.seen);
-    put_three(state, HALF_AT, line.half, line.size, 0);
+    put_three(state, HALF_AT, half_number(line.half), line.size, 0);
 }

@@ -1,11 +1,12 @@
 // The state's own test.
 ghost use Rattle.std.specs.Prelude.{◌≡◌};
 ghost use Rattle.intake_line.specs.Entry.{good_mark};
-ghost use Rattle.intake_state.specs.State.{good_stop, bare_marks, good_open, good_line, good_kept, good_state};
+ghost use Rattle.intake_state.specs.State.{good_stop, bare_marks, good_open, good_half, is_even, good_line, good_kept, good_state};
 
 use super::{Kept, state};
-use intake::{BAD_DUMP, Kind, NO_FIT};
-use intake_bytes::{BROKEN, HEAD_SIZE, LAYOUT_AT, Marks, Unfinished};
+use intake::Kind;
+use intake_bytes::{HEAD_SIZE, Half, LAYOUT_AT, Marks, Unfinished};
+use refusals::Refusal;
 use tables::rows::LAYOUT_ROOM;
 
 // The bytes of a state.
@@ -18,13 +19,9 @@ const MAX_READ: usize = 0x8000_0000_0000_0000;
 fn good_stop(answer: usize) -> bool
     ensures { result ≡ good_stop answer }
 {
-    if answer == 0 {
-        return true;
-    }
-    if answer < BAD_DUMP {
-        return false;
-    }
-    answer <= NO_FIT
+    let least = Refusal::BadDump.number() as usize;
+    let most = Refusal::NoFit.number() as usize;
+    answer == 0 || (least <= answer && answer <= most)
 }
 
 // A mark is 0, or that of a good length.
@@ -65,6 +62,22 @@ fn good_open(from: usize, m: Marks) -> bool
     bare(m)
 }
 
+// A first digit is one.
+fn good_half(half: Half) -> bool
+    ensures { result ≡ good_half half }
+{
+    match half {
+        Half::Odd(h) => h < 16,
+        _ => true,
+    }
+}
+
+fn is_even(half: Half) -> bool
+    ensures { result ≡ is_even half }
+{
+    matches!(half, Half::Even)
+}
+
 // A line has digits only after its head.
 fn good_line(x: Unfinished) -> bool
     ensures { result ≡ good_line x }
@@ -72,19 +85,13 @@ fn good_line(x: Unfinished) -> bool
     if HEAD_SIZE < x.seen {
         return false;
     }
-    if BROKEN < x.half {
+    if !good_half(x.half) {
         return false;
     }
     if MAX_READ < x.size {
         return false;
     }
-    if HEAD_SIZE == x.seen {
-        return true;
-    }
-    if x.half != 0 {
-        return false;
-    }
-    x.size == 0
+    HEAD_SIZE == x.seen || (is_even(x.half) && x.size == 0)
 }
 
 fn good_kept(k: Kept) -> bool

@@ -1,20 +1,25 @@
 use native.Mathlib.Omega.{arith}
-use mathlib.Core.Path.{◌∙◌, ap}
-use Rattle.intake_bytes.specs.Lent.{folded}
-use Rattle.intake_bytes.proofs.StartsLaws.{digit_low, digit_number, fold_before, fold_digit, fold_after}
+use mathlib.Core.Path.{refl, ◌∙◌}
+use Rattle.intake_bytes.proofs.StartsLaws.{digit_low, digit_number, digit_gap, digit_upper, digit_gap_2, digit_lower, digit_high, digit_some, digit_none, from_55, from_87}
 use Rattle.intake_bytes.proofs.digit.Goals as goal
 
-pub returns-then-v-lt48 : goal.returns-then-v-lt48
-returns-then-v-lt48 c = (digit_low _ (omega arith), omega arith)
+pub returns-in-48-to-57 : goal.returns-in-48-to-57
+returns-in-48-to-57 c = digit_some _ _ (digit_number _ _ refl (omega arith) (omega arith)) (omega arith)
 
-pub returns-then-v-le57 : goal.returns-then-v-le57
-returns-then-v-le57 c = (digit_number _ _ (omega arith) (omega arith) (omega arith), omega arith)
+pub returns-in-65-to-70 : goal.returns-in-65-to-70
+returns-in-65-to-70 c = digit_some _ _ (from_55 _ (omega arith) ∙ digit_upper _ _ refl (omega arith) (omega arith)) (omega arith)
 
-pub returns-then-u-lt97 : goal.returns-then-u-lt97
-returns-then-u-lt97 c = (fold_before _ _ (c.folded-u.ensures ∙ ap folded c.wide-v.ensures) (omega arith) (omega arith), omega arith)
+pub returns-in-97-to-102 : goal.returns-in-97-to-102
+returns-in-97-to-102 c = digit_some _ _ (from_87 _ (omega arith) ∙ digit_lower _ _ refl (omega arith) (omega arith)) (omega arith)
 
-pub returns-then-u-le102 : goal.returns-then-u-le102
-returns-then-u-le102 c = (fold_digit _ _ (c.folded-u.ensures ∙ ap folded c.wide-v.ensures) (omega arith) (omega arith) (omega arith), omega arith)
+pub returns-in_default : goal.returns-in_default
+returns-in_default c = digit_none _ (digit_low _ (omega arith))
 
-pub returns : goal.returns
-returns c = (fold_after _ _ (c.folded-u.ensures ∙ ap folded c.wide-v.ensures) (omega arith) (omega arith), omega arith)
+pub returns-in_default-2 : goal.returns-in_default-2
+returns-in_default-2 c = digit_none _ (digit_gap _ (omega arith) (omega arith))
+
+pub returns-in_default-3 : goal.returns-in_default-3
+returns-in_default-3 c = digit_none _ (digit_gap_2 _ (omega arith) (omega arith))
+
+pub returns-in_default-4 : goal.returns-in_default-4
+returns-in_default-4 c = digit_none _ (digit_high _ (omega arith))

@@ -1,24 +1,34 @@
 use native.Mathlib.Omega.{arith}
-use Rattle.intake_bytes.proofs.StoreLaws.{stays_broken, no_digit, first_half_lem, stores, counts_on}
+use Rattle.intake_bytes.proofs.StartsLaws.{digit_at, digit_not}
+use Rattle.intake_bytes.proofs.StoreLaws.{stays_broken, no_digit, first_half_lem, byte_second, half_below}
 use Rattle.intake_bytes.proofs.digit_byte.Goals as goal
 
-pub returns-then-half-eq-BROKEN : goal.returns-then-half-eq-BROKEN
-returns-then-half-eq-BROKEN c = let a = c.args in stays_broken a.buf.now a.x a.b c.requires c.if-half-eq-BROKEN.true
+pub returns-in_default : goal.returns-in_default
+returns-in_default c = let a = c.args in no_digit a.buf.now a.x a.b (digit_not a.b c.in_default.ensures)
 
-pub returns-then-d-eq16 : goal.returns-then-d-eq16
-returns-then-d-eq16 c = let p = c in let a = p.args in rw c.valued.ensures (no_digit a.buf.now a.x a.b p.requires (omega arith))
+pub overflow_mul-h : goal.overflow_mul-h
+overflow_mul-h c = omega (arith, half_below c.args.x c.in-Odd.h c.requires.halves c.in-Odd.is)
 
-pub returns-then-half-eq0 : goal.returns-then-half-eq0
-returns-then-half-eq0 c =
-    let p = c in let a = p.args in
-    rw c.valued-then-half-eq0.ensures (first_half_lem a.buf.now a.x a.b p.requires (omega arith) _ c.digit-d.ensures.0 (omega arith))
+pub overflow_cast-h : goal.overflow_cast-h
+overflow_cast-h c = omega (arith, half_below c.args.x c.in-Odd.h c.requires.halves c.in-Odd.is)
 
-pub returns-then-size-x : goal.returns-then-size-x
-returns-then-size-x c =
-    let p = c in let a = p.args in
-    rw c.valued-then-size-x.ensures (stores a.buf.now a.x a.b p.requires _ c.digit-d.ensures.0 (omega arith) c.if-half-eq0.false c.if-half-eq-BROKEN.false (omega arith))
+pub overflow_add-h : goal.overflow_add-h
+overflow_add-h c =
+    let d = digit_at c.args.b c.in-Some.d c.in-Some.ensures in
+    omega (arith, half_below c.args.x c.in-Odd.h c.requires.halves c.in-Odd.is, d.1)
 
-pub returns : goal.returns
-returns c =
-    let p = c in let a = p.args in
-    rw c.valued-2.ensures (counts_on a.buf.now a.x a.b p.requires _ c.digit-d.ensures.0 (omega arith) c.if-half-eq0.false c.if-half-eq-BROKEN.false (omega arith))
+pub returns-in-Broken : goal.returns-in-Broken
+returns-in-Broken c = let a = c.args in stays_broken a.buf.now a.x a.b c.in-Broken.is
+
+pub returns-in-Even : goal.returns-in-Even
+returns-in-Even c =
+    let a = c.args in
+    let d = digit_at a.b c.in-Some.d c.in-Some.ensures in
+    first_half_lem a.buf.now a.x a.b c.in-Even.is c.in-Some.d d.0 d.1
+
+pub returns-in-Odd : goal.returns-in-Odd
+returns-in-Odd c =
+    let a = c.args in
+    let d = digit_at a.b c.in-Some.d c.in-Some.ensures in
+    byte_second a.buf.now a.x _ c.requires _ _ c.in-Odd.h a.b c.put_byte.ensures c.in-Odd.is (half_below a.x c.in-Odd.h c.requires.halves c.in-Odd.is)
+    (omega (arith, d.0, d.1)) (omega (arith, d.0))

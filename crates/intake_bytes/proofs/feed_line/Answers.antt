@@ -1,6 +1,9 @@
+use Prim.Native.Nat.{ℕ}
+use lib.ListN.{length}
 use native.Mathlib.Omega.{arith}
-use mathlib.Core.Path.{refl, sym}
-use Rattle.intake_bytes.proofs.FeedLaws.{feeding_start, feeding_step, held_at, step_at_lem, past_head, value_then}
+use mathlib.Core.Path.{refl, subst, sym}
+use Rattle.intake_bytes.specs.Lent.{want_of, Feeding}
+use Rattle.intake_bytes.proofs.FeedLaws.{reaches, feeding_start, feeding_step, held_at, step_at_lem, past_head, value_then}
 use Rattle.intake_bytes.proofs.feed_line.Goals as goal
 
 pub loop-at-init : goal.loop-at-init
@@ -32,4 +35,4 @@ loop-at-preserved c =
     (step_at_lem a.m _ _ l.buf l.x _ _ _ l.invariant.long c.head_byte-x.ensures)
 
 pub returns : goal.returns
-returns c = record { fed = c.loop-at.invariant; stop = λ h. absurd (omega arith) }
+returns c = record { fed = subst (λ (n : ℕ). Feeding (want_of c.args.m (length c.args.buf.now)) c.args.buf.now c.args.line c.args.piece.now c.args.from c.loop-at.buf c.loop-at.x n) (reaches c.loop-at.at _ (omega arith) c.loop-at.invariant.within) c.loop-at.invariant; stop = λ h. absurd (omega arith) }

@@ -1,38 +1,30 @@
 use native.Mathlib.Omega.{arith}
+use mathlib.Core.Path.{◌≡◌, refl, subst}
+use Rattle.intake_bytes.specs.declared.Half.TheVariants.{Even}
+use Rattle.intake_bytes.specs.declared.Unfinished.{Unfinished}
+use Rattle.intake_bytes.specs.Lent.{valued, DigitsFed}
+use Rattle.intake_bytes.proofs.StartsLaws.{digit_at}
 use Rattle.intake_bytes.proofs.FeedLaws.{digits_start, pair_step}
 use Rattle.intake_bytes.proofs.feed_pairs.Goals as goal
 
 pub loop-at-init : goal.loop-at-init
-loop-at-init c = let p = c in let a = p.args in (digits_start a.buf.now a.line a.piece.now a.from p.requires.0, p.requires.1)
+loop-at-init c =
+    let a = c.args in
+    let z : a.line ≡ valued a.line Even a.line.size = rw (← c.requires.1) refl in
+    (subst (λ (y : Unfinished). DigitsFed a.buf.now a.line a.piece.now a.from a.buf.now y a.from) z (digits_start a.buf.now a.line a.piece.now a.from c.requires.0), refl)
 
-pub overflow_sub-piece : goal.overflow_sub-piece
-overflow_sub-piece c = c.loop-at.invariant.0.within
+pub overflow_mul-high : goal.overflow_mul-high
+overflow_mul-high c = omega (arith, (digit_at _ c.in-Some.high c.in-Some.ensures).1)
 
-pub shape_of-buf-then-high-eq16 : goal.shape_of-buf-then-high-eq16
-shape_of-buf-then-high-eq16 c = c.loop-at.invariant.0.long
-
-pub returns-then-high-eq16 : goal.returns-then-high-eq16
-returns-then-high-eq16 c = c.loop-at.invariant.0
-
-pub shape_of-buf-then-low-eq16 : goal.shape_of-buf-then-low-eq16
-shape_of-buf-then-low-eq16 c = c.loop-at.invariant.0.long
-
-pub returns-then-low-eq16 : goal.returns-then-low-eq16
-returns-then-low-eq16 c = c.loop-at.invariant.0
-
-pub put_pair-x-requires : goal.put_pair-x-requires
-put_pair-x-requires c = let l = c.loop-at in (l.invariant.0.room, l.invariant.1, omega arith, omega arith)
+pub overflow_add-high : goal.overflow_add-high
+overflow_add-high c = omega (arith, (digit_at _ c.in-Some.high c.in-Some.ensures).1, (digit_at _ c.in-Some-digit.low c.in-Some-digit.ensures).1)
 
 pub loop-at-preserved : goal.loop-at-preserved
 loop-at-preserved c =
-    let l = c.loop-at in let p = c in let a = p.args in let s = c.put_pair-x.ensures in (
-      pair_step a.buf.now a.line a.piece.now a.from l.buf l.x l.at _ _ _ _ l.invariant.0 p.requires.0 (omega arith) l.invariant.1
-          c.digit-high.ensures.0 (omega arith) c.digit-low.ensures.0 (omega arith) s,
+    let l = c.loop-at in
+    let a = c.args in
+    let s = c.put_byte-x.ensures in (
+      pair_step a.buf.now a.line a.piece.now a.from l.buf l.x l.at c.in-Some.high c.in-Some-digit.low _ _ _ l.invariant.0 c.requires.0 (omega arith) l.invariant.1
+          (digit_at _ c.in-Some.high c.in-Some.ensures) (digit_at _ c.in-Some-digit.low c.in-Some-digit.ensures) refl s,
       s.half,
     )
-
-pub shape_of-buf : goal.shape_of-buf
-shape_of-buf c = c.loop-at.invariant.0.long
-
-pub returns : goal.returns
-returns c = c.loop-at.invariant.0

@@ -6,8 +6,8 @@ use Rattle.intake_bytes.specs.Lent.{want_of, base_of}
 use Rattle.intake_bytes.proofs.HoldLaws.{head_step, full_step, want_fits}
 use Rattle.intake_bytes.proofs.head_byte.Goals as goal
 
-pub returns-then-seen-lt-HEAD_LAST : goal.returns-then-seen-lt-HEAD_LAST
-returns-then-seen-lt-HEAD_LAST c =
+pub returns-then-x-lt-HEAD_LAST : goal.returns-then-x-lt-HEAD_LAST
+returns-then-x-lt-HEAD_LAST c =
     let p = c in let a = p.args in
     head_step (want_of a.m _) a.buf.now a.x a.b p.requires.0 p.requires.1 (omega arith) (omega arith)
 

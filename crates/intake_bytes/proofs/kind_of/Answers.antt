@@ -7,8 +7,23 @@ use Rattle.intake_bytes.proofs.kind_of.Goals as goal
 pub returns-then-not-starts : goal.returns-then-not-starts
 returns-then-not-starts c = let a = c.args in kind_not a.s.now (sym c.starts.ensures ∙ c.if-not-starts.true)
 
-pub returns-then-s-lt-NAME_AT : goal.returns-then-s-lt-NAME_AT
-returns-then-s-lt-NAME_AT c = let a = c.args in absurd (omega (arith, starts_long trusted_word a.s.now (sym c.starts.ensures ∙ c.if-not-starts.false)))
+pub slice_bounds-named-count : goal.slice_bounds-named-count
+slice_bounds-named-count c = omega (arith, starts_long trusted_word c.args.s.now (sym c.starts.ensures ∙ c.if-not-starts.false))
+
+pub slice_bounds-named-start : goal.slice_bounds-named-start
+slice_bounds-named-start c = omega (arith, starts_long trusted_word c.args.s.now (sym c.starts.ensures ∙ c.if-not-starts.false))
+
+pub slice_bounds-named-count-2 : goal.slice_bounds-named-count-2
+slice_bounds-named-count-2 c = omega (arith, starts_long trusted_word c.args.s.now (sym c.starts.ensures ∙ c.if-not-starts.false))
+
+pub slice_bounds-named-start-2 : goal.slice_bounds-named-start-2
+slice_bounds-named-start-2 c = omega (arith, starts_long trusted_word c.args.s.now (sym c.starts.ensures ∙ c.if-not-starts.false))
+
+pub slice_bounds-named-count-3 : goal.slice_bounds-named-count-3
+slice_bounds-named-count-3 c = omega (arith, starts_long trusted_word c.args.s.now (sym c.starts.ensures ∙ c.if-not-starts.false))
+
+pub slice_bounds-named-start-3 : goal.slice_bounds-named-start-3
+slice_bounds-named-start-3 c = omega (arith, starts_long trusted_word c.args.s.now (sym c.starts.ensures ∙ c.if-not-starts.false))
 
 pub returns-then-named : goal.returns-then-named
 returns-then-named c =

@@ -1,8 +1,10 @@
+use mathlib.Core.Path.{◌∙◌}
+use borrow.Author.Tests.{eq-eqb}
 use Rattle.intake_line.proofs.EndLaws.{size_lov, size_fid, size_old, size_lma, size_other}
 use Rattle.intake_line.proofs.good_size.Goals as goal
 
 pub returns-then-n-eq-FID_SIZE : goal.returns-then-n-eq-FID_SIZE
-returns-then-n-eq-FID_SIZE c = let a = c.args in size_fid a.k a.n c.in-Fid.is c.if-n-eq-FID_SIZE.true
+returns-then-n-eq-FID_SIZE c = let a = c.args in eq-eqb a.n 16 c.if-n-eq-FID_SIZE.true ∙ size_fid a.k a.n c.in-Fid.is c.if-n-eq-FID_SIZE.true
 
 pub returns-in-Lov : goal.returns-in-Lov
 returns-in-Lov c = let a = c.args in size_lov a.k a.n c.in-Lov.is

@@ -12,12 +12,12 @@ fill_object-requires c =
     let a = c.args in
     (row_fits object_size _ (length a.objects.now) (omega arith) (free_is object_size a.objects.now _ (sym c.free_row.ensures ∙ c.in-Some.is)).1, omega arith)
 
-pub returns-in-None : goal.returns-in-None
-returns-in-None c =
+pub returns-in_default : goal.returns-in_default
+returns-in_default c =
     let p = c in let a = p.args in
-    object_none a.buf.now a.w a.index a.objects.now (sym c.free_row.ensures ∙ c.in-None.is)
+    object_none a.buf.now a.w a.index a.objects.now (sym c.free_row.ensures ∙ c.in_default.is)
 
-pub returns-in-Some : goal.returns-in-Some
-returns-in-Some c =
+pub returns : goal.returns
+returns c =
     let p = c in let a = p.args in
     object_filled a.buf.now a.w a.index a.objects.now _ _ (omega arith) (sym c.free_row.ensures ∙ c.in-Some.is) c.fill_object.ensures

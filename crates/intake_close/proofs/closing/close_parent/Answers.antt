@@ -17,12 +17,12 @@ fill_parent-requires c =
     let a = c.args in
     (row_fits parent_size _ (length a.parents.now) (omega arith) (free_is parent_size a.parents.now _ (sym c.free_row.ensures ∙ c.in-Some.is)).1, omega arith, omega arith)
 
-pub returns-in-None : goal.returns-in-None
-returns-in-None c =
+pub returns-in_default : goal.returns-in_default
+returns-in_default c =
     let p = c in let a = p.args in
-    parent_none a.buf.now a.size a.w a.parents.now (omega arith) (sym c.free_row.ensures ∙ c.in-None.is)
+    parent_none a.buf.now a.size a.w a.parents.now (omega arith) (sym c.free_row.ensures ∙ c.in_default.is)
 
-pub returns-in-Some : goal.returns-in-Some
-returns-in-Some c =
+pub returns : goal.returns
+returns c =
     let p = c in let a = p.args in
     parent_filled a.buf.now a.size a.w a.parents.now (omega arith) _ _ p.requires (sym c.free_row.ensures ∙ c.in-Some.is) c.fill_parent.ensures

@@ -1,7 +1,6 @@
-use mathlib.Core.Path.{refl}
 use Rattle.intake_feed.specs.End.{unclosed_at}
 use Rattle.intake_feed.proofs.feeding.unclosed.Goals as goal
 
 pub returns : goal.returns
 unfolding unclosed_at
-returns c = refl
+returns c = rw c.number.ensures
