@@ -13,6 +13,7 @@ use tables::rows::{
     CLAIM_AT, FRESH_AT, LENGTH_AT, OBJECT_OWNER_AT, OBJECT_SIZE, OST_AT, OWNER_AT, PARENT_SIZE,
     ROOM_AT, SELF_AT,
 };
+use wire::Little;
 
 // Where the self FID stands in the lent bytes, and where it ends.
 const SELF_FROM: usize = LMA_AT + LMA_SELF_AT;
@@ -28,7 +29,7 @@ pub fn put_parent(row: &mut [u8], buf: &[u8], size: usize, w: Owner)
     pieces::put_byte(row, 0, 1);
     wire::put_bytes(row, SELF_AT, &buf[SELF_FROM..SELF_END]);
     pieces::put_owner(row, OWNER_AT, w);
-    wire::put_le16(row, LENGTH_AT, size as u16);
+    wire::put::<u16, Little>(row, LENGTH_AT, size as u16);
     wire::put_bytes(row, ROOM_AT, &buf[LAYOUT_AT..end]);
 }
 
@@ -39,7 +40,7 @@ pub fn put_object(row: &mut [u8], buf: &[u8], index: u32, w: Owner)
 {
     pieces::put_byte(row, 0, 1);
     wire::put_bytes(row, SELF_AT, &buf[SELF_FROM..SELF_END]);
-    wire::put_le32(row, OST_AT, index);
+    wire::put::<u32, Little>(row, OST_AT, index);
     pieces::put_owner(row, OBJECT_OWNER_AT, w);
     wire::put_bytes(row, CLAIM_AT, &buf[FID_AT..LMA_AT]);
     pieces::put_byte(row, FRESH_AT, 0);

@@ -7,6 +7,7 @@ ghost use Rattle.intake_state.specs.State.{number_at, eights, half_of, half_numb
 use super::Kept;
 use intake_bytes::{FID_AT, HEAD_AT, HEAD_END, HEAD_SIZE, Half, Marks, Unfinished};
 use intake_line::Reader;
+use wire::Little;
 
 // Where the numbers stand, 8 bytes each: the stop, the entry and its marks, the unfinished line.
 const ANSWER_AT: usize = 0;
@@ -38,7 +39,7 @@ fn number_at(state: &[u8], at: usize) -> usize
     requires { at + 8 ≤ length state.now }
     ensures { result ≡ number_at state.now at }
 {
-    wire::le64(state, at) as usize
+    wire::get::<u64, Little>(state, at) as usize
 }
 
 // Half a byte from its number: 0 where there is none, a digit and 1, or 17.
@@ -133,9 +134,9 @@ fn put_three(state: &mut [u8], at: usize, a: usize, b: usize, c: usize)
     requires { at + 24 ≤ length state.old }
     ensures { state.new ≡ sets state.old at (eights (a ∷ b ∷ c ∷ [])) }
 {
-    wire::put_le64(state, at, a as u64);
-    wire::put_le64(state, at + 8, b as u64);
-    wire::put_le64(state, at + 16, c as u64);
+    wire::put::<u64, Little>(state, at, a as u64);
+    wire::put::<u64, Little>(state, at + 8, b as u64);
+    wire::put::<u64, Little>(state, at + 16, c as u64);
 }
 
 // Stores the numbers; the last place is spare.

@@ -3,4 +3,4 @@ use Rattle.intake_state.proofs.state.number_at.Goals as goal
 
 pub returns : goal.returns
 unfolding number_at
-returns c = c.le64.ensures
+returns c = c.get.ensures
