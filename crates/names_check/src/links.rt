@@ -12,15 +12,7 @@ use linkea::{LINK_HEADER, NAME_AT, PARENT_AT};
 pub fn same_name(a: &[u8], b: &[u8]) -> bool
     ensures { result ≡ same_name a.now b.now }
 {
-    if a.len() != b.len() {
-        return false;
-    }
-    for i in 0..a.len() {
-        if a[i] != b[i] {
-            return false;
-        }
-    }
-    true
+    a == b
 }
 
 // Whether the good record at a place has a directory and a name.
@@ -30,15 +22,11 @@ pub fn is_link(l: &[u8], p: usize, parent: MdtFid, name: &[u8]) -> bool
 {
     let n = wire::be16(l, p) as usize;
     let there = MdtFid(fid::read_big(l, p + PARENT_AT));
-    if !fid::same_mdt(parent, there) {
-        return false;
-    }
-    let a = p + NAME_AT;
-    let e = p + n;
-    same_name(name, &l[a..e])
+    fid::same_mdt(parent, there) && same_name(name, &l[p + NAME_AT..p + n])
 }
 
 // Whether a linkEA that is not refused has a record with a directory and a name.
+// A loop: the place of the next record comes from the one read, so no iterator gives it.
 pub fn has_link(l: &[u8], parent: MdtFid, name: &[u8]) -> bool
     requires { refused_link l.now ≡ false }
     ensures { result ≡ any (same_link (asked parent name.now)) (decode_link_ea l.now).links }
@@ -48,7 +36,7 @@ pub fn has_link(l: &[u8], parent: MdtFid, name: &[u8]) -> bool
         if is_link(l, at, parent, name) {
             return true;
         }
-        at = at + wire::be16(l, at) as usize;
+        at += wire::be16(l, at) as usize;
     }
     false
 }

@@ -1,4 +1,5 @@
 -- The directory of a FID is what the index of the child rows finds. Assumes nothing.
+use Rattle.std.specs.Prelude.{None}
 use mathlib.Core.Path.{◌≡◌, refl, sym, ap, ◌∙◌}
 use mathlib.Core.Bool.{Bool, true, false, cond, ◌&&◌, and-false}
 use mathlib.Core.List.{List, [], ◌∷◌, ◌++◌, map, append-nil}
@@ -16,7 +17,6 @@ use Rattle.fid.specs.declared.MdtFid.{MdtFid}
 use Rattle.fid.proofs.SameLaws.{same_is}
 use Rattle.index.specs.Entries.{place_size, value_range, entries, number, sorted}
 use Rattle.index.specs.Search.{Ordered, lowest_of, key_of, numbers_of, listed, is_key, first_with}
-use Rattle.index.specs.declared.Found.TheVariants.{Nothing}
 use Rattle.index.proofs.EntryLaws.{moved, number_key, number_fits}
 use Rattle.index.proofs.OrderLaws.{sorted_ordered}
 use Rattle.index.proofs.RowLaws.{sorted_first}
@@ -59,7 +59,7 @@ row_test : (cs : List Child) (f : MdtFid) (j : ℕ) → j < length cs → is_row
 unfolding is_row child_at
 row_test cs f j h = let z : 0 + j ≡ j = omega arith in rw (z, lt-ltb j (length cs) h)
 
-pub directory_none : (cs : List Child) (f : MdtFid) → is_none f ≡ true → Nothing ≡ directory cs f
+pub directory_none : (cs : List Child) (f : MdtFid) → is_none f ≡ true → None ≡ directory cs f
 unfolding directory
 directory_none cs f h = rw h
 

@@ -1,4 +1,5 @@
 -- How climbs end, by the ways on from a directory. Assumes nothing.
+use Rattle.std.specs.Prelude.{Option, None, Some}
 use mathlib.Core.Path.{◌≡◌, refl, sym, ap, subst, ◌∙◌}
 use mathlib.Core.Bool.{Bool, true, false, cond, true≢false}
 use mathlib.Core.List.{List}
@@ -7,8 +8,6 @@ use native.Mathlib.Omega.{arith}
 use borrow.Author.Tests.{ltb-true, ltb-false, lt-ltb, le-ltb}
 use lib.Dec.{ltb}
 use Rattle.fid.specs.declared.MdtFid.{MdtFid}
-use Rattle.index.specs.declared.Found.{Found}
-use Rattle.index.specs.declared.Found.TheVariants.{Nothing, Value}
 use Rattle.names.specs.Rows.{Child, is_none, is_linked, child_at}
 use Rattle.names.specs.Visible.{is_root, directory, at_row, at_directory, arrive, none_left, climb}
 use Rattle.names.specs.declared.Climbed.{Climbed}
@@ -34,10 +33,10 @@ module _ (one : MdtFid → Ended) (two : MdtFid → Climbed) (same : (g : MdtFid
       go false true = refl
       go false false = more_climbed (one c.up) ∙ same c.up
 
-  directory_climbed : (cs : List Child) (r : Found) → climbed_of (end_directory one cs r) ≡ at_directory two cs r
+  directory_climbed : (cs : List Child) (r : Option ℕ) → climbed_of (end_directory one cs r) ≡ at_directory two cs r
   unfolding end_directory at_directory climbed_of
-  directory_climbed cs Nothing = refl
-  directory_climbed cs (Value r) = row_climbed (child_at cs r)
+  directory_climbed cs None = refl
+  directory_climbed cs (Some r) = row_climbed (child_at cs r)
 
   at_climbed : (cs : List Child) (f : MdtFid) → climbed_of (end_at one cs f) ≡ arrive two cs f
   unfolding end_at arrive climbed_of
@@ -64,11 +63,11 @@ module _ (cs : List Child) (f : MdtFid) where
   unfolding end_at
   way_root e above = rw e
 
-  pub way_out : is_root f ≡ false → directory cs f ≡ Nothing → (above : MdtFid → Ended) → end_at above cs f ≡ Ends 0 false
+  pub way_out : is_root f ≡ false → directory cs f ≡ None → (above : MdtFid → Ended) → end_at above cs f ≡ Ends 0 false
   unfolding end_at end_directory
   way_out e d above = rw (e, d)
 
-  module _ (r : ℕ) (e : is_root f ≡ false) (d : directory cs f ≡ Value r) where
+  module _ (r : ℕ) (e : is_root f ≡ false) (d : directory cs f ≡ Some r) where
     pub way_linked : is_linked (child_at cs r).link ≡ true → (above : MdtFid → Ended) → end_at above cs f ≡ Ends 0 true
     unfolding end_at end_directory end_row
     way_linked l above = rw (e, d, l)
@@ -90,10 +89,10 @@ module _ (cs : List Child) (f : MdtFid) where
   pub way : Way cs f
   way = go (is_root f) (directory cs f) refl refl
     where
-      go : (b : Bool) (r : Found) → is_root f ≡ b → directory cs f ≡ r → Way cs f
+      go : (b : Bool) (r : Option ℕ) → is_root f ≡ b → directory cs f ≡ r → Way cs f
       go true r e d = stops true (way_root e)
-      go false Nothing e d = stops false (way_out e d)
-      go false (Value r) e d = row_way_lem r e d (is_linked (child_at cs r).link) (is_none (child_at cs r).up) refl refl
+      go false None e d = stops false (way_out e d)
+      go false (Some r) e d = row_way_lem r e d (is_linked (child_at cs r).link) (is_none (child_at cs r).up) refl refl
 
 -- ## What is known of every climb
 

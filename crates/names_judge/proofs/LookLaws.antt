@@ -1,4 +1,5 @@
 -- What a look at a directory says, case by case, and what it means for every climb. Assumes nothing.
+use Rattle.std.specs.Prelude.{None, Some}
 use mathlib.Core.Path.{◌≡◌, refl, sym, ap, subst, ◌∙◌}
 use mathlib.Core.Bool.{Bool, true, false, cond}
 use mathlib.Core.List.{List, [], ◌∷◌}
@@ -9,7 +10,6 @@ use lib.ListN.{length, take, drop, get_or}
 use Rattle.fid.specs.declared.Fid.{Fid}
 use Rattle.fid.specs.declared.MdtFid.{MdtFid}
 use Rattle.fid.proofs.SameLaws.{same_is}
-use Rattle.index.specs.declared.Found.TheVariants.{Nothing, Value}
 use Rattle.index.proofs.FindLaws.{value_nothing, value_injective}
 use Rattle.names.specs.Rows.{Child, child_size, is_none, is_linked, link_length, decode_linked, decode_child, no_child, child_at, parse_children}
 use Rattle.names.specs.Findings.{same}
@@ -80,23 +80,23 @@ module _ (cs : List Child) (room : List ℕ) (f : MdtFid) where
   look_root h = rw h
 
   module _ (n : is_root f ≡ false) where
-    pub look_out : directory cs f ≡ Nothing → Told (Ends 0 false) ≡ look cs room f
+    pub look_out : directory cs f ≡ None → Told (Ends 0 false) ≡ look cs room f
     unfolding look look_directory
     look_out d = rw (n, d)
 
-    pub look_in_lem : (r : ℕ) → directory cs f ≡ Value r → look_row cs room r ≡ look cs room f
+    pub look_in_lem : (r : ℕ) → directory cs f ≡ Some r → look_row cs room r ≡ look cs room f
     unfolding look look_directory
     look_in_lem r d = rw (n, d)
 
 -- the row of a FID is in the table and has it
-pub first_is : (f : MdtFid) (cs : List Child) (s r : ℕ) → first_row f cs s ≡ Value r →
+pub first_is : (f : MdtFid) (cs : List Child) (s r : ℕ) → first_row f cs s ≡ Some r →
     (s ≤ r) × (r - s < length cs) × (same (get_or cs (r - s) no_child).self f ≡ true)
 unfolding first_row
 first_is f [] s r e = absurd (value_nothing r (sym e))
 first_is f (c ∷ cs) s r e = go (same c.self f) refl e (first_is f cs (suc s) r)
   where
-    go : (b : Bool) → same c.self f ≡ b → cond b (Value s) (first_row f cs (suc s)) ≡ Value r →
-        (first_row f cs (suc s) ≡ Value r → (suc s ≤ r) × (r - suc s < length cs) × (same (get_or cs (r - suc s) no_child).self f ≡ true)) →
+    go : (b : Bool) → same c.self f ≡ b → cond b (Some s) (first_row f cs (suc s)) ≡ Some r →
+        (first_row f cs (suc s) ≡ Some r → (suc s ≤ r) × (r - suc s < length cs) × (same (get_or cs (r - suc s) no_child).self f ≡ true)) →
         (s ≤ r) × (r - s < length (c ∷ cs)) × (same (get_or (c ∷ cs) (r - s) no_child).self f ≡ true)
     go true t x i =
         let p : s ≡ r = value_injective s r x in
@@ -107,12 +107,12 @@ first_is f (c ∷ cs) s r e = go (same c.self f) refl e (first_is f cs (suc s) r
         let z : r - s ≡ suc (r - suc s) = omega (arith, y.0) in
         (omega (arith, y.0), omega (arith, y.0, y.1), rw z y.2)
 
-module _ (cs : List Child) (f : MdtFid) (r : ℕ) (d : directory cs f ≡ Value r) where
+module _ (cs : List Child) (f : MdtFid) (r : ℕ) (d : directory cs f ≡ Some r) where
   found_row : (r < length cs) × (same (child_at cs r).self f ≡ true)
   unfolding directory child_at
   found_row = go (is_none f) d
     where
-      go : (b : Bool) → cond b Nothing (first_row f cs 0) ≡ Value r → (r < length cs) × (same (get_or cs r no_child).self f ≡ true)
+      go : (b : Bool) → cond b None (first_row f cs 0) ≡ Some r → (r < length cs) × (same (get_or cs r no_child).self f ≡ true)
       go true e = absurd (value_nothing r (sym e))
       go false e =
           let y = first_is f cs 0 r e in
@@ -126,5 +126,5 @@ module _ (cs : List Child) (f : MdtFid) (r : ℕ) (d : directory cs f ≡ Value 
   unfolding same
   row_self = ap {B = MdtFid} (λ (x : Fid). record { 0 = x }) (same_is (child_at cs r).self.0 f.0 found_row.1)
 
-pub row_in_table : (c : List ℕ) (f : MdtFid) (r : ℕ) → directory (parse_children c) f ≡ Value r → r < length c / child_size
+pub row_in_table : (c : List ℕ) (f : MdtFid) (r : ℕ) → directory (parse_children c) f ≡ Some r → r < length c / child_size
 row_in_table c f r d = omega (arith, row_inside (parse_children c) f r d, parsed_children c)

@@ -1,4 +1,5 @@
 -- Notes of the lent room: one is made, the others stand, and a look by right notes is right. Assumes nothing.
+use Rattle.std.specs.Prelude.{Option, None, Some}
 use mathlib.Core.Path.{◌≡◌, refl, sym, ap, subst, ◌∙◌}
 use mathlib.Core.Bool.{Bool, true, false, cond}
 use mathlib.Core.List.{List, [], ◌∷◌}
@@ -16,8 +17,6 @@ use Rattle.wire.proofs.RowLaws.{drop_sets_le}
 use Rattle.wire.proofs.Splice.{drop_sets_add, take_sets_le}
 use Rattle.fid.specs.declared.MdtFid.{MdtFid}
 use Rattle.index.specs.Entries.{place_size}
-use Rattle.index.specs.declared.Found.{Found}
-use Rattle.index.specs.declared.Found.TheVariants.{Nothing, Value}
 use Rattle.index.proofs.EntryLaws.{drop_sets}
 use Rattle.names.specs.Rows.{Child, is_none, is_linked, child_at}
 use Rattle.names.specs.Visible.{is_root, directory, max_levels}
@@ -111,7 +110,7 @@ right_known cs f note (told Endless p k) h = absurd (h p)
 right_known cs f note (told (Ends d v) p k) h = subst (λ (x : Ended). Known cs f x) (sym (ap ended_of p ∙ ended_of_lem d v)) k
 
 module _ (cs : List Child) (room : List ℕ) (f : MdtFid) (n : Noted cs room) where
-  row_says : (r : ℕ) → is_root f ≡ false → directory cs f ≡ Value r → Says cs f (look_row cs room r)
+  row_says : (r : ℕ) → is_root f ≡ false → directory cs f ≡ Some r → Says cs f (look_row cs room r)
   unfolding Says look_row look_child Noted
   row_says r e d = go (eqb (note_at r room) 0) (is_linked (child_at cs r).link) (is_none (child_at cs r).up) refl refl refl
     where
@@ -128,10 +127,10 @@ module _ (cs : List Child) (room : List ℕ) (f : MdtFid) (n : Noted cs room) wh
   unfolding Says
   look_says = go (is_root f) (directory cs f) refl refl
     where
-      go : (b : Bool) (x : Found) → is_root f ≡ b → directory cs f ≡ x → Says cs f (look cs room f)
+      go : (b : Bool) (x : Option ℕ) → is_root f ≡ b → directory cs f ≡ x → Says cs f (look cs room f)
       go true x p q = subst (λ (y : Looked). Says cs f y) (look_root cs room f p) (stop_known cs f true (way_root cs f p))
-      go false Nothing p q = subst (λ (y : Looked). Says cs f y) (look_out cs room f p q) (stop_known cs f false (way_out cs f p q))
-      go false (Value r) p q = subst (λ (y : Looked). Says cs f y) (look_in_lem cs room f p r q) (row_says r p q)
+      go false None p q = subst (λ (y : Looked). Says cs f y) (look_out cs room f p q) (stop_known cs f false (way_out cs f p q))
+      go false (Some r) p q = subst (λ (y : Looked). Says cs f y) (look_in_lem cs room f p r q) (row_says r p q)
 
 -- as it comes back
 pub look_told : (cs : List Child) (room : List ℕ) (f : MdtFid) (x y : Looked) → Noted cs room → x ≡ look cs room f → x ≡ y → Says cs f y
@@ -152,7 +151,7 @@ module _ (cs : List Child) (f up : MdtFid) (r : ℕ) (s : Says cs f (Above r up)
   unfolding Says ended
   climb_more left k above z e = rw (z, e) (sym (s.1 (ended k cs)))
 
-  pub climb_row : directory cs f ≡ Value r
+  pub climb_row : directory cs f ≡ Some r
   unfolding Says
   climb_row = s.0
 

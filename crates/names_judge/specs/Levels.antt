@@ -1,11 +1,9 @@
 -- A climb with its levels counted, so that what was found of a directory serves every climb through it.
-use Rattle.std.specs.Prelude.{ℕ, zero, suc, ◌+◌, ◌-◌, ◌*◌, ◌/◌, ◌%◌, ◌≤◌, ◌<◌, ◌≡◌, Bool, true, false, cond, List, ltb, eqb, length, drop}
+use Rattle.std.specs.Prelude.{ℕ, zero, suc, ◌+◌, ◌-◌, ◌*◌, ◌/◌, ◌%◌, ◌≤◌, ◌<◌, ◌≡◌, Bool, true, false, cond, List, ltb, eqb, length, drop, Option, None, Some}
 use Rattle.std.proofs.lemmas.List.Edits.{sets}
 use Rattle.wire.specs.Numbers.{le, bytes}
 use Rattle.fid.specs.declared.MdtFid.{MdtFid}
 use Rattle.index.specs.Entries.{place_size}
-use Rattle.index.specs.declared.Found.{Found}
-use Rattle.index.specs.declared.Found.TheVariants.{Nothing, Value}
 use Rattle.names.specs.Rows.{Child, is_none, is_linked, child_at}
 use Rattle.names.specs.Visible.{is_root, directory}
 use Rattle.names.specs.declared.Climbed.{Climbed}
@@ -22,9 +20,9 @@ one_more (Ends d v) = Ends (suc d) v
 unfoldable pub end_row : (MdtFid → Ended) → Child → Ended
 end_row above c = cond (is_linked c.link) (Ends 0 true) (cond (is_none c.up) (Ends 0 false) (one_more (above c.up)))
 
-unfoldable pub end_directory : (MdtFid → Ended) → List Child → Found → Ended
-end_directory above cs Nothing = Ends 0 false
-end_directory above cs (Value r) = end_row above (child_at cs r)
+unfoldable pub end_directory : (MdtFid → Ended) → List Child → Option ℕ → Ended
+end_directory above cs None = Ends 0 false
+end_directory above cs (Some r) = end_row above (child_at cs r)
 
 unfoldable pub end_at : (MdtFid → Ended) → List Child → MdtFid → Ended
 end_at above cs f = cond (is_root f) (Ends 0 true) (end_directory above cs (directory cs f))
@@ -55,7 +53,7 @@ Known cs f e = (left : ℕ) → ended left cs f ≡ within left e
 -- what a look at f says: how every climb ends, or that it goes on from row r by `..`
 unfoldable pub Says : List Child → MdtFid → Looked → Type 0
 Says cs f (Told e) = Known cs f e
-Says cs f (Above r up) = (directory cs f ≡ Value r) × ((above : MdtFid → Ended) → end_at above cs f ≡ one_more (above up))
+Says cs f (Above r up) = (directory cs f ≡ Some r) × ((above : MdtFid → Ended) → end_at above cs f ≡ one_more (above up))
 
 -- ## Notes, one for each child row in the lent room: 0 for nothing, else the levels and whether it is visible
 
@@ -89,9 +87,9 @@ look_child r c = cond (is_linked c.link) (Told (Ends 0 true)) (cond (is_none c.u
 unfoldable pub look_row : List Child → List ℕ → ℕ → Looked
 look_row cs room r = cond (eqb (note_at r room) 0) (look_child r (child_at cs r)) (Told (ended_of (note_at r room)))
 
-unfoldable pub look_directory : List Child → List ℕ → Found → Looked
-look_directory cs room Nothing = Told (Ends 0 false)
-look_directory cs room (Value r) = look_row cs room r
+unfoldable pub look_directory : List Child → List ℕ → Option ℕ → Looked
+look_directory cs room None = Told (Ends 0 false)
+look_directory cs room (Some r) = look_row cs room r
 
 -- ROOT, what leads out of the table, what is noted, and what the row says
 unfoldable pub look : List Child → List ℕ → MdtFid → Looked

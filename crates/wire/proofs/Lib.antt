@@ -3,3 +3,4 @@ pub mod Splice
 pub mod NumberLaws
 pub mod OrderLaws
 pub mod RowLaws
+pub mod ChunkLaws

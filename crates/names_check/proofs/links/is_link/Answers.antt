@@ -11,11 +11,11 @@ be16-n-requires c = let b = c in omega (arith, good_record b.args.l.now b.args.p
 pub read_big-requires : goal.read_big-requires
 read_big-requires c = let b = c in omega (arith, good_record b.args.l.now b.args.p b.requires.1)
 
-pub returns-then-not-same_mdt : goal.returns-then-not-same_mdt
-returns-then-not-same_mdt c =
+pub returns-else-same_mdt : goal.returns-else-same_mdt
+returns-else-same_mdt c =
     let a = c.args in
-    link_differs a.parent a.name.now a.l.now a.p _ c.read_big.ensures
-    (sym c.same_mdt.ensures ∙ c.if-not-same_mdt.true)
+    c.if-same_mdt.false ∙ link_differs a.parent a.name.now a.l.now a.p _ c.read_big.ensures
+    (sym c.same_mdt.ensures ∙ c.if-same_mdt.false)
 
 pub slice_bounds-same_name-count : goal.slice_bounds-same_name-count
 slice_bounds-same_name-count c =
@@ -35,10 +35,10 @@ slice_bounds-same_name-end c =
     let b = d in
     omega (arith, good_record b.args.l.now b.args.p b.requires.1, d.be16-n.ensures, length_read b.args.l.now b.args.p)
 
-pub returns : goal.returns
-returns c =
+pub returns-then-same_mdt : goal.returns-then-same_mdt
+returns-then-same_mdt c =
     let d = c in
     let a = d.args in
     c.same_name.ensures
     ∙ link_named a.parent a.name.now a.l.now a.p _ c.read_big.ensures _ d.be16-n.ensures
-    (sym c.same_mdt.ensures ∙ c.if-not-same_mdt.false)
+    (sym c.same_mdt.ensures ∙ c.if-same_mdt.true)
