@@ -23,7 +23,7 @@ use Rattle.index.specs.Search.{Ordered, lowest_of, key_of, numbers_of, listed, i
 use Rattle.index.proofs.EntryLaws.{moved, number_key, number_fits}
 use Rattle.index.proofs.OrderLaws.{sorted_ordered}
 use Rattle.index.proofs.RowLaws.{sorted_first}
-use Rattle.index.proofs.FindLaws.{value_nothing, value_injective}
+use Rattle.std.proofs.lemmas.Option.{none-some, same_Some}
 use Rattle.names.specs.Rows.{Entry, entry_size, name_room, name_length, decode_entry, entry_rows, parse_entries}
 use Rattle.names.specs.Check.{good_name}
 use Rattle.names.specs.Findings.{any, same, same_name, same_link, link_for}
@@ -143,18 +143,18 @@ found_none (e ∷ es) r x i h = go (eqb e.child r && same_link x (link_for e)) h
   where
     go : (b : Bool) → cond b (Some i) (first_named es r x (suc i)) ≡ None → (first_named es r x (suc i) ≡ None → named es r x ≡ false) →
         (b || named es r x) ≡ false
-    go true k on = absurd (value_nothing i k)
+    go true k on = absurd (none-some i (sym k))
     go false k on = on k
 
 pub found_some : (es : List Entry) (r : ℕ) (x : Link) (i k : ℕ) → first_named es r x i ≡ Some k → Names es r x i k
 unfolding first_named named any
-found_some [] r x i k h = absurd (value_nothing k (sym h))
+found_some [] r x i k h = absurd (none-some k h)
 found_some (e ∷ es) r x i k h = go (eqb e.child r && same_link x (link_for e)) refl h (found_some es r x (suc i) k)
   where
     go : (b : Bool) → (eqb e.child r && same_link x (link_for e)) ≡ b → cond b (Some i) (first_named es r x (suc i)) ≡ Some k →
         (first_named es r x (suc i) ≡ Some k → Names es r x (suc i) k) → Names (e ∷ es) r x i k
     go true t v on =
-        let q : i ≡ k = value_injective i k v in
+        let q : i ≡ k = same_Some i k v in
         let z : k - i ≡ 0 = omega arith in
         record { from = omega arith; inside = omega arith; has = rw t; link = rw z (and_second (eqb e.child r) (same_link x (link_for e)) t) }
     go false t v on =
