@@ -47,8 +47,7 @@ pub fn append_link(row: &mut [u8], parent: MdtFid, name: &[u8])
     let g = LinkHeader {
         count: h.count + 1,
         total: grown as u64,
-        time: h.time,
-        padding: h.padding,
+        ..h
     };
     room::close_link(row, g);
 }

@@ -32,9 +32,7 @@ fn zero_from(row: &mut [u8], at: usize)
     requires { at ≤ length row.old }
     ensures { row.new ≡ sets row.old at (replicate (length row.old - at) 0) }
 {
-    for i in at..row.len() {
-        row[i] = 0;
-    }
+    row[at..].fill(0);
 }
 
 // Writes the length of a linkEA and its header in front of its records, and zeros over the room past it.
