@@ -17,7 +17,6 @@ returns-then-notes-i-eq0 c =
     let a = c.args in
     let cs = parse_children a.children.now in
     let x = entry_at a.entries.now a.i in (
-      omega arith,
       c.requires.0,
       λ seen q.
           let v = not_visible seen cs x (hidden_note seen x _ c.if-notes-i-eq0.true q) in
@@ -40,7 +39,6 @@ returns-then-is_none c =
     let k = child_in a.entries.now a.children.now c.requires.0 a.i c.requires.1 _ w _ o in
     let d = its_child a.entries.now a.children.now a.i _ w _ _ o k c.row_at.ensures.0 in
     let h = ap (λ (y : Child). is_none y.self) (sym d) ∙ ap is_none (sym c.self_of-own.ensures) ∙ sym c.is_none.ensures ∙ c.if-is_none.true in (
-      omega arith,
       c.requires.0,
       λ seen q.
           let v = no_self seen cs x h in
@@ -60,7 +58,6 @@ returns-then-same_mdt c =
     let g = c.self_of-own.ensures ∙ ap (λ (y : Child). y.self) d in
     let f = its_fid a.entries.now a.children.now a.i _ w _ c.fid_of.ensures in
     let h = ap₂ same (sym f) (sym g) ∙ sym c.same_mdt.ensures ∙ c.if-same_mdt.true in (
-      omega arith,
       c.requires.0,
       λ seen q.
           let v = agrees seen cs x h in
@@ -83,7 +80,6 @@ returns c =
     let h = ap₂ same (sym f) (sym g) ∙ sym c.same_mdt.ensures ∙ c.if-same_mdt.false in
     let r = c.self_of-own.type_inv in
     let t = fid_stored a.entries.now a.children.now c.requires.0 a.i c.requires.1 c.self_of-own.result (record { seq = omega (arith, r); oid = omega (arith, r); ver = omega (arith, r) }) _ c.put_fid.ensures in (
-      omega arith,
       t.1,
       λ seen q.
           let v = wins seen cs x (visible_note seen x _ c.if-notes-i-eq0.false q) n h in
