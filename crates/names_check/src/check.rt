@@ -34,7 +34,9 @@ pub fn children_there(entries: &[u8], children: &[u8]) -> bool
     ensures { result ≡ children_there entries.now children.now }
 {
     let n = children.len() / CHILD_SIZE;
-    entries.chunks_exact(ENTRY_SIZE).all(|row| child_there(row, n))
+    entries
+        .chunks_exact(ENTRY_SIZE)
+        .all(|row| child_there(row, n))
 }
 
 // Whether the name of an entry is good.

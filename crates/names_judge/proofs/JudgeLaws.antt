@@ -16,7 +16,6 @@ use Rattle.names.specs.Findings.{any}
 use Rattle.names.specs.Visible.{is_too_long, climbs_too_long, too_long, no_self_mark, visible_mark, hidden_mark, climb_mark, mark_of, judged}
 use Rattle.refusals.specs.declared.Refusal.{Refusal}
 use Rattle.refusals.specs.declared.Refusal.TheVariants.{LongClimb}
-use Rattle.names.specs.declared.Climbed.TheVariants.{Hidden, Visible}
 use Rattle.names_judge.specs.Levels.{Ended, ended, climbed_of}
 use Rattle.names_judge.proofs.LevelLaws.{ended_climbed}
 

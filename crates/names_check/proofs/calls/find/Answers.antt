@@ -1,5 +1,5 @@
 use Rattle.std.proofs.Common.{rules, ◌≡◌, Err, sym, ap, ◌∙◌, arith}
-use Rattle.refusals.specs.Numbers.{answer, number}
+use Rattle.refusals.specs.Numbers.{answer}
 use Rattle.names.specs.Check.{SoundNames}
 use Rattle.names_check.proofs.CallLaws.{find_refused, find_short, find_done}
 use Rattle.names_check.proofs.calls.find.Goals as goal

@@ -15,6 +15,6 @@ pub returns-else-n-le-NAME_ROOM : goal.returns-else-n-le-NAME_ROOM
 returns-else-n-le-NAME_ROOM c =
     let e = c.name_len-n.ensures in
     elim c.if-n-ge1.branch [
-      then-n-ge1 w ↦ cc (w.t-5-is, lt-leb c.name_len-n.result 255 (omega arith), name_long c.args.row.now (omega (arith, e)) (omega (arith, e)))
-    | else-n-ge1 w ↦ cc (w.t-5-is, name_empty c.args.row.now (omega (arith, e)))
+      | then-n-ge1 w ↦ cc (w.t-5-is, lt-leb c.name_len-n.result 255 (omega arith), name_long c.args.row.now (omega (arith, e)) (omega (arith, e)))
+      | else-n-ge1 w ↦ cc (w.t-5-is, name_empty c.args.row.now (omega (arith, e)))
     ]

@@ -1,4 +1,4 @@
-use Rattle.std.proofs.Common.{Bool, true, false, ℕ, ◌≡◌, arith}
+use Rattle.std.proofs.Common.{Bool, true, false, ℕ, ◌≡◌}
 use mir.Val.{bool_byte}
 use Rattle.names_judge.specs.Levels.{visible_bit}
 use Rattle.names_judge.proofs.NoteLaws.{note_put}
