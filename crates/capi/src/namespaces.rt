@@ -7,7 +7,7 @@ pub fn lfsck_names_find(entries: &[u8], children: &[u8], out: &mut [u64]) -> u32
     ensures answer { result ≡ find_number entries.now children.now out.old }
     ensures numbers { out.new ≡ find_out entries.now children.now out.old }
 {
-    names_check::calls::find(entries, children, out)
+    refusals::answer(names_check::calls::find(entries, children, out))
 }
 
 // Which directories are visible: a mark for each child row.
@@ -21,7 +21,7 @@ pub fn lfsck_names_judge(
     ensures answer { result ≡ judge_number entries.now children.now index.old room.old marks.old }
     ensures marked { marks.new ≡ judge_marks entries.now children.now index.old room.old marks.old }
 {
-    names_judge::calls::judge(entries, children, index, room, marks)
+    refusals::answer(names_judge::calls::judge(entries, children, index, room, marks))
 }
 
 // Mends under the marks: 5 numbers into report.
@@ -36,7 +36,7 @@ pub fn lfsck_names_mend(
     ensures { left result entries.new children.new marks.now report.new
         ≡ mend_call entries.old children.old index.old room.old marks.now report.old }
 {
-    names_mend::calls::mend(entries, children, index, room, marks, report)
+    refusals::answer(names_mend::calls::mend(entries, children, index, room, marks, report))
 }
 
 // Judges, then mends under the marks that it wrote.
@@ -51,5 +51,5 @@ pub fn lfsck_names_pass(
     ensures { left result entries.new children.new marks.new report.new
         ≡ pass_call entries.old children.old index.old room.old marks.old report.old }
 {
-    names_mend::calls::pass(entries, children, index, room, marks, report)
+    refusals::answer(names_mend::calls::pass(entries, children, index, room, marks, report))
 }

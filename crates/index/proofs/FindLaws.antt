@@ -1,6 +1,8 @@
 -- The binary search, and the entry that it ends at. Assumes nothing.
+use Rattle.std.specs.Prelude.{Option, None, Some}
+use Rattle.std.proofs.lemmas.Option.{none-some, same_Some}
 use mathlib.Core.Path.{◌≡◌, refl, sym, ap, ◌∙◌}
-use mathlib.Core.Bool.{Bool, true, false, cond, and-false, true≢false}
+use mathlib.Core.Bool.{Bool, true, false, cond, and-false}
 use mathlib.Core.List.{List, [], ◌∷◌}
 use Prim.Native.Nat.{ℕ, zero, suc, ◌+◌, ◌-◌, ◌*◌, ◌/◌, ◌%◌, ◌^◌, ◌≤◌, ◌<◌}
 use native.Mathlib.Nat.{not-suc-le-zero}
@@ -12,11 +14,8 @@ use lib.Dec.{leb, eqb}
 use borrow.Author.Tests.{leb-true, leb-false, le-leb, lt-leb, eqb-true, eqb-false, eq-eqb, ne_eqb}
 use Rattle.wire.specs.Numbers.{le}
 use Rattle.index.specs.Entries.{entries, entry_at, wide, place_size, value_range}
-use Rattle.index.specs.Search.{Ordered, stop, first_from, key_of, value_with, lower, lowest_of, always, lowest}
-use Rattle.index.specs.declared.Found.{Found}
-use Rattle.index.specs.declared.Found.TheVariants.{Nothing, Value}
+use Rattle.index.specs.Search.{Ordered, stop, first_from, key_of, value_with, lower, lowest_of, always, lowest, Tells}
 use Rattle.index.proofs.HalfLaws.{length_entries}
-use Rattle.index.proofs.EntryLaws.{wide_of}
 use Rattle.index.proofs.OrderLaws.{From, from_head, from_tail, ordered_from, ordered_tail}
 
 pub entries_at_lem : (n j : ℕ) (l : List ℕ) → j < n → get_or (entries n l) j 0 ≡ le place_size (drop (place_size * j) l)
@@ -80,32 +79,16 @@ search_end t a l h k e = go (leb (length l) a) refl
         let z : first_from t (drop a l) ≡ 0 = rw (drop-cons l a 0 g) (here t (get_or l a 0) (drop (suc a) l) (k g)) in
         omega arith
 
-lower_both : (v w : ℕ) (r : Found) → v ≤ w → lower true v (lower true w r) ≡ lower true v r
+lower_both : (v w : ℕ) (r : Option ℕ) → v ≤ w → lower true v (lower true w r) ≡ lower true v r
 unfolding lower
-lower_both v w Nothing h = ap Value (omega arith)
-lower_both v w (Value u) h = ap Value (omega arith)
+lower_both v w None h = ap Some (omega arith)
+lower_both v w (Some u) h = ap Some (omega arith)
 
 passes_always : (v : ℕ) → always v ≡ true
 unfolding always
 passes_always v = refl
 
-is_value : Found → Bool
-is_value Nothing = false
-is_value (Value v) = true
-
-value_in : Found → ℕ
-value_in Nothing = 0
-value_in (Value v) = v
-
-pub value_nothing : (v : ℕ) → Value v ≡ Nothing → ⊥
-unfolding is_value
-value_nothing v e = true≢false (ap is_value e)
-
-pub value_injective : (v w : ℕ) → Value v ≡ Value w → v ≡ w
-unfolding value_in
-value_injective v w e = ap value_in e
-
-lower_nothing : (v : ℕ) → lower true v Nothing ≡ Value v
+lower_nothing : (v : ℕ) → lower true v None ≡ Some v
 unfolding lower
 lower_nothing v = refl
 
@@ -126,7 +109,7 @@ module _ (test : ℕ → Bool) (k : ℕ) where
   unfolding lowest_of
   same x l h t = rw (eq-eqb (x / value_range) k h, t)
 
-  pub lowest_none : lowest_of test k [] ≡ Nothing
+  pub lowest_none : lowest_of test k [] ≡ None
   unfolding lowest_of
   lowest_none = refl
 
@@ -143,18 +126,18 @@ module _ (test : ℕ → Bool) (k : ℕ) where
           rw (further (value_range * k) x l h) (other x l (λ p. omega arith) ∙ i)
 
   -- entries of higher keys
-  pub above : (x : ℕ) (l : List ℕ) → k < x / value_range → From x l → lowest_of test k l ≡ Nothing
+  pub above : (x : ℕ) (l : List ℕ) → k < x / value_range → From x l → lowest_of test k l ≡ None
   above x [] h f = lowest_none
   above x (y ∷ l) h f = let b : x ≤ y = from_head x y l f in other y l (λ p. omega arith) ∙ above x l h (from_tail x y l f)
 
   -- of the entries of a key in order the first that passes has the lowest value
-  pub least : (x : ℕ) (l : List ℕ) → x / value_range ≡ k → From x l → lower true (x % value_range) (lowest_of test k l) ≡ Value (x % value_range)
+  pub least : (x : ℕ) (l : List ℕ) → x / value_range ≡ k → From x l → lower true (x % value_range) (lowest_of test k l) ≡ Some (x % value_range)
   least x [] h f = rw lowest_none (lower_nothing (x % value_range))
   least x (y ∷ l) h f = go (eqb (y / value_range) k) (test (y % value_range)) refl refl (from_head x y l f) (least x l h (from_tail x y l f))
     where
       go : (b c : Bool) → eqb (y / value_range) k ≡ b → test (y % value_range) ≡ c → x ≤ y →
-          lower true (x % value_range) (lowest_of test k l) ≡ Value (x % value_range) →
-          lower true (x % value_range) (lowest_of test k (y ∷ l)) ≡ Value (x % value_range)
+          lower true (x % value_range) (lowest_of test k l) ≡ Some (x % value_range) →
+          lower true (x % value_range) (lowest_of test k (y ∷ l)) ≡ Some (x % value_range)
       go true true e t b i =
           let q : y / value_range ≡ k = eqb-true (y / value_range) k e in
           let p : x % value_range ≤ y % value_range = omega arith in
@@ -165,7 +148,7 @@ module _ (test : ℕ → Bool) (k : ℕ) where
   -- ## The walk over the entries of a key, from the first of them on
 
   module _ (i : ℕ) (l : List ℕ) (o : Ordered l) where
-    pub walk_end : length l ≤ i → Nothing ≡ lowest_of test k (drop i l)
+    pub walk_end : length l ≤ i → None ≡ lowest_of test k (drop i l)
     walk_end h = sym (rw (drop_of_length-le l h) lowest_none)
 
     cons_there : i < length l → drop i l ≡ get_or l i 0 ∷ drop (suc i) l
@@ -175,19 +158,24 @@ module _ (test : ℕ → Bool) (k : ℕ) where
     ordered_there h = ordered_from (get_or l i 0) (drop (suc i) l) (rw (drop-cons l i 0 h) at (ordered_drop i l o))
 
     -- past the key
-    pub walk_past : i < length l → k < get_or l i 0 / value_range → Nothing ≡ lowest_of test k (drop i l)
+    pub walk_past : i < length l → k < get_or l i 0 / value_range → None ≡ lowest_of test k (drop i l)
     walk_past h p =
         sym (rw (cons_there h) (other (get_or l i 0) (drop (suc i) l) (λ q. omega arith) ∙ above (get_or l i 0) (drop (suc i) l) p (ordered_there h)))
 
     -- at an entry that passes
     pub walk_hit : i < length l → get_or l i 0 / value_range ≡ k → test (get_or l i 0 % value_range) ≡ true →
-        Value (get_or l i 0 % value_range) ≡ lowest_of test k (drop i l)
+        Some (get_or l i 0 % value_range) ≡ lowest_of test k (drop i l)
     walk_hit h p t =
         sym (rw (cons_there h) (same (get_or l i 0) (drop (suc i) l) p t ∙ least (get_or l i 0) (drop (suc i) l) p (ordered_there h)))
 
     -- and at one that doesn't
     pub walk_next : i < length l → test (get_or l i 0 % value_range) ≡ false → lowest_of test k (drop i l) ≡ lowest_of test k (drop (i + 1) l)
     walk_next h t = rw (cons_there h, add-one i) (fails (get_or l i 0) (drop (suc i) l) t)
+
+-- what a test answers is what it tells
+pub tells_at : (answers : ℕ → Bool → Type 0) (passes : ℕ → Bool) → Tells answers passes → (v : ℕ) (b : Bool) → v < 2 ^ 32 → answers v b → passes v ≡ b
+unfolding Tells
+tells_at answers passes t v b h a = sym (t v b h a)
 
 -- what the search found, read
 module _ (k t r : ℕ) (l : List ℕ) (o : Ordered l) (u : t ≡ value_range * k) (e : r ≡ first_from t l) where
@@ -207,19 +195,20 @@ not_below t (x ∷ l) h = go (leb t x) refl h (not_below t l)
         let q : first_from t (x ∷ l) ≡ suc (first_from t l) = further t x l p in
         rw q (i (omega arith))
 
--- an entry of the slice, by its halves
-module _ (n j el eh : ℕ) (s : List ℕ) (h : j < n) (p : el ≡ le 8 (drop (place_size * j) s)) (q : eh ≡ le 8 (drop (place_size * j + 8) s)) where
-  pub entry_is : get_or (entries n s) j 0 ≡ wide el eh
-  entry_is = entries_at_lem n j s h ∙ sym (wide_of (place_size * j) el eh s p q)
+-- an entry of the slice
+module _ (n j x : ℕ) (s : List ℕ) (h : j < n) (p : x ≡ entry_at j s) where
+  entry_is : get_or (entries n s) j 0 ≡ x
+  unfolding entry_at
+  entry_is = entries_at_lem n j s h ∙ sym p
 
-  pub at_left : (t : ℕ) → leb t (wide el eh) ≡ true → t ≤ get_or (entries n s) j 0
-  at_left t e = rw entry_is (leb-true t (wide el eh) e)
+  pub at_left : (t : ℕ) → t ≤ x → t ≤ get_or (entries n s) j 0
+  at_left t e = rw entry_is e
 
-  pub at_right : (t a : ℕ) → Ordered (entries n s) → a ≤ j → leb t (wide el eh) ≡ false →
+  pub at_right : (t a : ℕ) → Ordered (entries n s) → a ≤ j → x < t →
       first_from t (entries n s) ≡ a + first_from t (drop a (entries n s)) →
       first_from t (entries n s) ≡ j + 1 + first_from t (drop (j + 1) (entries n s))
   at_right t a o k e i =
-      let b : get_or (entries n s) j 0 < t = rw entry_is (leb-false t (wide el eh) e) in
+      let b : get_or (entries n s) j 0 < t = rw entry_is e in
       search_on t a j (entries n s) o k (omega (arith, length_entries n s)) b i
 
 pub search_done : (n t a b : ℕ) (s : List ℕ) → a ≤ b → b ≤ a → b ≤ n → first_from t (entries n s) ≡ a + first_from t (drop a (entries n s)) →
@@ -229,62 +218,32 @@ search_done n t a b s h k m i f =
     let g : n ≡ length (entries n s) = sym (length_entries n s) in
     search_end t a (entries n s) (omega arith) (λ p. rw e (f (omega arith))) i
 
-unfold_key : (seq oid : ℕ) → wide (value_range * oid) seq ≡ value_range * key_of seq oid
+pub unfold_key : (seq oid : ℕ) → wide (value_range * oid) seq ≡ value_range * key_of seq oid
 unfolding wide key_of
 unfold_key seq oid = omega arith
 
-key_is : (lo hi : ℕ) → wide lo hi / value_range ≡ key_of hi (lo / value_range)
-unfolding wide key_of
-key_is lo hi = omega arith
-
-value_is_lem : (lo hi : ℕ) → wide lo hi % value_range ≡ lo % value_range
-unfolding wide
-value_is_lem lo hi = omega arith
-
-key_parts : (seq oid a b : ℕ) → oid < value_range → b < value_range → key_of a b ≡ key_of seq oid → (a ≡ seq) × (b ≡ oid)
-unfolding key_of
-key_parts seq oid a b p q e = (omega arith, omega arith)
-
 -- ## What is read of an entry
 
-value_other : (k x : ℕ) → (x / value_range ≡ k → ⊥) → Nothing ≡ value_with k x
+pub value_other : (k x : ℕ) → (x / value_range ≡ k → ⊥) → None ≡ value_with k x
 unfolding value_with
 value_other k x h = rw (ne_eqb (x / value_range) k h)
 
-value_same : (k x : ℕ) → x / value_range ≡ k → Value (x % value_range) ≡ value_with k x
+pub value_same : (k x : ℕ) → x / value_range ≡ k → Some (x % value_range) ≡ value_with k x
 unfolding value_with
 value_same k x h = rw (eq-eqb (x / value_range) k h)
 
-module _ (i seq oid lo hi : ℕ) (s : List ℕ) (p : lo ≡ le 8 (drop (place_size * i) s)) (q : hi ≡ le 8 (drop (place_size * i + 8) s)) where
-  halves_are : entry_at i s ≡ wide lo hi
-  unfolding entry_at
-  halves_are = sym (wide_of (place_size * i) lo hi s p q)
-
-  its_key : entry_at i s / value_range ≡ key_of hi (lo / value_range)
-  its_key = rw halves_are (key_is lo hi)
-
-  pub not_its_key : lo < 2 ^ 64 → oid < 2 ^ 32 → (hi ≡ seq → lo / value_range ≡ oid → ⊥) → Nothing ≡ value_with (key_of seq oid) (entry_at i s)
-  not_its_key a b d =
-      value_other (key_of seq oid) (entry_at i s)
-      (λ x. let y = key_parts seq oid hi (lo / value_range) (omega arith) (omega arith) (sym its_key ∙ x) in d y.0 y.1)
-
-  pub its_value : hi ≡ seq → lo / value_range ≡ oid → Value (lo % value_range) ≡ value_with (key_of seq oid) (entry_at i s)
-  its_value a b =
-      let v : lo % value_range ≡ entry_at i s % value_range = sym (rw halves_are (value_is_lem lo hi)) in
-      ap Value v ∙ value_same (key_of seq oid) (entry_at i s) (its_key ∙ rw (a, b))
-
 -- ## The entries of a key, from the first on
 
-taken_key : (k x v : ℕ) → value_with k x ≡ Value v → (x / value_range ≡ k) × (x % value_range ≡ v)
+taken_key : (k x v : ℕ) → value_with k x ≡ Some v → (x / value_range ≡ k) × (x % value_range ≡ v)
 unfolding value_with
 taken_key k x v h = go (eqb (x / value_range) k) refl h
   where
-    go : (b : Bool) → eqb (x / value_range) k ≡ b → cond b (Value (x % value_range)) Nothing ≡ Value v → (x / value_range ≡ k) × (x % value_range ≡ v)
-    go true e f = (eqb-true (x / value_range) k e, value_injective (x % value_range) v f)
-    go false e f = absurd (value_nothing v (sym f))
+    go : (b : Bool) → eqb (x / value_range) k ≡ b → cond b (Some (x % value_range)) None ≡ Some v → (x / value_range ≡ k) × (x % value_range ≡ v)
+    go true e f = (eqb-true (x / value_range) k e, same_Some (x % value_range) v f)
+    go false e f = absurd (none-some v f)
 
-left_key : (k x : ℕ) → value_with k x ≡ Nothing → x / value_range ≡ k → ⊥
-left_key k x h e = value_nothing (x % value_range) (value_same k x e ∙ h)
+left_key : (k x : ℕ) → value_with k x ≡ None → x / value_range ≡ k → ⊥
+left_key k x h e = none-some (x % value_range) (sym (value_same k x e ∙ h))
 
 module _ (s : List ℕ) (n seq oid r : ℕ) (o : Ordered (entries n s)) (e : r ≡ first_from (wide (value_range * oid) seq) (entries n s)) where
   its_entry : (i : ℕ) → i < n → get_or (entries n s) i 0 ≡ entry_at i s
@@ -309,22 +268,22 @@ module _ (s : List ℕ) (n seq oid r : ℕ) (o : Ordered (entries n s)) (e : r �
   walk_start test = from_there (key_of seq oid) (wide (value_range * oid) seq) r (entries n s) o (unfold_key seq oid) e test
 
   module _ (test : ℕ → Bool) (i : ℕ) where
-    pub walk_done : n ≤ i → Nothing ≡ lowest_of test (key_of seq oid) (drop i (entries n s))
+    pub walk_done : n ≤ i → None ≡ lowest_of test (key_of seq oid) (drop i (entries n s))
     walk_done h = walk_end test (key_of seq oid) i (entries n s) o (omega (arith, length_entries n s))
 
-    pub walk_over : r ≤ i → i < n → value_with (key_of seq oid) (entry_at i s) ≡ Nothing → Nothing ≡ lowest_of test (key_of seq oid) (drop i (entries n s))
+    pub walk_over : r ≤ i → i < n → value_with (key_of seq oid) (entry_at i s) ≡ None → None ≡ lowest_of test (key_of seq oid) (drop i (entries n s))
     walk_over h k v =
         let p : (entry_at i s / value_range ≡ key_of seq oid) → ⊥ = left_key (key_of seq oid) (entry_at i s) v in
         walk_past test (key_of seq oid) i (entries n s) o (inside i k) (rw (its_entry i k) (omega (arith, not_lower i h k, p)))
 
-    pub walk_takes : (v : ℕ) → i < n → value_with (key_of seq oid) (entry_at i s) ≡ Value v → test v ≡ true →
-        Value v ≡ lowest_of test (key_of seq oid) (drop i (entries n s))
+    pub walk_takes : (v : ℕ) → i < n → value_with (key_of seq oid) (entry_at i s) ≡ Some v → test v ≡ true →
+        Some v ≡ lowest_of test (key_of seq oid) (drop i (entries n s))
     walk_takes v k f t =
         let g = taken_key (key_of seq oid) (entry_at i s) v f in
         let x : get_or (entries n s) i 0 % value_range ≡ v = rw (its_entry i k) g.1 in
-        ap Value (sym x) ∙ walk_hit test (key_of seq oid) i (entries n s) o (inside i k) (rw (its_entry i k) g.0) (rw x t)
+        ap Some (sym x) ∙ walk_hit test (key_of seq oid) i (entries n s) o (inside i k) (rw (its_entry i k) g.0) (rw x t)
 
-    pub walk_skips : (v : ℕ) → i < n → value_with (key_of seq oid) (entry_at i s) ≡ Value v → test v ≡ false →
+    pub walk_skips : (v : ℕ) → i < n → value_with (key_of seq oid) (entry_at i s) ≡ Some v → test v ≡ false →
         lowest_of test (key_of seq oid) (drop i (entries n s)) ≡ lowest_of test (key_of seq oid) (drop (i + 1) (entries n s))
     walk_skips v k f t =
         let g = taken_key (key_of seq oid) (entry_at i s) v f in
@@ -332,7 +291,7 @@ module _ (s : List ℕ) (n seq oid r : ℕ) (o : Ordered (entries n s)) (e : r �
         walk_next test (key_of seq oid) i (entries n s) o (inside i k) (rw x t)
 
   -- what the search alone finds
-  pub no_entry_lem : n ≤ r → Nothing ≡ lowest (key_of seq oid) (entries n s)
+  pub no_entry_lem : n ≤ r → None ≡ lowest (key_of seq oid) (entries n s)
   unfolding lowest
   no_entry_lem h = walk_done always r h ∙ sym (walk_start always)
 
@@ -340,6 +299,6 @@ module _ (s : List ℕ) (n seq oid r : ℕ) (o : Ordered (entries n s)) (e : r �
   unfolding lowest
   that_entry h = go (value_with (key_of seq oid) (entry_at r s)) refl
     where
-      go : (f : Found) → value_with (key_of seq oid) (entry_at r s) ≡ f → f ≡ lowest_of always (key_of seq oid) (entries n s)
-      go Nothing g = walk_over always r (omega arith) h g ∙ sym (walk_start always)
-      go (Value v) g = walk_takes always r v h g (passes_always v) ∙ sym (walk_start always)
+      go : (f : Option ℕ) → value_with (key_of seq oid) (entry_at r s) ≡ f → f ≡ lowest_of always (key_of seq oid) (entries n s)
+      go None g = walk_over always r (omega arith) h g ∙ sym (walk_start always)
+      go (Some v) g = walk_takes always r v h g (passes_always v) ∙ sym (walk_start always)

@@ -1,4 +1,5 @@
 -- What is found by the index is what a search from the first row on would find. Assumes nothing.
+use Rattle.std.specs.Prelude.{Some}
 use mathlib.Core.Path.{◌≡◌, refl, ap, ◌∙◌}
 use mathlib.Core.Bool.{Bool, true, false, cond, ◌&&◌}
 use mathlib.Core.List.{List, [], ◌∷◌}
@@ -8,21 +9,20 @@ use lib.ListN.{length}
 use lib.Dec.{eqb}
 use Rattle.index.specs.Entries.{value_range, sorted}
 use Rattle.index.specs.Search.{lower, lowest_of, Key, keyless, key, numbers_of, listed, is_key, first_with}
-use Rattle.index.specs.declared.Found.TheVariants.{Value}
 use Rattle.index.proofs.OrderLaws.{sorted_lowest}
 
 module _ (test : ℕ → Bool) (k : ℕ) where
   -- a row is before those found from a later row on
-  before : (r s : ℕ) (js : List Key) → r ≤ s → lower true r (first_with test k js s) ≡ Value r
+  before : (r s : ℕ) (js : List Key) → r ≤ s → lower true r (first_with test k js s) ≡ Some r
   unfolding first_with lower
   before r s [] h = refl
   before r s (j ∷ js) h = go (is_key k j && test s) (before r (suc s) js (omega arith))
     where
-      go : (b : Bool) → lower true r (first_with test k js (suc s)) ≡ Value r → lower true r (cond b (Value s) (first_with test k js (suc s))) ≡ Value r
-      go true i = ap Value (omega arith)
+      go : (b : Bool) → lower true r (first_with test k js (suc s)) ≡ Some r → lower true r (cond b (Some s) (first_with test k js (suc s))) ≡ Some r
+      go true i = ap Some (omega arith)
       go false i = i
 
-  lowered : (b : Bool) (r : ℕ) (js : List Key) → lower b r (first_with test k js (suc r)) ≡ cond b (Value r) (first_with test k js (suc r))
+  lowered : (b : Bool) (r : ℕ) (js : List Key) → lower b r (first_with test k js (suc r)) ≡ cond b (Some r) (first_with test k js (suc r))
   unfolding lower
   lowered true r js = before r (suc r) js (omega arith)
   lowered false r js = refl

@@ -1,8 +1,6 @@
 -- What is found of a key: the lowest value that was put with it, whatever the order of the entries, and so the first row with the key.
-use Rattle.std.specs.Prelude.{ℕ, suc, ◌+◌, ◌*◌, ◌/◌, ◌%◌, ◌≤◌, ◌<◌, min, Bool, true, false, cond, ◌&&◌, List, [], ◌∷◌, length, get_or, leb, eqb}
+use Rattle.std.specs.Prelude.{ℕ, suc, ◌+◌, ◌*◌, ◌/◌, ◌%◌, ◌^◌, ◌≤◌, ◌<◌, ◌≡◌, min, Bool, true, false, cond, ◌&&◌, List, [], ◌∷◌, length, get_or, leb, eqb, Option, None, Some}
 use Rattle.index.specs.Entries.{one, value_range}
-use Rattle.index.specs.declared.Found.{Found}
-use Rattle.index.specs.declared.Found.TheVariants.{Nothing, Value}
 
 -- each entry is at least those before it
 unfoldable pub Ordered : List ℕ → Type 0
@@ -35,23 +33,27 @@ unfoldable pub key_of : ℕ → ℕ → ℕ
 key_of seq oid = oid + value_range * seq
 
 -- the value of an entry that has a key
-unfoldable pub value_with : ℕ → ℕ → Found
-value_with k x = cond (eqb (x / value_range) k) (Value (x % value_range)) Nothing
+unfoldable pub value_with : ℕ → ℕ → Option ℕ
+value_with k x = cond (eqb (x / value_range) k) (Some (x % value_range)) None
 
-unfoldable pub lower : Bool → ℕ → Found → Found
+unfoldable pub lower : Bool → ℕ → Option ℕ → Option ℕ
 lower false v r = r
-lower true v Nothing = Value v
-lower true v (Value w) = Value (min v w)
+lower true v None = Some v
+lower true v (Some w) = Some (min v w)
 
 -- the lowest value that passes a test, of the entries with a key, in any order
-unfoldable pub lowest_of : (ℕ → Bool) → ℕ → List ℕ → Found
-lowest_of test k [] = Nothing
+unfoldable pub lowest_of : (ℕ → Bool) → ℕ → List ℕ → Option ℕ
+lowest_of test k [] = None
 lowest_of test k (x ∷ l) = lower (eqb (x / value_range) k && test (x % value_range)) (x % value_range) (lowest_of test k l)
+
+-- the answers that a test may give are those of `passes`
+unfoldable pub Tells : (ℕ → Bool → Type 0) → (ℕ → Bool) → Type 0
+Tells answers passes = (v : ℕ) (b : Bool) → v < 2 ^ 32 → answers v b → b ≡ passes v
 
 unfoldable pub always : ℕ → Bool
 always v = true
 
-unfoldable pub lowest : ℕ → List ℕ → Found
+unfoldable pub lowest : ℕ → List ℕ → Option ℕ
 lowest k l = lowest_of always k l
 
 -- ## Rows
@@ -75,6 +77,6 @@ is_key k keyless = false
 is_key k (key j) = eqb j k
 
 -- the first row with a key that passes a test
-unfoldable pub first_with : (ℕ → Bool) → ℕ → List Key → ℕ → Found
-first_with test k [] r = Nothing
-first_with test k (j ∷ js) r = cond (is_key k j && test r) (Value r) (first_with test k js (suc r))
+unfoldable pub first_with : (ℕ → Bool) → ℕ → List Key → ℕ → Option ℕ
+first_with test k [] r = None
+first_with test k (j ∷ js) r = cond (is_key k j && test r) (Some r) (first_with test k js (suc r))

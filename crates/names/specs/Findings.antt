@@ -28,7 +28,7 @@ fids_finding f self =
 unfoldable pub fid_finding : Entry → Child → FidFinding
 fid_finding e c = fids_finding e.fid c.self
 
-unfoldable pub fid_number : FidFinding → ℕ
+abbrev pub fid_number : FidFinding → ℕ
 fid_number FidAgrees = 0
 fid_number NoDirentFid = 1
 fid_number FidDiffers = 2
@@ -58,7 +58,7 @@ has_link x c = any (same_link x) (links_of c)
 unfoldable pub link_finding : Entry → Child → LinkFinding
 link_finding e c = cond (has_link (link_for e) c) RecordThere NoRecord
 
-unfoldable pub link_number : LinkFinding → ℕ
+abbrev pub link_number : LinkFinding → ℕ
 link_number RecordThere = 0
 link_number NoRecord = 1
 

@@ -1,8 +1,6 @@
 -- Which directories are visible, judged of the tables as lent, and the marks that hand it on. Document 02, 2026-06.
-use Rattle.std.specs.Prelude.{ℕ, zero, suc, Bool, true, false, cond, not, ◌&&◌, ◌||◌, List, [], ◌∷◌, map, ltb, eqb}
+use Rattle.std.specs.Prelude.{ℕ, zero, suc, Bool, true, false, cond, not, ◌&&◌, ◌||◌, List, [], ◌∷◌, map, ltb, eqb, Option, None, Some}
 use Rattle.fid.specs.declared.MdtFid.{MdtFid}
-use Rattle.index.specs.declared.Found.{Found}
-use Rattle.index.specs.declared.Found.TheVariants.{Nothing, Value}
 use Rattle.names.specs.Rows.{Child, is_none, is_linked, child_at}
 use Rattle.names.specs.Findings.{same, any}
 use Rattle.names.specs.declared.Climbed.{Climbed}
@@ -20,22 +18,22 @@ root = record { 0 = record { seq = root_sequence; oid = 1; ver = 0 } }
 unfoldable pub is_root : MdtFid → Bool
 is_root f = same f root
 
-unfoldable pub first_row : MdtFid → List Child → ℕ → Found
-first_row f [] r = Nothing
-first_row f (c ∷ cs) r = cond (same c.self f) (Value r) (first_row f cs (suc r))
+unfoldable pub first_row : MdtFid → List Child → ℕ → Option ℕ
+first_row f [] r = None
+first_row f (c ∷ cs) r = cond (same c.self f) (Some r) (first_row f cs (suc r))
 
 -- "A directory (the first row with its FID)"; "a zero FID .. means none"
-unfoldable pub directory : List Child → MdtFid → Found
-directory cs f = cond (is_none f) Nothing (first_row f cs 0)
+unfoldable pub directory : List Child → MdtFid → Option ℕ
+directory cs f = cond (is_none f) None (first_row f cs 0)
 
 -- "is visible if it .. has linkEA": else `..` is followed, and without it the climb "leads out of the lent table"
 unfoldable pub at_row : (MdtFid → Climbed) → Child → Climbed
 at_row above c = cond (is_linked c.link) Visible (cond (is_none c.up) Hidden (above c.up))
 
 -- "What leads out of the lent table is hidden"
-unfoldable pub at_directory : (MdtFid → Climbed) → List Child → Found → Climbed
-at_directory above cs Nothing = Hidden
-at_directory above cs (Value r) = at_row above (child_at cs r)
+unfoldable pub at_directory : (MdtFid → Climbed) → List Child → Option ℕ → Climbed
+at_directory above cs None = Hidden
+at_directory above cs (Some r) = at_row above (child_at cs r)
 
 -- "or is ROOT"
 unfoldable pub arrive : (MdtFid → Climbed) → List Child → MdtFid → Climbed

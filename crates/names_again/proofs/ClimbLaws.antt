@@ -1,11 +1,11 @@
 -- What the judged marks make visible is what the climb finds. Assumes nothing.
+use Rattle.std.specs.Prelude.{None, Some}
 use mathlib.Core.Path.{◌≡◌, refl, sym, ap, ◌∙◌}
 use mathlib.Core.Bool.{Bool, true, false, cond, not, ◌&&◌, ◌||◌, and-false}
 use mathlib.Core.List.{List, [], ◌∷◌, map}
 use Prim.Native.Nat.{ℕ, zero, suc}
 use lib.Dec.{ltb, eqb}
 use Rattle.fid.specs.declared.MdtFid.{MdtFid}
-use Rattle.index.specs.declared.Found.TheVariants.{Nothing, Value}
 use Rattle.linkea.proofs.PlaceLaws.{clash}
 use Rattle.names.specs.Rows.{Child, is_none}
 use Rattle.names.specs.Findings.{same, any}
@@ -27,25 +27,25 @@ module _ (cs : List Child) (f : MdtFid) where
   climb_root zero h = rw h
   climb_root (suc n) h = rw h
 
-  climb_out : (levels : ℕ) → is_root f ≡ false → directory cs f ≡ Nothing → climb levels cs f ≡ Hidden
+  climb_out : (levels : ℕ) → is_root f ≡ false → directory cs f ≡ None → climb levels cs f ≡ Hidden
   unfolding climb arrive at_directory
   climb_out zero h d = rw (h, d)
   climb_out (suc n) h d = rw (h, d)
 
-first_none : (f : MdtFid) (cs : List Child) (r : ℕ) → has f cs ≡ false → first_row f cs r ≡ Nothing
+first_none : (f : MdtFid) (cs : List Child) (r : ℕ) → has f cs ≡ false → first_row f cs r ≡ None
 unfolding first_row has any
 first_none f [] r h = refl
 first_none f (c ∷ cs) r h = go (same c.self f) h (first_none f cs (suc r))
   where
-    go : (b : Bool) → (b || has f cs) ≡ false → (has f cs ≡ false → first_row f cs (suc r) ≡ Nothing) → cond b (Value r) (first_row f cs (suc r)) ≡ Nothing
+    go : (b : Bool) → (b || has f cs) ≡ false → (has f cs ≡ false → first_row f cs (suc r) ≡ None) → cond b (Some r) (first_row f cs (suc r)) ≡ None
     go true k rec = clash (sym k)
     go false k rec = rec k
 
-no_directory : (f : MdtFid) (cs : List Child) → is_none f ≡ true → directory cs f ≡ Nothing
+no_directory : (f : MdtFid) (cs : List Child) → is_none f ≡ true → directory cs f ≡ None
 unfolding directory
 no_directory f cs h = rw h
 
-not_there : (f : MdtFid) (cs : List Child) → is_none f ≡ false → has f cs ≡ false → directory cs f ≡ Nothing
+not_there : (f : MdtFid) (cs : List Child) → is_none f ≡ false → has f cs ≡ false → directory cs f ≡ None
 unfolding directory
 not_there f cs n h = rw n (first_none f cs 0 h)
 
@@ -82,7 +82,7 @@ pub marks_are_climbs : MarksAreClimbs
 unfolding MarksAreClimbs seen_by judged is_visible
 marks_are_climbs levels cs f = go (is_root f) (is_none f) refl refl
   where
-    out : is_root f ≡ false → directory cs f ≡ Nothing → false ≡ is_visible (climb levels cs f)
+    out : is_root f ≡ false → directory cs f ≡ None → false ≡ is_visible (climb levels cs f)
     out p d = sym (ap is_visible (climb_out cs f levels p d))
 
     there : (b : Bool) → has f cs ≡ b → is_root f ≡ false → is_none f ≡ false → (b && is_visible (climb levels cs f)) ≡ is_visible (climb levels cs f)

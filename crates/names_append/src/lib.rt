@@ -24,6 +24,7 @@ pub enum Asked {
 }
 
 // How many records were appended, the entry it stopped in front of or the number of entries, and whether it stopped.
+// A flag beside the numbers: they are told in either case, so a Result would hold them twice.
 #[derive(Clone, Copy)]
 pub struct Swept {
     pub count: usize,

@@ -1,14 +1,14 @@
 -- FIDs, names and records compared, one by one. Assumes nothing.
 use mathlib.Core.Path.{◌≡◌, refl, sym, ap, ◌∙◌}
-use mathlib.Core.Bool.{Bool, true, false, ◌&&◌, ◌||◌, and-false}
+use mathlib.Core.Bool.{Bool, true, false, ◌&&◌, ◌||◌}
 use mathlib.Core.List.{List, [], ◌∷◌, map}
-use Prim.Native.Nat.{ℕ, suc, ◌+◌, ◌-◌, ◌≤◌, ◌<◌}
-use native.Mathlib.Numerals.{add-one}
+use Prim.Native.Nat.{ℕ, ◌+◌, ◌-◌, ◌≤◌, ◌<◌}
 use native.Mathlib.Omega.{arith}
 use borrow.Author.Tests.{eq-eqb, ne_eqb}
 use lib.Dec.{eqb}
-use lib.ListN.{length, take, drop, get_or, drop_of_length-le}
-use lib.Seq.{drop-cons, drop-drop}
+use lib.ListN.{length, take, drop}
+use lib.Seq.{drop-drop}
+use Rattle.std.specs.Str.{bytes_eq}
 use Rattle.wire.specs.Numbers.{big, number}
 use Rattle.fid.specs.Fid.{same_fid, decode_fid_in}
 use Rattle.fid.specs.declared.Fid.{Fid}
@@ -46,28 +46,13 @@ module _ (f own : MdtFid) where
 
 -- ## Names
 
-pub name_lengths : (a b : List ℕ) → (length a ≡ length b → ⊥) → false ≡ same_name a b
+-- the words for equal names
+pub same_is : (a b : List ℕ) → bytes_eq a b ≡ same_name a b
 unfolding same_name
-name_lengths [] [] h = absurd (h refl)
-name_lengths [] (y ∷ b) h = refl
-name_lengths (x ∷ a) [] h = refl
-name_lengths (x ∷ a) (y ∷ b) h = sym (rw (← name_lengths a b (λ e. h (ap suc e))) (and-false (eqb x y)))
-
-module _ (a b : List ℕ) (i : ℕ) where
-  heads : i < length a → i < length b →
-      same_name (drop i a) (drop i b) ≡ (eqb (get_or a i 0) (get_or b i 0) && same_name (drop (i + 1) a) (drop (i + 1) b))
-  unfolding same_name
-  heads h k = rw (add-one i, drop-cons a i 0 h, drop-cons b i 0 k)
-
-  pub name_differs : i < length a → i < length b → (get_or a i 0 ≡ get_or b i 0 → ⊥) → same_name (drop i a) (drop i b) ≡ false
-  name_differs h k e = heads h k ∙ rw (ne_eqb (get_or a i 0) (get_or b i 0) e)
-
-  pub name_agrees : i < length a → i < length b → get_or a i 0 ≡ get_or b i 0 → same_name (drop i a) (drop i b) ≡ same_name (drop (i + 1) a) (drop (i + 1) b)
-  name_agrees h k e = heads h k ∙ rw (eq-eqb (get_or a i 0) (get_or b i 0) e)
-
-  pub name_ends : length a ≤ i → length b ≤ i → same_name (drop i a) (drop i b) ≡ true
-  unfolding same_name
-  name_ends h k = rw (drop_of_length-le a h, drop_of_length-le b k)
+same_is [] [] = refl
+same_is [] (y ∷ b) = refl
+same_is (x ∷ a) [] = refl
+same_is (x ∷ a) (y ∷ b) = ap (λ (t : Bool). eqb x y && t) (same_is a b)
 
 -- ## One record
 

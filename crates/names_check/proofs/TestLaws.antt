@@ -11,7 +11,6 @@ use Rattle.wire.proofs.Both.{and_first, and_second}
 use Rattle.wire.proofs.RowLaws.{rows_length}
 use Rattle.linkea.specs.Conditions.{some, bad_byte, refused_link}
 use Rattle.tables.specs.Check.{all, whole_rows, first_failing}
-use Rattle.tables.proofs.AllLaws.{all_from, all_start}
 use Rattle.names.specs.Rows.{entry_size, child_size, name_room, link_room, name_length, name_bytes, link_length, link_bytes, decode_entry, entry_rows, child_rows}
 use Rattle.names.specs.Check.{max_rows, names_whole, child_there, children_there, good_name, good_link_ea, names_good, names_tests, names_number}
 
@@ -24,11 +23,11 @@ module _ (e c : List ℕ) where
   unfolding names_whole
   whole_then h = rw h
 
-  pub there_start : children_there e c ≡ all_from (child_there (length c / child_size)) entry_size e (length e / entry_size) 0
+  pub there_is : all (child_there (length c / child_size)) (rows entry_size (length e / entry_size) e) ≡ children_there e c
   unfolding children_there entry_rows child_rows
-  there_start =
+  there_is =
       let n : length (rows child_size (length c / child_size) c) ≡ length c / child_size = rows_length child_size (length c / child_size) c in
-      rw n (all_start (child_there (length c / child_size)) entry_size e (length e / entry_size))
+      rw n
 
   pub good_not : all good_name (entry_rows e) ≡ false → false ≡ names_good e c
   unfolding names_good

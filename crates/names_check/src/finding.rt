@@ -15,31 +15,15 @@ use names::{FidFinding, LinkFinding, rows};
 pub fn fids_finding(f: MdtFid, own: MdtFid) -> FidFinding
     ensures { result ≡ fids_finding f own }
 {
-    let none = rows::is_none(f);
-    if rows::is_none(own) {
-        if none {
-            return FidFinding::NeitherFid;
+    match (rows::is_none(f), rows::is_none(own)) {
+        (true, true) => FidFinding::NeitherFid,
+        (false, true) => FidFinding::NoSelfFid,
+        (true, false) => FidFinding::NoDirentFid,
+        (false, false) => if fid::same_mdt(f, own) {
+            FidFinding::FidAgrees
+        } else {
+            FidFinding::FidDiffers
         }
-        return FidFinding::NoSelfFid;
-    }
-    if none {
-        return FidFinding::NoDirentFid;
-    }
-    if f == own {
-        return FidFinding::FidAgrees;
-    }
-    FidFinding::FidDiffers
-}
-
-pub fn fid_number(x: FidFinding) -> u64
-    ensures { result ≡ fid_number x }
-{
-    match x {
-        FidFinding::FidAgrees => 0,
-        FidFinding::NoDirentFid => 1,
-        FidFinding::FidDiffers => 2,
-        FidFinding::NoSelfFid => 3,
-        FidFinding::NeitherFid => 4,
     }
 }
 
@@ -48,14 +32,12 @@ pub fn has_record(row: &[u8], child: &[u8]) -> bool
     requires { (length row.now ≡ entry_size) × (length child.now ≡ child_size) × (good_name row.now ≡ true) × (good_link_ea child.now ≡ true) }
     ensures { result ≡ has_link (link_for (decode_entry row.now)) (decode_child child.now) }
 {
-    if rows::link_len(child) == 0 {
-        return false;
-    }
-    links::has_link(
-        rows::link_of(child),
-        rows::parent_of(row),
-        rows::name_of(row),
-    )
+    rows::link_len(child) != 0
+        && links::has_link(
+            rows::link_of(child),
+            rows::parent_of(row),
+            rows::name_of(row),
+        )
 }
 
 pub fn link_finding(row: &[u8], child: &[u8]) -> LinkFinding
@@ -68,15 +50,6 @@ pub fn link_finding(row: &[u8], child: &[u8]) -> LinkFinding
     LinkFinding::NoRecord
 }
 
-pub fn link_number(x: LinkFinding) -> u64
-    ensures { result ≡ link_number x }
-{
-    match x {
-        LinkFinding::RecordThere => 0,
-        LinkFinding::NoRecord => 1,
-    }
-}
-
 // The findings of entry i of tables that pass the check, in the two places of its own.
 fn find_at(entries: &[u8], children: &[u8], i: usize, out: &mut [u64])
     requires { SoundNames entries.now children.now × (i < length entries.now / entry_size) × (2 * i + 2 ≤ length out.old) }
@@ -86,8 +59,8 @@ fn find_at(entries: &[u8], children: &[u8], i: usize, out: &mut [u64])
     let child = tables::rows::row_at(children, CHILD_SIZE, rows::child_of(row) as usize);
     let fid = fids_finding(rows::fid_of(row), rows::self_of(child));
     let link = link_finding(row, child);
-    out[2 * i] = fid_number(fid);
-    out[2 * i + 1] = link_number(link);
+    out[2 * i] = fid.number();
+    out[2 * i + 1] = link.number();
 }
 
 // The findings of every entry of tables that pass the check.

@@ -7,21 +7,12 @@ ghost use Rattle.names_check.specs.Asked.{asked};
 
 use fid::MdtFid;
 use linkea::{LINK_HEADER, NAME_AT, PARENT_AT};
-use wire::Big;
 
 // Whether two names are the same.
 pub fn same_name(a: &[u8], b: &[u8]) -> bool
     ensures { result ≡ same_name a.now b.now }
 {
-    if a.len() != b.len() {
-        return false;
-    }
-    for i in 0..a.len() {
-        if a[i] != b[i] {
-            return false;
-        }
-    }
-    true
+    a == b
 }
 
 // Whether the good record at a place has a directory and a name.
@@ -29,17 +20,13 @@ pub fn is_link(l: &[u8], p: usize, parent: MdtFid, name: &[u8]) -> bool
     requires { (p < length l.now) × (bad_record l.now p ≡ false) }
     ensures { result ≡ same_link (asked parent name.now) (link_at l.now p) }
 {
-    let n = wire::get::<u16, Big>(l, p) as usize;
-    let there = MdtFid(fid::read_in::<Big>(l, p + PARENT_AT));
-    if parent != there {
-        return false;
-    }
-    let a = p + NAME_AT;
-    let e = p + n;
-    same_name(name, &l[a..e])
+    let n = wire::be16(l, p) as usize;
+    let there = MdtFid(fid::read_big(l, p + PARENT_AT));
+    fid::same_mdt(parent, there) && same_name(name, &l[p + NAME_AT..p + n])
 }
 
 // Whether a linkEA that is not refused has a record with a directory and a name.
+// A loop: the place of the next record comes from the one read, so no iterator gives it.
 pub fn has_link(l: &[u8], parent: MdtFid, name: &[u8]) -> bool
     requires { refused_link l.now ≡ false }
     ensures { result ≡ any (same_link (asked parent name.now)) (decode_link_ea l.now).links }
@@ -49,7 +36,7 @@ pub fn has_link(l: &[u8], parent: MdtFid, name: &[u8]) -> bool
         if is_link(l, at, parent, name) {
             return true;
         }
-        at = at + wire::get::<u16, Big>(l, at) as usize;
+        at += wire::be16(l, at) as usize;
     }
     false
 }

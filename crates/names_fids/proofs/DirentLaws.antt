@@ -24,15 +24,15 @@ use Rattle.names_marks.proofs.PutLaws.{entry_put, fid_name, fid_child}
 use Rattle.names_store.proofs.StoreLaws.{row_back, entry_stored, entry_sound}
 
 module _ (seen : MdtFid → Bool) (cs : List Child) (e : Entry) where
-  mends_not : mends seen cs e ≡ false → (e ≡ written seen cs e) × (0 ≡ one (differs seen cs e))
-  unfolding written differs one
+  mends_not : mends seen cs e ≡ false → (e ≡ written seen cs e) × (false ≡ differs seen cs e)
+  unfolding written differs
   mends_not h = (rw h, rw h)
 
-  pub not_visible : seen e.parent ≡ false → (e ≡ written seen cs e) × (0 ≡ one (differs seen cs e))
+  pub not_visible : seen e.parent ≡ false → (e ≡ written seen cs e) × (false ≡ differs seen cs e)
   unfolding mends
   not_visible h = mends_not (rw h)
 
-  pub no_self : is_none (child_of cs e).self ≡ true → (e ≡ written seen cs e) × (0 ≡ one (differs seen cs e))
+  pub no_self : is_none (child_of cs e).self ≡ true → (e ≡ written seen cs e) × (false ≡ differs seen cs e)
   unfolding mends
   no_self h = mends_not (go (seen e.parent))
     where
@@ -45,17 +45,17 @@ module _ (seen : MdtFid → Bool) (cs : List Child) (e : Entry) where
   unfolding same with_fid
   stays f h = let p : e.fid.0 ≡ f.0 = same_is e.fid.0 f.0 h in λ i. record { parent = e.parent; child = e.child; fid = record { 0 = p i }; name = e.name; rest = e.rest }
 
-  pub agrees : same e.fid (child_of cs e).self ≡ true → (e ≡ written seen cs e) × (0 ≡ one (differs seen cs e))
-  unfolding written differs one
+  pub agrees : same e.fid (child_of cs e).self ≡ true → (e ≡ written seen cs e) × (false ≡ differs seen cs e)
+  unfolding written differs
   agrees h = go (mends seen cs e)
     where
-      go : (b : Bool) → (e ≡ cond b (with_fid e (child_of cs e).self) e) × (◌≡◌ {A = ℕ} 0 (cond (b && not (same e.fid (child_of cs e).self)) 1 0))
+      go : (b : Bool) → (e ≡ cond b (with_fid e (child_of cs e).self) e) × (◌≡◌ {A = Bool} false (b && not (same e.fid (child_of cs e).self)))
       go true = (stays (child_of cs e).self h, rw h)
       go false = (refl, refl)
 
   pub wins : seen e.parent ≡ true → is_none (child_of cs e).self ≡ false → same e.fid (child_of cs e).self ≡ false →
-      (with_fid e (child_of cs e).self ≡ written seen cs e) × (1 ≡ one (differs seen cs e))
-  unfolding written differs mends one
+      (with_fid e (child_of cs e).self ≡ written seen cs e) × (true ≡ differs seen cs e)
+  unfolding written differs mends
   wins h k m = (rw (h, k), rw (h, k, m))
 
 -- an entry that stays as it was

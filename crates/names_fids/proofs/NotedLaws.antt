@@ -5,6 +5,7 @@ use mathlib.Core.List.{List, [], ◌∷◌, ◌++◌, map, map-append}
 use Prim.Native.Nat.{ℕ, suc, ◌+◌, ◌/◌, ◌≤◌, ◌<◌}
 use native.Mathlib.Numerals.{add-one}
 use native.Mathlib.Omega.{arith}
+use mir.Val.{bool_byte}
 use lib.ListN.{length, take, set}
 use lib.Seq.{take-suc, take_all, take-suc-set}
 use Rattle.fid.specs.declared.MdtFid.{MdtFid}
@@ -62,3 +63,13 @@ module _ (seen : MdtFid → Bool) (entries : List ℕ) where
   noted_all i l h k n =
       let z : i ≡ length entries / entry_size = omega arith in
       rw (← z) (n ∙ ap (map (note_of seen)) (take_all i (parse_entries entries) (omega (arith, parsed_entries entries))))
+
+-- a flag counted
+pub flag_one : (b : Bool) (n : ℕ) → n ≡ bool_byte b → n ≡ one b
+unfolding one
+flag_one true n e = e
+flag_one false n e = e
+
+pub flag_most : (b : Bool) (n : ℕ) → n ≡ bool_byte b → n ≤ 1
+flag_most true n e = omega (arith, e)
+flag_most false n e = omega (arith, e)

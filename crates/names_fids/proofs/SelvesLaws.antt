@@ -22,15 +22,15 @@ use Rattle.names_marks.proofs.PutLaws.{self_put, self_link}
 use Rattle.names_store.proofs.StoreLaws.{row_back, child_stored, child_sound}
 
 module _ (seen : MdtFid → Bool) (cs : List Child) (e : Entry) where
-  gives_not : gives seen cs e ≡ false → (cs ≡ taking seen cs e) × (0 ≡ one (gives seen cs e))
-  unfolding taking one
+  gives_not : gives seen cs e ≡ false → (cs ≡ taking seen cs e) × (false ≡ gives seen cs e)
+  unfolding taking
   gives_not h = (rw h, rw h)
 
-  pub not_visible : seen e.parent ≡ false → (cs ≡ taking seen cs e) × (0 ≡ one (gives seen cs e))
+  pub not_visible : seen e.parent ≡ false → (cs ≡ taking seen cs e) × (false ≡ gives seen cs e)
   unfolding gives
   not_visible h = gives_not (rw h)
 
-  pub no_fid : is_none e.fid ≡ true → (cs ≡ taking seen cs e) × (0 ≡ one (gives seen cs e))
+  pub no_fid : is_none e.fid ≡ true → (cs ≡ taking seen cs e) × (false ≡ gives seen cs e)
   unfolding gives
   no_fid h = gives_not (go (seen e.parent))
     where
@@ -38,7 +38,7 @@ module _ (seen : MdtFid → Bool) (cs : List Child) (e : Entry) where
       go true = rw h
       go false = refl
 
-  pub has_self_lem : is_none (child_of cs e).self ≡ false → (cs ≡ taking seen cs e) × (0 ≡ one (gives seen cs e))
+  pub has_self_lem : is_none (child_of cs e).self ≡ false → (cs ≡ taking seen cs e) × (false ≡ gives seen cs e)
   unfolding gives
   has_self_lem h = gives_not (go (seen e.parent && not (is_none e.fid)))
     where
@@ -47,8 +47,8 @@ module _ (seen : MdtFid → Bool) (cs : List Child) (e : Entry) where
       go false = refl
 
   pub takes : seen e.parent ≡ true → is_none e.fid ≡ false → is_none (child_of cs e).self ≡ true →
-      (set cs e.child (with_self (child_of cs e) e.fid) ≡ taking seen cs e) × (1 ≡ one (gives seen cs e))
-  unfolding taking gives one
+      (set cs e.child (with_self (child_of cs e) e.fid) ≡ taking seen cs e) × (true ≡ gives seen cs e)
+  unfolding taking gives
   takes h k m = (rw (h, k, m), rw (h, k, m))
 
 -- the child of entry i, by its row

@@ -3,38 +3,38 @@ ghost use Rattle.std.specs.Prelude.{◌≡◌, Bool, ◌/◌, ◌≤◌, ◌<◌
 ghost use Rattle.fid.specs.declared.MdtFid.{MdtFid};
 ghost use Rattle.names.specs.Rows.{entry_size, parse_entries, parse_children};
 ghost use Rattle.names.specs.Check.{SoundNames};
-ghost use Rattle.names.specs.Sweeps.{one, gives, taking, sweep1, taken};
+ghost use Rattle.names.specs.Sweeps.{gives, taking, sweep1, taken};
 ghost use Rattle.names_check.specs.Asked.{entry_at};
 ghost use Rattle.names_store.specs.Notes.{note_of, Noted};
 
 use names::rows;
 use names::rows::{CHILD_SIZE, ENTRY_SIZE};
 
-// What entry i gives its child, and whether it gave: 1 or 0.
-fn take_self(entries: &[u8], children: &mut [u8], notes: &[u8], i: usize) -> usize
+// What entry i gives its child, and whether it gave.
+fn take_self(entries: &[u8], children: &mut [u8], notes: &[u8], i: usize) -> bool
     requires { SoundNames entries.now children.old × (i < length entries.now / entry_size) × (length entries.now / entry_size ≤ length notes.now) }
-    ensures { (result ≤ 1) × SoundNames entries.now children.new
+    ensures { SoundNames entries.now children.new
         × ((seen : MdtFid → Bool) → get_or notes.now i 0 ≡ note_of seen (entry_at entries.now i) →
         (parse_children children.new ≡ taking seen (parse_children children.old) (entry_at entries.now i))
-        × (result ≡ one (gives seen (parse_children children.old) (entry_at entries.now i)))) }
+        × (result ≡ gives seen (parse_children children.old) (entry_at entries.now i))) }
 {
     if notes[i] == 0 {
-        return 0;
+        return false;
     }
     let row = tables::rows::row_at(entries, ENTRY_SIZE, i);
     let f = rows::fid_of(row);
     if rows::is_none(f) {
-        return 0;
+        return false;
     }
     let r = rows::child_of(row) as usize;
     let child = tables::rows::row_at(children, CHILD_SIZE, r);
     if !rows::is_none(rows::self_of(child)) {
-        return 0;
+        return false;
     }
     let a = CHILD_SIZE * r;
     let e = a + CHILD_SIZE;
     rows::put_self(&mut children[a..e], f);
-    1
+    true
 }
 
 // The sweep over tables that pass the check, and how many self FIDs were taken, under every visibility that the notes are of.
@@ -48,7 +48,7 @@ pub fn take_selves(entries: &[u8], children: &mut [u8], notes: &[u8]) -> usize
     let count = entries.len() / ENTRY_SIZE;
     let mut n = 0usize;
     for i in 0..count {
-        n = n + take_self(entries, children, notes, i);
+        n += usize::from(take_self(entries, children, notes, i));
     }
     n
 }

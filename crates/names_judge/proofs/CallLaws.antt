@@ -1,5 +1,9 @@
 -- The judging as lent, its refusals in their order. Assumes nothing.
-use mathlib.Core.Path.{◌≡◌, sym, ap, ap₂, ◌∙◌}
+use mathlib.Core.Path.{◌≡◌, refl, sym, ap, ap₂, ◌∙◌}
+use Rattle.std.specs.Prelude.{Result, Ok, Err, ⊤}
+use Rattle.refusals.specs.Numbers.{number, answer}
+use Rattle.refusals.specs.declared.Refusal.{Refusal}
+use Rattle.refusals.specs.declared.Refusal.TheVariants.{LongClimb}
 use mathlib.Core.Bool.{Bool, true, false, cond, not, ◌&&◌}
 use mathlib.Core.List.{List, [], ◌∷◌}
 use Prim.Native.Nat.{ℕ, ◌+◌, ◌*◌, ◌/◌, ◌≤◌}
@@ -16,7 +20,7 @@ use Rattle.names.specs.Check.{names_number}
 use Rattle.names.specs.Visible.{max_levels, too_long, judged}
 use Rattle.names.specs.Calls.{index_places, roomy, judge_tests, judge_number, judge_marks}
 use Rattle.names.proofs.SoundLaws.{entries_many, children_many}
-use Rattle.names_check.proofs.CallLaws.{names_refused, names_accepted}
+use Rattle.names_check.proofs.CallLaws.{names_refused, names_accepted, refused_not}
 
 -- ## Places
 
@@ -28,14 +32,11 @@ module _ (e c index room : List ℕ) (m : ℕ) where
   abbrev pub places_there : Bool
   places_there = roomy e c index && roomy e c room && leb (length (child_rows c)) m
 
-  pub no_index : roomy e c index ≡ false → false ≡ places_there
-  no_index h = rw h
+  pub no_rooms : false ≡ (roomy e c index && roomy e c room) → false ≡ places_there
+  no_rooms h = rw (← h)
 
-  pub no_room : roomy e c index ≡ true → roomy e c room ≡ false → false ≡ places_there
-  no_room h k = rw (h, k)
-
-  pub their_marks : roomy e c index ≡ true → roomy e c room ≡ true → leb (length c / child_size) m ≡ places_there
-  their_marks h k = rw (h, k) (ap (λ (n : ℕ). leb n m) (sym (children_many c)))
+  pub their_marks : true ≡ (roomy e c index && roomy e c room) → leb (length c / child_size) m ≡ places_there
+  their_marks h = rw (← h) (ap (λ (n : ℕ). leb n m) (sym (children_many c)))
 
   pub record Places : Type 0 where
     pub index_long : place_size * (length c / child_size) ≤ length index
@@ -57,50 +58,44 @@ module _ (e c index room : List ℕ) (m : ℕ) where
 
 -- ## The answer and the marks
 
-module _ (e c index room marks : List ℕ) (n : ℕ) (p : n ≡ names_number e c) where
+module _ (e c index room marks : List ℕ) where
   marks_stay : (m : ℕ) → m ≡ judge_number e c index room marks → (m ≡ 0 → ⊥) → marks ≡ judge_marks e c index room marks
   unfolding judge_marks
   marks_stay m q h = rw (← q, ne_eqb m 0 h)
 
-  pub judge_refused : (n ≡ 0 → ⊥) → (n ≡ judge_number e c index room marks) × (marks ≡ judge_marks e c index room marks)
+  pub judge_refused : (x : Refusal) → number x ≡ names_number e c → (number x ≡ judge_number e c index room marks) × (marks ≡ judge_marks e c index room marks)
   unfolding judge_number judge_tests
-  judge_refused h =
-      let q : n ≡ judge_number e c index room marks =
-      names_refused e c n (test 17 (places_there e c index room (length marks)) ∷ test 39 (not (too_long max_levels (parse_children c))) ∷ []) p h in
-      (q, marks_stay n q h)
+  judge_refused x p =
+      let q : number x ≡ judge_number e c index room marks =
+      names_refused e c (test 17 (places_there e c index room (length marks)) ∷ test 39 (not (too_long max_levels (parse_children c))) ∷ []) x p in
+      (q, marks_stay (number x) q (refused_not x))
 
-  module _ (z : n ≡ 0) where
+  module _ (z : 0 ≡ names_number e c) where
     then : judge_number e c index room marks
         ≡ first_failing (test 17 (places_there e c index room (length marks)) ∷ test 39 (not (too_long max_levels (parse_children c))) ∷ [])
     unfolding judge_number judge_tests
-    then = names_accepted e c n (test 17 (places_there e c index room (length marks)) ∷ test 39 (not (too_long max_levels (parse_children c))) ∷ []) p z
+    then = names_accepted e c (test 17 (places_there e c index room (length marks)) ∷ test 39 (not (too_long max_levels (parse_children c))) ∷ []) z
 
     pub judge_short : places_there e c index room (length marks) ≡ false →
         (17 ≡ judge_number e c index room marks) × (marks ≡ judge_marks e c index room marks)
     unfolding first_failing
     judge_short t = let q : 17 ≡ judge_number e c index room marks = sym (then ∙ rw t) in (q, marks_stay 17 q (λ x. omega arith))
 
-    module _ (t : places_there e c index room (length marks) ≡ true) (b : Bool) (new : List ℕ) (s : b ≡ not (too_long max_levels (parse_children c)))
+    module _ (t : places_there e c index room (length marks) ≡ true) (r : Result ⊤ Refusal) (new : List ℕ)
+        (s : r ≡ cond (too_long max_levels (parse_children c)) (Err LongClimb) (Ok tt))
         (w : new ≡ cond (too_long max_levels (parse_children c)) marks (sets marks 0 (judged max_levels (parse_children c)))) where
-      long_is : (x : Bool) → b ≡ x → too_long max_levels (parse_children c) ≡ not x
-      long_is x y = go (too_long max_levels (parse_children c)) x (sym s ∙ y)
-        where
-          go : (l x : Bool) → not l ≡ x → l ≡ not x
-          go true x h = ap not h
-          go false x h = ap not h
-
-      pub judge_long : b ≡ false → (39 ≡ judge_number e c index room marks) × (new ≡ judge_marks e c index room marks)
-      unfolding first_failing
-      judge_long h =
-          let l : too_long max_levels (parse_children c) ≡ true = long_is false h in
-          let q : 39 ≡ judge_number e c index room marks = sym (then ∙ rw (t, l)) in
-          let v : new ≡ marks = rw l at w in
-          (q, v ∙ marks_stay 39 q (λ x. omega arith))
-
-      pub judge_done : b ≡ true → (0 ≡ judge_number e c index room marks) × (new ≡ judge_marks e c index room marks)
+      pub judge_done : (answer r ≡ judge_number e c index room marks) × (new ≡ judge_marks e c index room marks)
       unfolding first_failing judge_marks
-      judge_done h =
-          let l : too_long max_levels (parse_children c) ≡ false = long_is true h in
-          let q : 0 ≡ judge_number e c index room marks = sym (then ∙ rw (t, l)) in
-          let v : new ≡ sets marks 0 (judged max_levels (parse_children c)) = rw l at w in
-          (q, rw (← q) v)
+      judge_done = go (too_long max_levels (parse_children c)) refl
+        where
+          go : (l : Bool) → too_long max_levels (parse_children c) ≡ l → (answer r ≡ judge_number e c index room marks) × (new ≡ judge_marks e c index room marks)
+          go true l =
+              let a : answer r ≡ 39 = ap answer (rw l at s) in
+              let q : 39 ≡ judge_number e c index room marks = sym (then ∙ rw (t, l)) in
+              let v : new ≡ marks = rw l at w in
+              (a ∙ q, v ∙ marks_stay 39 q (λ x. omega arith))
+          go false l =
+              let a : answer r ≡ 0 = ap answer (rw l at s) in
+              let q : 0 ≡ judge_number e c index room marks = sym (then ∙ rw (t, l)) in
+              let v : new ≡ sets marks 0 (judged max_levels (parse_children c)) = rw l at w in
+              (a ∙ q, rw (← q) v)

@@ -1,4 +1,5 @@
 -- The directory of a FID is what the index of the child rows finds. Assumes nothing.
+use Rattle.std.specs.Prelude.{None}
 use mathlib.Core.Path.{◌≡◌, refl, sym, ap, ◌∙◌}
 use mathlib.Core.Bool.{Bool, true, false, cond, ◌&&◌, and-false}
 use mathlib.Core.List.{List, [], ◌∷◌, ◌++◌, map, append-nil}
@@ -16,7 +17,6 @@ use Rattle.fid.specs.declared.MdtFid.{MdtFid}
 use Rattle.fid.proofs.SameLaws.{same_is}
 use Rattle.index.specs.Entries.{place_size, value_range, entries, number, sorted}
 use Rattle.index.specs.Search.{Ordered, lowest_of, key_of, numbers_of, listed, is_key, first_with}
-use Rattle.index.specs.declared.Found.TheVariants.{Nothing}
 use Rattle.index.proofs.EntryLaws.{moved, number_key, number_fits}
 use Rattle.index.proofs.OrderLaws.{sorted_ordered}
 use Rattle.index.proofs.RowLaws.{sorted_first}
@@ -56,10 +56,10 @@ first_with_lem f test h (c ∷ cs) r t =
     rw (z, key_and c f h, rest)
 
 row_test : (cs : List Child) (f : MdtFid) (j : ℕ) → j < length cs → is_row cs f (0 + j) ≡ same (get_or cs j no_child).self f
-unfolding child_at
+unfolding is_row child_at
 row_test cs f j h = let z : 0 + j ≡ j = omega arith in rw (z, lt-ltb j (length cs) h)
 
-pub directory_none : (cs : List Child) (f : MdtFid) → is_none f ≡ true → Nothing ≡ directory cs f
+pub directory_none : (cs : List Child) (f : MdtFid) → is_none f ≡ true → None ≡ directory cs f
 unfolding directory
 directory_none cs f h = rw h
 
@@ -137,11 +137,12 @@ listed_ordered cs n s e = rw e (sorted_ordered (child_numbers cs))
 -- row r is there and has the FID, or not
 module _ (c : List ℕ) (f : MdtFid) (r : ℕ) where
   pub row_past : length c / child_size ≤ r → false ≡ is_row (parse_children c) f r
+  unfolding is_row
   row_past h = rw (le-ltb r (length (parse_children c)) (omega (arith, parsed_children c)))
 
   pub row_there : r < length c / child_size → (g : MdtFid) → g ≡ (decode_child (take child_size (drop (child_size * r) c))).self →
       same_fid g.0 f.0 ≡ is_row (parse_children c) f r
-  unfolding same
+  unfolding is_row same
   row_there h g e =
       rw (lt-ltb r (length (parse_children c)) (omega (arith, parsed_children c)))
       (ap (λ (x : MdtFid). same_fid x.0 f.0) (e ∙ ap (λ (x : Child). x.self) (sym (parsed_child c r h))))

@@ -1,6 +1,7 @@
 -- The judging of rows, one by one. Assumes nothing.
+use Rattle.std.specs.Prelude.{Result, Ok, Err, None, Some, ⊤, is_some}
 use mathlib.Core.Path.{◌≡◌, refl, sym, ap, ◌∙◌}
-use mathlib.Core.Bool.{Bool, true, false, cond, not, ◌||◌}
+use mathlib.Core.Bool.{Bool, true, false, cond, not, ◌||◌, true≢false}
 use mathlib.Core.List.{List, [], ◌∷◌, map}
 use Prim.Native.Nat.{ℕ, zero, suc, ◌+◌, ◌≤◌, ◌<◌}
 use native.Mathlib.Nat.{zero-add, not-suc-le-zero}
@@ -13,23 +14,27 @@ use Rattle.fid.specs.declared.MdtFid.{MdtFid}
 use Rattle.names.specs.Rows.{Child, is_none, no_child, child_at}
 use Rattle.names.specs.Findings.{any}
 use Rattle.names.specs.Visible.{is_too_long, climbs_too_long, too_long, no_self_mark, visible_mark, hidden_mark, climb_mark, mark_of, judged}
-use Rattle.names.specs.declared.Climbed.TheVariants.{Hidden, Visible}
-use Rattle.names_judge.specs.Levels.{ended, climbed_of}
-use Rattle.names_judge.specs.declared.Ended.{Ended}
-use Rattle.names_judge.specs.declared.Ended.TheVariants.{Endless, Ends}
+use Rattle.refusals.specs.declared.Refusal.{Refusal}
+use Rattle.refusals.specs.declared.Refusal.TheVariants.{LongClimb}
+use Rattle.names_judge.specs.Levels.{Ended, ended, climbed_of}
 use Rattle.names_judge.proofs.LevelLaws.{ended_climbed}
 
 -- ## How a climb ends, as a mark
 
-pub mark_endless : (e : Ended) → e ≡ Endless → hidden_mark ≡ climb_mark (climbed_of e)
+pub mark_endless : (e : Ended) → e ≡ None → hidden_mark ≡ climb_mark (climbed_of e)
 unfolding climb_mark climbed_of
 mark_endless e p = rw p
 
-pub long_endless : (e : Ended) → e ≡ Endless → true ≡ is_too_long (climbed_of e)
+-- and whether it is too long
+pub long_is : (b : Bool) (e : Ended) → is_some e ≡ not b → b ≡ is_too_long (climbed_of e)
 unfolding is_too_long climbed_of
-long_endless e p = rw p
+long_is true None h = refl
+long_is false None h = absurd (true≢false (sym h))
+long_is true (Some (d, v)) h = absurd (true≢false h)
+long_is false (Some (d, true)) h = refl
+long_is false (Some (d, false)) h = refl
 
-module _ (e : Ended) (d : ℕ) (v : Bool) (p : e ≡ Ends d v) where
+module _ (e : Ended) (d : ℕ) (v : Bool) (p : e ≡ Some (d, v)) where
   pub mark_seen : v ≡ true → visible_mark ≡ climb_mark (climbed_of e)
   unfolding climb_mark climbed_of
   mark_seen h = rw (p, h)
@@ -37,14 +42,6 @@ module _ (e : Ended) (d : ℕ) (v : Bool) (p : e ≡ Ends d v) where
   pub mark_hidden : v ≡ false → hidden_mark ≡ climb_mark (climbed_of e)
   unfolding climb_mark climbed_of
   mark_hidden h = rw (p, h)
-
-  pub not_long : false ≡ is_too_long (climbed_of e)
-  unfolding is_too_long climbed_of
-  not_long = rw p (go v)
-    where
-      go : (b : Bool) → false ≡ is_too_long (cond b Visible Hidden)
-      go true = refl
-      go false = refl
 
 -- ## A row, by its self FID
 
@@ -117,8 +114,8 @@ module _ (levels : ℕ) (cs : List Child) where
 -- ## The whole
 
 module _ (t : Bool) (marks x : List ℕ) where
-  pub judged_long : t ≡ true → (false ≡ not t) × (marks ≡ cond t marks x)
+  pub judged_long : t ≡ true → (◌≡◌ {A = Result ⊤ Refusal} (Err LongClimb) (cond t (Err LongClimb) (Ok tt))) × (marks ≡ cond t marks x)
   judged_long h = (rw h, rw h)
 
-  pub judged_all : (new : List ℕ) → t ≡ false → new ≡ x → (true ≡ not t) × (new ≡ cond t marks x)
+  pub judged_all : (new : List ℕ) → t ≡ false → new ≡ x → (◌≡◌ {A = Result ⊤ Refusal} (Ok tt) (cond t (Err LongClimb) (Ok tt))) × (new ≡ cond t marks x)
   judged_all new h e = (rw h, rw h e)

@@ -1,5 +1,6 @@
 // The judging of the tables as lent: the check first, then the places, then the climbs.
 ghost use Rattle.std.specs.Prelude.{◌≡◌, ◌&&◌, length, leb};
+ghost use Rattle.refusals.specs.Numbers.{answer};
 ghost use Rattle.names.specs.Check.{SoundNames};
 ghost use Rattle.names.specs.Rows.{child_rows};
 ghost use Rattle.names.specs.Calls.{roomy, judge_number, judge_marks};
@@ -8,9 +9,7 @@ use super::judge;
 use index::PLACE_SIZE;
 use names::rows::{CHILD_SIZE, ENTRY_SIZE};
 use names_check::check;
-
-// The answer where a climb is too long or circular.
-pub const LONG_CLIMB: u32 = 39;
+use refusals::Refusal;
 
 // Whether a lent room has a place for each row of both tables that pass the check.
 pub fn has_room(entries: &[u8], children: &[u8], room: &[u8]) -> bool
@@ -21,18 +20,20 @@ pub fn has_room(entries: &[u8], children: &[u8], room: &[u8]) -> bool
     PLACE_SIZE * places <= room.len()
 }
 
+// Whether index and room have a place for each row of both tables that pass the check.
+pub fn has_rooms(entries: &[u8], children: &[u8], index: &[u8], room: &[u8]) -> bool
+    requires { SoundNames entries.now children.now }
+    ensures { result ≡ (roomy entries.now children.now index.now && roomy entries.now children.now room.now) }
+{
+    has_room(entries, children, index) && has_room(entries, children, room)
+}
+
 // Whether index, room and marks have their places.
 fn has_places(entries: &[u8], children: &[u8], index: &[u8], room: &[u8], marks: usize) -> bool
     requires { SoundNames entries.now children.now }
     ensures { result ≡ (roomy entries.now children.now index.now && roomy entries.now children.now room.now && leb (length (child_rows children.now)) marks) }
 {
-    if !has_room(entries, children, index) {
-        return false;
-    }
-    if !has_room(entries, children, room) {
-        return false;
-    }
-    children.len() / CHILD_SIZE <= marks
+    has_rooms(entries, children, index, room) && children.len() / CHILD_SIZE <= marks
 }
 
 // Writes the marks: 11, 16, 31, then 17 for the places, then 39. Index and room are lent to work in.
@@ -42,20 +43,14 @@ pub fn judge(
     index: &mut [u8],
     room: &mut [u8],
     marks: &mut [u64],
-) -> u32
-    ensures answer { result ≡ judge_number entries.now children.now index.old room.old marks.old }
+) -> Result<(), Refusal>
+    ensures answer { answer result ≡ judge_number entries.now children.now index.old room.old marks.old }
     ensures marked { marks.new ≡ judge_marks entries.now children.now index.old room.old marks.old }
 {
-    let refused = check::check(entries, children);
-    if refused != 0 {
-        return refused;
-    }
+    check::check(entries, children)?;
     let count = marks.len();
     if !has_places(entries, children, index, room, count) {
-        return 17;
+        return Err(Refusal::TooShort);
     }
-    if !judge::judge_rows(children, index, room, marks) {
-        return LONG_CLIMB;
-    }
-    0
+    judge::judge_rows(children, index, room, marks)
 }

@@ -1,18 +1,16 @@
 // The climb from a directory by `..`, with what was found of each directory noted in the lent room.
-ghost use Rattle.std.specs.Prelude.{◌≡◌, ◌+◌, ◌*◌, ◌/◌, ◌≤◌, ◌<◌, length};
+ghost use Rattle.std.specs.Prelude.{◌≡◌, ◌+◌, ◌*◌, ◌/◌, ◌≤◌, ◌<◌, length, Some};
 ghost use Rattle.index.specs.Entries.{place_size};
 ghost use Rattle.names.specs.Rows.{child_size, parse_children};
 ghost use Rattle.names.specs.Visible.{is_root, max_levels};
 ghost use Rattle.names_judge.specs.Listed.{Indexed};
-ghost use Rattle.names_judge.specs.Levels.{ended, Noted, one_more, within, ended_of, Few, look_row, look, noted, visible_bit};
-ghost use Rattle.names_judge.specs.declared.Ended.TheVariants.{Ends};
+ghost use Rattle.names_judge.specs.Levels.{ended, Noted, one_more, within, ended_of, Few, look_row, look, noted};
 
 use super::{Ended, Looked, listing};
 use fid::{Fid, MdtFid};
-use index::{Found, PLACE_SIZE};
+use index::PLACE_SIZE;
 use names::rows;
 use names::rows::CHILD_SIZE;
-use wire::Little;
 
 // The levels that a climb may take.
 pub const MAX_LEVELS: u32 = 4096;
@@ -28,7 +26,7 @@ pub fn is_root(f: MdtFid) -> bool
         oid: 1,
         ver: 0,
     };
-    f == MdtFid(root)
+    fid::same_mdt(f, MdtFid(root))
 }
 
 // The end that a note tells.
@@ -37,22 +35,18 @@ fn told(note: u32) -> Ended
     ensures { result ≡ ended_of note }
 {
     let m = note - 1;
-    Ended::Ends(m / 2, m % 2 == 1)
+    Some((m / 2, m % 2 == 1))
 }
 
 // An end, where the levels that are left allow it.
 fn allowed(e: Ended, left: u32) -> Ended
     ensures { result ≡ within left e }
 {
-    match e {
-        Ended::Endless => Ended::Endless,
-        Ended::Ends(d, v) => {
-            if left < d {
-                return Ended::Endless;
-            }
-            Ended::Ends(d, v)
-        }
+    let (levels, _) = e?;
+    if left < levels {
+        return None;
     }
+    e
 }
 
 // What is seen at a row: its note, or else what it says.
@@ -61,17 +55,17 @@ fn look_row(children: &[u8], room: &[u8], r: u32) -> Looked
     ensures { result ≡ look_row (parse_children children.now) room.now r }
 {
     let k = r as usize;
-    let note = wire::get::<u32, Little>(room, PLACE_SIZE * k);
+    let note = wire::le32(room, PLACE_SIZE * k);
     if note != 0 {
         return Looked::Told(told(note));
     }
     let row = tables::rows::row_at(children, CHILD_SIZE, k);
     if rows::link_len(row) != 0 {
-        return Looked::Told(Ended::Ends(0, true));
+        return Looked::Told(Some((0, true)));
     }
     let up = rows::up_of(row);
     if rows::is_none(up) {
-        return Looked::Told(Ended::Ends(0, false));
+        return Looked::Told(Some((0, false)));
     }
     Looked::Above(r, up)
 }
@@ -82,32 +76,21 @@ fn look_at(children: &[u8], index: &[u8], n: usize, room: &[u8], f: MdtFid) -> L
     ensures { result ≡ look (parse_children children.now) room.now f }
 {
     if is_root(f) {
-        return Looked::Told(Ended::Ends(0, true));
+        return Looked::Told(Some((0, true)));
     }
     match listing::find(children, index, n, f) {
-        Found::Nothing => Looked::Told(Ended::Ends(0, false)),
-        Found::Value(r) => look_row(children, room, r),
+        None => Looked::Told(Some((0, false))),
+        Some(r) => look_row(children, room, r),
     }
-}
-
-// A bit of a note: whether the directory is visible.
-fn visible_bit(v: bool) -> u32
-    ensures { result ≡ visible_bit v }
-{
-    if v {
-        return 1;
-    }
-    0
 }
 
 // Notes of row r how its climb ends.
 fn put_note(room: &mut [u8], r: u32, d: u32, v: bool)
     requires { (place_size * r + place_size ≤ length room.old) × (d ≤ max_levels + 1) }
-    ensures { room.new ≡ noted r (Ends d v) room.old }
+    ensures { room.new ≡ noted r (Some (d, v)) room.old }
 {
     let k = r as usize;
-    let bit = visible_bit(v);
-    wire::put::<u32, Little>(room, PLACE_SIZE * k, 1 + 2 * d + bit);
+    wire::put_le32(room, PLACE_SIZE * k, 1 + 2 * d + u32::from(v));
 }
 
 // Notes of row r that its climb takes a level more than the one above.
@@ -115,13 +98,9 @@ fn note_row(room: &mut [u8], r: u32, above: Ended) -> Ended
     requires { (place_size * r + place_size ≤ length room.old) × Few max_levels above }
     ensures { (result ≡ one_more above) × (room.new ≡ noted r (one_more above) room.old) }
 {
-    match above {
-        Ended::Endless => Ended::Endless,
-        Ended::Ends(d, v) => {
-            put_note(room, r, d + 1, v);
-            Ended::Ends(d + 1, v)
-        }
-    }
+    let (levels, seen) = above?;
+    put_note(room, r, levels + 1, seen);
+    Some((levels + 1, seen))
 }
 
 // How the climb from a directory ends within the levels that are left: at the directory, or a level above it.
@@ -140,7 +119,7 @@ pub fn climb(
         Looked::Told(e) => allowed(e, left),
         Looked::Above(r, up) => {
             if left == 0 {
-                return Ended::Endless;
+                return None;
             }
             let above = climb(children, index, n, room, up, left - 1);
             note_row(room, r, above)

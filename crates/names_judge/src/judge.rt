@@ -1,10 +1,11 @@
 // The judging of the child rows: whether a climb is too long, and the mark of each row.
-ghost use Rattle.std.specs.Prelude.{◌≡◌, cond, not, ◌*◌, ◌/◌, ◌≤◌, ◌<◌, length};
+ghost use Rattle.std.specs.Prelude.{◌≡◌, cond, Ok, Err, ◌*◌, ◌/◌, ◌≤◌, ◌<◌, length};
 ghost use Rattle.std.proofs.lemmas.List.Edits.{sets};
+ghost use Rattle.refusals.specs.declared.Refusal.TheVariants.{LongClimb};
 ghost use Rattle.index.specs.Entries.{place_size};
 ghost use Rattle.names.specs.Rows.{child_size, parse_children, child_at};
 ghost use Rattle.names.specs.Check.{max_rows};
-ghost use Rattle.names.specs.Visible.{max_levels, is_too_long, climbs_too_long, too_long, climb_mark, mark_of, judged};
+ghost use Rattle.names.specs.Visible.{max_levels, climbs_too_long, too_long, climb_mark, mark_of, judged};
 ghost use Rattle.names_judge.specs.Listed.{Indexed};
 ghost use Rattle.names_judge.specs.Levels.{climbed_of, Noted, Blank};
 
@@ -13,7 +14,7 @@ use super::{Ended, climb, listing};
 use index::PLACE_SIZE;
 use names::rows;
 use names::rows::CHILD_SIZE;
-use wire::Little;
+use refusals::Refusal;
 
 // The mark of a hidden directory, of a visible one, and of a row without self FID.
 pub const HIDDEN: u64 = 0;
@@ -28,16 +29,7 @@ fn clear(room: &mut [u8], count: usize)
     ensures { Blank count room.new }
 {
     for r in 0..count {
-        wire::put::<u32, Little>(room, PLACE_SIZE * r, 0);
-    }
-}
-
-fn is_endless(e: Ended) -> bool
-    ensures { result ≡ is_too_long (climbed_of e) }
-{
-    match e {
-        Ended::Endless => true,
-        Ended::Ends(_, _) => false,
+        wire::put_le32(room, PLACE_SIZE * r, 0);
     }
 }
 
@@ -46,13 +38,9 @@ fn end_mark(e: Ended) -> u64
     ensures { result ≡ climb_mark (climbed_of e) }
 {
     match e {
-        Ended::Endless => HIDDEN,
-        Ended::Ends(_, v) => {
-            if v {
-                return VISIBLE;
-            }
-            HIDDEN
-        }
+        Some((_, true)) => VISIBLE,
+        Some((_, false)) => HIDDEN,
+        None => HIDDEN,
     }
 }
 
@@ -65,7 +53,7 @@ fn row_too_long(children: &[u8], index: &[u8], n: usize, room: &mut [u8], r: usi
     if rows::is_none(name) {
         return false;
     }
-    is_endless(climb::climb(children, index, n, room, name, MAX_LEVELS))
+    climb::climb(children, index, n, room, name, MAX_LEVELS).is_none()
 }
 
 // The mark of row r.
@@ -81,6 +69,7 @@ fn row_mark(children: &[u8], index: &[u8], n: usize, room: &mut [u8], r: usize) 
 }
 
 // Whether the climb of a row is too long.
+// A loop: each climb reads the notes that the ones before it wrote in the room.
 fn some_too_long(children: &[u8], index: &[u8], n: usize, room: &mut [u8]) -> bool
     requires { Indexed children.now index.now n × (place_size * (length children.now / child_size) ≤ length room.old) × Noted (parse_children children.now) room.old }
     ensures { (result ≡ too_long max_levels (parse_children children.now)) × Noted (parse_children children.now) room.new }
@@ -106,16 +95,21 @@ fn put_marks(children: &[u8], index: &[u8], n: usize, room: &mut [u8], marks: &m
 }
 
 // Judges the child rows: the marks are written, unless a climb is too long. Index and room are lent to work in.
-pub fn judge_rows(children: &[u8], index: &mut [u8], room: &mut [u8], marks: &mut [u64]) -> bool
+pub fn judge_rows(
+    children: &[u8],
+    index: &mut [u8],
+    room: &mut [u8],
+    marks: &mut [u64],
+) -> Result<(), Refusal>
     requires { (length children.now / child_size ≤ max_rows) × (place_size * (length children.now / child_size) ≤ length index.old) × (place_size * (length children.now / child_size) ≤ length room.old) × (length children.now / child_size ≤ length marks.old) }
-    ensures { (result ≡ not (too_long max_levels (parse_children children.now))) × (marks.new ≡ cond (too_long max_levels (parse_children children.now)) marks.old (sets marks.old 0 (judged max_levels (parse_children children.now)))) }
+    ensures { (result ≡ cond (too_long max_levels (parse_children children.now)) (Err LongClimb) (Ok tt)) × (marks.new ≡ cond (too_long max_levels (parse_children children.now)) marks.old (sets marks.old 0 (judged max_levels (parse_children children.now)))) }
 {
     let count = children.len() / CHILD_SIZE;
     let n = listing::index_rows(children, index, room);
     clear(room, count);
     if some_too_long(children, index, n, room) {
-        return false;
+        return Err(Refusal::LongClimb);
     }
     put_marks(children, index, n, room, marks);
-    true
+    Ok(())
 }

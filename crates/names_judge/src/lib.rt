@@ -8,12 +8,8 @@ pub mod listing;
 
 use fid::MdtFid;
 
-// How a climb ends: not within its levels, or after some levels, in sight or not.
-#[derive(Clone, Copy)]
-pub enum Ended {
-    Endless,
-    Ends(u32, bool),
-}
+// How a climb ends: None where not within its levels, else after how many levels, and whether in sight.
+pub type Ended = Option<(u32, bool)>;
 
 // What is seen at a directory: how every climb from it ends, or its row and the directory above.
 #[derive(Clone, Copy)]

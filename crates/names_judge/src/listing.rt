@@ -7,7 +7,6 @@ ghost use Rattle.names.specs.Check.{max_rows};
 ghost use Rattle.names_judge.specs.Listed.{child_numbers, is_row, listed_count, listed_bytes, Indexed};
 
 use fid::MdtFid;
-use index::Found;
 use names::rows;
 use names::rows::CHILD_SIZE;
 
@@ -43,33 +42,23 @@ fn is_row(children: &[u8], r: u32, f: MdtFid) -> bool
     ensures { result ≡ is_row (parse_children children.now) f r }
 {
     let k = r as usize;
-    if children.len() / CHILD_SIZE <= k {
-        return false;
-    }
-    rows::self_of(tables::rows::row_at(children, CHILD_SIZE, k)) == f
+    k < children.len() / CHILD_SIZE
+        && fid::same_mdt(
+            rows::self_of(tables::rows::row_at(children, CHILD_SIZE, k)),
+            f,
+        )
 }
 
 // The directory of a FID: the first row with it.
-pub fn find(children: &[u8], index: &[u8], n: usize, f: MdtFid) -> Found
+pub fn find(children: &[u8], index: &[u8], n: usize, f: MdtFid) -> Option<u32>
     requires { (length children.now / child_size ≤ max_rows) × (place_size * n ≤ length index.now) × (entries n index.now ≡ sorted (child_numbers (parse_children children.now))) }
     ensures { result ≡ directory (parse_children children.now) f }
 {
     if rows::is_none(f) {
-        return Found::Nothing;
+        return None;
     }
     let g = f.0;
-    let first = index::first_of(index, n, g.seq, g.oid);
-    for i in first..n {
-        match index::value_at(index, i, g.seq, g.oid) {
-            Found::Nothing => return Found::Nothing,
-            Found::Value(r) => {
-                if is_row(children, r, f) {
-                    return Found::Value(r);
-                }
-            }
-        }
-    }
-    Found::Nothing
+    index::find_by(index, n, g.seq, g.oid, |r| is_row(children, r, f))
 }
 
 // Puts the rows that have a self FID in the index, in order, and tells how many they are. `room` is lent to work in.

@@ -6,11 +6,11 @@ use Prim.Native.Nat.{ℕ, ◌+◌, ◌-◌, ◌≤◌, ◌<◌, ◌^◌}
 use native.Mathlib.Omega.{arith}
 use borrow.Author.Tests.{eq-eqb, ne_eqb, eqb-true, eqb-false, le-leb}
 use lib.Dec.{eqb}
-use lib.ListN.{length, take, drop, set, replicate, length-append, length-drop, length-replicate, take-append-drop, replicate-append-replicate, drop_of_length-le}
+use lib.ListN.{length, take, drop, replicate, length-append, length-drop, length-replicate, take-append-drop, drop_of_length-le}
 use lib.Seq.{sets, sets-eq, length-sets, length-take-le, take-add, take_at, drop_at, drop-drop, drop-append-le, take-append-add}
 use borrow.Rule.Slice.PartMut.{put_mid}
 use Rattle.wire.specs.Numbers.{le, bytes}
-use Rattle.wire.proofs.Splice.{sets_at, sets_whole, put_sets}
+use Rattle.wire.proofs.Splice.{sets_at, sets_whole, put_sets, drop_take_all}
 use Rattle.wire.proofs.NumberLaws.{Bytes, field, bytes_drop, length_bytes, le_small_at}
 use Rattle.wire.proofs.OrderLaws.{le_front}
 use Rattle.fid.specs.Fid.{fid_size, id_at, version_at, decode_fid}
@@ -28,32 +28,6 @@ use Rattle.names.proofs.BackLaws.{link_room_lem, link_accepted, link_length_lem,
 use Rattle.names_links.specs.Room.{closed}
 
 -- ## Zeros from a place on
-
--- up to i
-pub zeroed : List ℕ → ℕ → ℕ → List ℕ
-zeroed l at i = sets l at (replicate (i - at) 0)
-
-module _ (l : List ℕ) (at : ℕ) where
-  pub zeroed_none : l ≡ zeroed l at at
-  unfolding zeroed
-  zeroed_none = let z : at - at ≡ 0 = omega arith in rw z
-
-  pub zeroed_next : (i : ℕ) (x : List ℕ) → at ≤ i → x ≡ zeroed l at i → set x i 0 ≡ zeroed l at (i + 1)
-  unfolding zeroed
-  zeroed_next i x h e =
-      let z : i + 1 - at ≡ i - at + 1 = omega arith in
-      let y : at + (i - at) ≡ i = omega arith in
-      let s : set (sets l at (replicate (i - at) 0)) i 0 ≡ sets l at (replicate (i - at) 0 ++ (0 ∷ [])) =
-      rw y at (sets_at (replicate (i - at) 0) (0 ∷ []) l at (i - at) (length-replicate (i - at) 0)) in
-      rw (e, z, ← replicate-append-replicate {A = ℕ} (i - at) 1 0) s
-
-  pub zeroed_length : (i : ℕ) (x : List ℕ) → x ≡ zeroed l at i → length x ≡ length l
-  unfolding zeroed
-  zeroed_length i x e = ap length e ∙ length-sets l at (replicate (i - at) 0)
-
-  pub zeroed_all : (i : ℕ) (x : List ℕ) → x ≡ zeroed l at i → i ≡ length l → x ≡ sets l at (replicate (length l - at) 0)
-  unfolding zeroed
-  zeroed_all i x e h = rw (← h) e
 
 -- ## The stores around the records
 
@@ -350,3 +324,11 @@ pub stored_after : (d ls x : List ℕ) → take (length ls) d ≡ ls → length 
     take (length (ls ++ x)) (sets d (length ls) x) ≡ ls ++ x
 stored_after d ls x e h =
     rw (sets-eq x d (length ls) h, e) (take_at (ls ++ x) (drop (length ls + length x) d) (length (ls ++ x)) refl)
+
+-- the bytes from a place on filled with zeros
+pub zero_done : (l ys : List ℕ) (at : ℕ) → at ≤ length l → ys ≡ replicate (length (take (length l - at) (drop at l))) 0 →
+    put_mid at (length l - at) l ys ≡ sets l at (replicate (length l - at) 0)
+zero_done l ys at h e =
+    let n : length (take (length l - at) (drop at l)) ≡ length l - at = ap length (drop_take_all at l) ∙ length-drop at l in
+    let f : ys ≡ replicate (length l - at) 0 = rw n at e in
+    rw f (put_sets at (length l) l (replicate (length l - at) 0) (omega (arith, length-replicate {A = ℕ} (length l - at) 0)) (omega arith))

@@ -12,13 +12,12 @@ use super::room;
 use linkea::{LINK_HEADER, LinkHeader};
 use names::rows;
 use names::rows::{LINK_ROOM, LINK_ROOM_AT};
-use wire::Big;
 
 // The flag of a record that stays.
 const STAYS: u8 = 1;
 
 // How many records were kept, and where in the row the next one goes.
-#[derive(Clone, Copy)]
+#[derive(Clone, Copy, Debug, PartialEq, Eq)]
 pub struct Packed {
     pub count: u32,
     pub to: usize,
@@ -41,6 +40,7 @@ fn keep_one(row: &mut [u8], p: Packed, bytes: &[u8], flag: u8) -> Packed
 }
 
 // Puts the records of a linkEA whose flag says that they stay in the row, behind the place of the header.
+// A loop: the place of the next record comes from the one read, so no iterator gives it.
 fn keep_all(row: &mut [u8], old: &[u8], flags: &[u8]) -> Packed
     requires { (length row.old ≡ child_size) × (refused_link old.now ≡ false) × (length old.now ≤ link_room) × (length (decode_link_ea old.now).links ≤ length flags.now) }
     ensures { PackedIn row.old row.new result (kept_by flags.now (decode_link_ea old.now).links) }
@@ -52,10 +52,10 @@ fn keep_all(row: &mut [u8], old: &[u8], flags: &[u8]) -> Packed
     let mut at = LINK_HEADER;
     let mut k = 0usize;
     while at < old.len() {
-        let end = at + wire::get::<u16, Big>(old, at) as usize;
+        let end = at + wire::be16(old, at) as usize;
         p = keep_one(row, p, &old[at..end], flags[k]);
         at = end;
-        k = k + 1;
+        k += 1;
     }
     p
 }
@@ -73,8 +73,7 @@ pub fn keep_flagged(row: &mut [u8], flags: &[u8])
     let g = LinkHeader {
         count: p.count,
         total: (p.to - LINK_ROOM_AT) as u64,
-        time: h.time,
-        padding: h.padding,
+        ..h
     };
     room::close_link(row, g);
 }

@@ -1,4 +1,5 @@
 -- The directories under marks: their rows, and what is visible. Assumes nothing.
+use Rattle.std.specs.Prelude.{Option, None, Some}
 use mathlib.Core.Path.{◌≡◌, refl, sym, ap, ◌∙◌}
 use mathlib.Core.Bool.{Bool, true, false, cond, not, ◌&&◌}
 use mathlib.Core.List.{List, [], ◌∷◌}
@@ -12,8 +13,6 @@ use Rattle.fid.specs.Fid.{same_fid, zero_fid}
 use Rattle.fid.specs.declared.Fid.{Fid}
 use Rattle.fid.specs.declared.MdtFid.{MdtFid}
 use Rattle.fid.proofs.SameLaws.{same_is, same_self}
-use Rattle.index.specs.declared.Found.{Found}
-use Rattle.index.specs.declared.Found.TheVariants.{Nothing, Value}
 use Rattle.names.specs.Rows.{Child, child_size, is_none, with_self, no_child, child_at, decode_child, parse_children}
 use Rattle.names.specs.Findings.{same}
 use Rattle.names.specs.Visible.{no_self_mark, visible_mark, is_root, first_row, directory, first_marked, seen_by}
@@ -65,11 +64,12 @@ module _ (c ms : List ℕ) (h : length ms ≡ length c / child_size) where
 
   module _ (f : MdtFid) (r : ℕ) where
     pub mark_past : length c / child_size ≤ r → false ≡ is_row (directories ms (parse_children c)) f r
+    unfolding is_row
     mark_past k = rw (le-ltb r (length (directories ms (parse_children c))) (omega (arith, directories_many)))
 
     pub mark_there : r < length c / child_size → (g : MdtFid) → g ≡ (child_at (directories ms (parse_children c)) r).self →
         same_fid g.0 f.0 ≡ is_row (directories ms (parse_children c)) f r
-    unfolding same
+    unfolding is_row same
     mark_there k g e =
         rw (lt-ltb r (length (directories ms (parse_children c))) (omega (arith, directories_many))) (ap (λ (x : MdtFid). same_fid x.0 f.0) e)
 
@@ -92,10 +92,10 @@ under_same m g f h = go (ltb m no_self_mark)
     go true = refl
     go false = zero_not f h
 
-later : (r m : ℕ) (ms : List ℕ) (f : MdtFid) (ds : List Child) (x : Found) → first_row f ds (suc r) ≡ x → visible_from r (m ∷ ms) x ≡ visible_from (suc r) ms x
+later : (r m : ℕ) (ms : List ℕ) (f : MdtFid) (ds : List Child) (x : Option ℕ) → first_row f ds (suc r) ≡ x → visible_from r (m ∷ ms) x ≡ visible_from (suc r) ms x
 unfolding visible_from
-later r m ms f ds Nothing e = refl
-later r m ms f ds (Value k) e =
+later r m ms f ds None e = refl
+later r m ms f ds (Some k) e =
     let h = first_is f ds (suc r) k e in
     let z : k - r ≡ suc (k - suc r) = omega (arith, h.0) in
     rw z
@@ -109,7 +109,7 @@ first_marked_lem f h (m ∷ ms) (c ∷ cs) r =
     rw (under_same m c.self f h) (go (ltb m no_self_mark && same c.self f) (first_marked_lem f h ms cs (suc r)))
   where
     go : (b : Bool) → visible_from (suc r) ms (first_row f (directories ms cs) (suc r)) ≡ first_marked f ms cs →
-        visible_from r (m ∷ ms) (cond b (Value r) (first_row f (directories ms cs) (suc r))) ≡ cond b (eqb m visible_mark) (first_marked f ms cs)
+        visible_from r (m ∷ ms) (cond b (Some r) (first_row f (directories ms cs) (suc r))) ≡ cond b (eqb m visible_mark) (first_marked f ms cs)
     go true i = let z : r - r ≡ 0 = omega arith in rw z
     go false i = later r m ms f (directories ms cs) (first_row f (directories ms cs) (suc r)) refl ∙ i
 
@@ -118,24 +118,24 @@ module _ (marks : List ℕ) (cs : List Child) (f : MdtFid) where
   unfolding seen_by
   seen_root h = rw h
 
-  pub seen_found : is_root f ≡ false → (x : Found) → x ≡ directory (directories marks cs) f → visible_from 0 marks x ≡ seen_by marks cs f
+  pub seen_found : is_root f ≡ false → (x : Option ℕ) → x ≡ directory (directories marks cs) f → visible_from 0 marks x ≡ seen_by marks cs f
   unfolding seen_by directory visible_from
   seen_found h x e = rw h (ap (visible_from 0 marks) e ∙ go (is_none f) refl)
     where
       go : (b : Bool) → is_none f ≡ b →
-          visible_from 0 marks (cond b Nothing (first_row f (directories marks cs) 0)) ≡ (not b && first_marked f marks cs)
+          visible_from 0 marks (cond b None (first_row f (directories marks cs) 0)) ≡ (not b && first_marked f marks cs)
       go true k = refl
       go false k = first_marked_lem f k marks cs 0
 
   module _ (h : is_root f ≡ false) where
-    pub seen_out : directory (directories marks cs) f ≡ Nothing → false ≡ seen_by marks cs f
+    pub seen_out : directory (directories marks cs) f ≡ None → false ≡ seen_by marks cs f
     unfolding visible_from
-    seen_out e = seen_found h Nothing (sym e)
+    seen_out e = seen_found h None (sym e)
 
-    pub seen_row : (r : ℕ) → directory (directories marks cs) f ≡ Value r → eqb (get_or marks r 0) visible_mark ≡ seen_by marks cs f
+    pub seen_row : (r : ℕ) → directory (directories marks cs) f ≡ Some r → eqb (get_or marks r 0) visible_mark ≡ seen_by marks cs f
     unfolding visible_from
-    seen_row r e = let z : r - 0 ≡ r = omega arith in rw z at (seen_found h (Value r) (sym e))
+    seen_row r e = let z : r - 0 ≡ r = omega arith in rw z at (seen_found h (Some r) (sym e))
 
-pub marked_inside : (c marks : List ℕ) (f : MdtFid) (r : ℕ) → length marks ≡ length c / child_size → directory (directories marks (parse_children c)) f ≡ Value r →
+pub marked_inside : (c marks : List ℕ) (f : MdtFid) (r : ℕ) → length marks ≡ length c / child_size → directory (directories marks (parse_children c)) f ≡ Some r →
     r < length marks
 marked_inside c marks f r h d = omega (arith, row_inside (directories marks (parse_children c)) f r d, directories_many c marks h)

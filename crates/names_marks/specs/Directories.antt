@@ -1,10 +1,8 @@
 -- The directories under marks, and the index of them.
-use Rattle.std.specs.Prelude.{ℕ, ◌*◌, ◌/◌, ◌-◌, ◌≤◌, ◌<◌, ◌≡◌, Bool, false, cond, not, ◌&&◌, ◌||◌, List, [], ◌∷◌, ltb, eqb, length, get_or}
+use Rattle.std.specs.Prelude.{ℕ, ◌*◌, ◌/◌, ◌-◌, ◌≤◌, ◌<◌, ◌≡◌, Bool, false, cond, not, ◌&&◌, ◌||◌, List, [], ◌∷◌, ltb, eqb, length, get_or, Option, None, Some}
 use Rattle.fid.specs.Fid.{zero_fid}
 use Rattle.fid.specs.declared.MdtFid.{MdtFid}
 use Rattle.index.specs.Entries.{place_size, entries, sorted}
-use Rattle.index.specs.declared.Found.{Found}
-use Rattle.index.specs.declared.Found.TheVariants.{Nothing, Value}
 use Rattle.names.specs.Rows.{Child, child_size, is_none, with_self, no_child, parse_children}
 use Rattle.names.specs.Check.{max_rows}
 use Rattle.names.specs.Visible.{no_self_mark, visible_mark}
@@ -21,9 +19,9 @@ directories (m ∷ ms) [] = []
 directories (m ∷ ms) (c ∷ cs) = with_self c (self_under m c.self) ∷ directories ms cs
 
 -- whether the row that is found is marked visible; marks are of the rows from r on
-unfoldable pub visible_from : ℕ → List ℕ → Found → Bool
-visible_from r marks Nothing = false
-visible_from r marks (Value k) = eqb (get_or marks (k - r) 0) visible_mark
+unfoldable pub visible_from : ℕ → List ℕ → Option ℕ → Bool
+visible_from r marks None = false
+visible_from r marks (Some k) = eqb (get_or marks (k - r) 0) visible_mark
 
 -- n entries of the index are the rows that are directories under the marks, in order
 pub record IndexedUnder (children marks index : List ℕ) (n : ℕ) : Type 0 where

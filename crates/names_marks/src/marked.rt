@@ -8,7 +8,6 @@ ghost use Rattle.names_judge.specs.Listed.{child_numbers, is_row};
 ghost use Rattle.names_marks.specs.Directories.{self_under, directories, IndexedUnder};
 
 use fid::{Fid, MdtFid};
-use index::Found;
 use names::rows;
 use names::rows::CHILD_SIZE;
 use names_judge::judge::{NO_SELF, VISIBLE};
@@ -21,7 +20,12 @@ fn self_under(mark: u64, f: MdtFid) -> MdtFid
     if mark < NO_SELF {
         return f;
     }
-    MdtFid(Fid::ZERO)
+    let zero = Fid {
+        seq: 0,
+        oid: 0,
+        ver: 0,
+    };
+    MdtFid(zero)
 }
 
 // Puts the rows that are directories under the marks in the index, and tells how many they are.
@@ -59,30 +63,19 @@ fn is_marked(children: &[u8], marks: &[u64], r: u32, f: MdtFid) -> bool
         return false;
     }
     let row = tables::rows::row_at(children, CHILD_SIZE, k);
-    self_under(marks[k], rows::self_of(row)) == f
+    fid::same_mdt(self_under(marks[k], rows::self_of(row)), f)
 }
 
 // The directory of a FID under the marks.
-fn find(children: &[u8], marks: &[u64], index: &[u8], n: usize, f: MdtFid) -> Found
+fn find(children: &[u8], marks: &[u64], index: &[u8], n: usize, f: MdtFid) -> Option<u32>
     requires { IndexedUnder children.now marks.now index.now n }
     ensures { result ≡ directory (directories marks.now (parse_children children.now)) f }
 {
     if rows::is_none(f) {
-        return Found::Nothing;
+        return None;
     }
     let g = f.0;
-    let first = index::first_of(index, n, g.seq, g.oid);
-    for i in first..n {
-        match index::value_at(index, i, g.seq, g.oid) {
-            Found::Nothing => return Found::Nothing,
-            Found::Value(r) => {
-                if is_marked(children, marks, r, f) {
-                    return Found::Value(r);
-                }
-            }
-        }
-    }
-    Found::Nothing
+    index::find_by(index, n, g.seq, g.oid, |r| is_marked(children, marks, r, f))
 }
 
 // Whether a directory is visible under the marks.
@@ -94,7 +87,7 @@ pub fn seen(children: &[u8], marks: &[u64], index: &[u8], n: usize, f: MdtFid) -
         return true;
     }
     match find(children, marks, index, n, f) {
-        Found::Nothing => false,
-        Found::Value(r) => marks[r as usize] == VISIBLE,
+        None => false,
+        Some(r) => marks[r as usize] == VISIBLE,
     }
 }

@@ -1,5 +1,9 @@
 -- The mending and the pass as lent, their refusals in their order. Assumes nothing.
 use mathlib.Core.Path.{◌≡◌, refl, sym, ap, ◌∙◌}
+use Rattle.std.specs.Prelude.{Result, Ok, Err, ⊤}
+use Rattle.refusals.specs.Numbers.{number, answer}
+use Rattle.refusals.specs.declared.Refusal.{Refusal}
+use Rattle.refusals.specs.declared.Refusal.TheVariants.{LongClimb}
 use mathlib.Core.Bool.{Bool, true, false, cond, not, ◌&&◌, and-false}
 use mathlib.Core.List.{List, [], ◌∷◌}
 use Prim.Native.Nat.{ℕ, ◌+◌, ◌*◌, ◌/◌, ◌≤◌, ◌<◌}
@@ -20,7 +24,7 @@ use Rattle.names.specs.Visible.{max_levels, too_long, mark_of, judged, seen_by, 
 use Rattle.names.specs.Mend.{Mended, mended}
 use Rattle.names.specs.Calls.{roomy, report_size, report_numbers, left, mended_bytes, mend_tests, mend_call, pass_tests, pass_call}
 use Rattle.names.proofs.SoundLaws.{children_many, parsed_children}
-use Rattle.names_check.proofs.CallLaws.{names_refused, names_accepted}
+use Rattle.names_check.proofs.CallLaws.{names_refused, names_accepted, refused_not}
 use Rattle.names_judge.proofs.CallLaws.{room_is}
 use Rattle.names_store.proofs.RenderBack.{entries_back, children_back}
 use Rattle.names_mend.specs.declared.Mending.{Mending}
@@ -67,12 +71,6 @@ before_five false b d g rest n e h = e
 abbrev rooms : List ℕ → List ℕ → List ℕ → List ℕ → Bool
 rooms e c index room = roomy e c index && roomy e c room
 
-pub rooms_not : (e c index room : List ℕ) → roomy e c index ≡ false → false ≡ (roomy e c index && roomy e c room)
-rooms_not e c index room h = rw h
-
-pub rooms_second : (e c index room : List ℕ) → roomy e c index ≡ true → roomy e c room ≡ (roomy e c index && roomy e c room)
-rooms_second e c index room h = rw h
-
 long : (e c x : List ℕ) → roomy e c x ≡ true → place_size * (length e / entry_size + length c / child_size) ≤ length x
 long e c x t = leb-true (place_size * (length e / entry_size + length c / child_size)) (length x) (room_is e c x ∙ t)
 
@@ -90,23 +88,22 @@ module _ (e c index room marks report : List ℕ) where
     unfolding mend_tests
     then = ap (λ (b : Bool). first_failing (test 11 b ∷ test 16 (children_there e c) ∷ test 31 (names_good e c) ∷ test 17 (rooms e c index room && leb report_size (length report)) ∷ [])) (rw h (and_true (names_whole e c)))
 
-    module _ (n : ℕ) (p : n ≡ names_number e c) where
-      pub mend_tables : (n ≡ 0 → ⊥) → n ≡ first_failing (mend_tests e c index room marks report)
-      mend_tables k = names_refused e c n (test 17 (rooms e c index room && leb report_size (length report)) ∷ []) p k ∙ sym then
+    pub mend_tables : (x : Refusal) → number x ≡ names_number e c → number x ≡ first_failing (mend_tests e c index room marks report)
+    mend_tables x p = names_refused e c (test 17 (rooms e c index room && leb report_size (length report)) ∷ []) x p ∙ sym then
 
-      module _ (z : n ≡ 0) where
-        places : first_failing (mend_tests e c index room marks report) ≡ cond (rooms e c index room && leb report_size (length report)) 0 17
-        unfolding first_failing
-        places = then ∙ names_accepted e c n (test 17 (rooms e c index room && leb report_size (length report)) ∷ []) p z
+    module _ (z : 0 ≡ names_number e c) where
+      places : first_failing (mend_tests e c index room marks report) ≡ cond (rooms e c index room && leb report_size (length report)) 0 17
+      unfolding first_failing
+      places = then ∙ names_accepted e c (test 17 (rooms e c index room && leb report_size (length report)) ∷ []) z
 
-        pub mend_rooms : rooms e c index room ≡ false → 17 ≡ first_failing (mend_tests e c index room marks report)
-        mend_rooms k = sym (places ∙ rw k)
+      pub mend_rooms : rooms e c index room ≡ false → 17 ≡ first_failing (mend_tests e c index room marks report)
+      mend_rooms k = sym (places ∙ rw k)
 
-        pub mend_short : rooms e c index room ≡ true → length report < report_size → 17 ≡ first_failing (mend_tests e c index room marks report)
-        mend_short k l = sym (places ∙ rw (k, lt-leb report_size (length report) l))
+      pub mend_short : rooms e c index room ≡ true → length report < report_size → 17 ≡ first_failing (mend_tests e c index room marks report)
+      mend_short k l = sym (places ∙ rw (k, lt-leb report_size (length report) l))
 
-        pub mend_free : rooms e c index room ≡ true → report_size ≤ length report → 0 ≡ first_failing (mend_tests e c index room marks report)
-        mend_free k l = sym (places ∙ rw (k, le-leb report_size (length report) l))
+      pub mend_free : rooms e c index room ≡ true → report_size ≤ length report → 0 ≡ first_failing (mend_tests e c index room marks report)
+      mend_free k l = sym (places ∙ rw (k, le-leb report_size (length report) l))
 
   pub record MendFacts : Type 0 where
     pub sound : SoundNames e c
@@ -147,32 +144,31 @@ unfolding judged
 judged_many levels c = length-map (parse_children c) (mark_of levels (parse_children c)) ∙ parsed_children c
 
 module _ (e c index room marks report : List ℕ) where
-  module _ (n : ℕ) (p : n ≡ names_number e c) where
-    pub pass_tables : (n ≡ 0 → ⊥) → n ≡ first_failing (places_tests e c index room marks report)
-    unfolding places_tests
-    pass_tables k = names_refused e c n (test 17 (rooms e c index room && leb (length (child_rows c)) (length marks) && leb report_size (length report)) ∷ []) p k
+  pub pass_tables : (x : Refusal) → number x ≡ names_number e c → number x ≡ first_failing (places_tests e c index room marks report)
+  unfolding places_tests
+  pass_tables x p = names_refused e c (test 17 (rooms e c index room && leb (length (child_rows c)) (length marks) && leb report_size (length report)) ∷ []) x p
 
-    module _ (z : n ≡ 0) where
-      pass_places : first_failing (places_tests e c index room marks report)
-          ≡ cond (rooms e c index room && leb (length c / child_size) (length marks) && leb report_size (length report)) 0 17
-      unfolding places_tests first_failing
-      pass_places =
-          names_accepted e c n (test 17 (rooms e c index room && leb (length (child_rows c)) (length marks) && leb report_size (length report)) ∷ []) p z
-          ∙ ap (λ (k : ℕ). cond (rooms e c index room && leb k (length marks) && leb report_size (length report)) 0 17) (children_many c)
+  module _ (z : 0 ≡ names_number e c) where
+    pass_places : first_failing (places_tests e c index room marks report)
+        ≡ cond (rooms e c index room && leb (length c / child_size) (length marks) && leb report_size (length report)) 0 17
+    unfolding places_tests first_failing
+    pass_places =
+        names_accepted e c (test 17 (rooms e c index room && leb (length (child_rows c)) (length marks) && leb report_size (length report)) ∷ []) z
+        ∙ ap (λ (k : ℕ). cond (rooms e c index room && leb k (length marks) && leb report_size (length report)) 0 17) (children_many c)
 
-      pub pass_rooms : rooms e c index room ≡ false → 17 ≡ first_failing (places_tests e c index room marks report)
-      pass_rooms k = sym (pass_places ∙ rw k)
+    pub pass_rooms : rooms e c index room ≡ false → 17 ≡ first_failing (places_tests e c index room marks report)
+    pass_rooms k = sym (pass_places ∙ rw k)
 
-      module _ (k : rooms e c index room ≡ true) where
-        pub pass_marks : length marks < length c / child_size → 17 ≡ first_failing (places_tests e c index room marks report)
-        pass_marks l = sym (pass_places ∙ rw (k, lt-leb (length c / child_size) (length marks) l))
+    module _ (k : rooms e c index room ≡ true) where
+      pub pass_marks : length marks < length c / child_size → 17 ≡ first_failing (places_tests e c index room marks report)
+      pass_marks l = sym (pass_places ∙ rw (k, lt-leb (length c / child_size) (length marks) l))
 
-        module _ (l : length c / child_size ≤ length marks) where
-          pub pass_short : length report < report_size → 17 ≡ first_failing (places_tests e c index room marks report)
-          pass_short m = sym (pass_places ∙ rw (k, le-leb (length c / child_size) (length marks) l, lt-leb report_size (length report) m))
+      module _ (l : length c / child_size ≤ length marks) where
+        pub pass_short : length report < report_size → 17 ≡ first_failing (places_tests e c index room marks report)
+        pass_short m = sym (pass_places ∙ rw (k, le-leb (length c / child_size) (length marks) l, lt-leb report_size (length report) m))
 
-          pub pass_free : report_size ≤ length report → 0 ≡ first_failing (places_tests e c index room marks report)
-          pass_free m = sym (pass_places ∙ rw (k, le-leb (length c / child_size) (length marks) l, le-leb report_size (length report) m))
+        pub pass_free : report_size ≤ length report → 0 ≡ first_failing (places_tests e c index room marks report)
+        pass_free m = sym (pass_places ∙ rw (k, le-leb (length c / child_size) (length marks) l, le-leb report_size (length report) m))
 
   pub record PassFacts : Type 0 where
     pub sound : SoundNames e c
@@ -214,26 +210,34 @@ module _ (e c index room marks report : List ℕ) where
     pass_number =
         five (names_whole e c) (children_there e c) (names_good e c) (rooms e c index room && leb (length (child_rows c)) (length marks) && leb report_size (length report)) last (sym p ∙ z)
 
-    module _ (b : Bool) (new : List ℕ) (s : b ≡ not (too_long max_levels (parse_children c)))
+    module _ (r : Result ⊤ Refusal) (new : List ℕ) (s : r ≡ cond (too_long max_levels (parse_children c)) (Err LongClimb) (Ok tt))
         (w : new ≡ cond (too_long max_levels (parse_children c)) marks (sets marks 0 (judged max_levels (parse_children c)))) where
-      long_is : (x : Bool) → b ≡ x → too_long max_levels (parse_children c) ≡ not x
-      long_is x y = go (too_long max_levels (parse_children c)) x (sym s ∙ y)
-        where
-          go : (l x : Bool) → not l ≡ x → l ≡ not x
-          go true x h = ap not h
-          go false x h = ap not h
-
-      pub pass_long : b ≡ false → left 39 e c new report ≡ pass_call e c index room marks report
+      pub pass_long : (x : Refusal) → r ≡ Err x → left (number x) e c new report ≡ pass_call e c index room marks report
       unfolding pass_call
-      pass_long h =
-          let l : too_long max_levels (parse_children c) ≡ true = long_is false h in
-          let q : first_failing (pass_tests e c index room marks report) ≡ 39 = pass_number ∙ rw l in
-          let v : new ≡ marks = rw l at w in
-          rw (q, v)
+      pass_long x h = go (too_long max_levels (parse_children c)) refl
+        where
+          go : (l : Bool) → too_long max_levels (parse_children c) ≡ l → left (number x) e c new report ≡ pass_call e c index room marks report
+          go true l =
+              let a : 39 ≡ number x = ap answer (sym (rw l at s) ∙ h) in
+              let q : first_failing (pass_tests e c index room marks report) ≡ 39 = pass_number ∙ rw l in
+              let v : new ≡ marks = rw l at w in
+              rw (q, v, a)
+          go false l =
+              let a : 0 ≡ number x = ap answer (sym (rw l at s) ∙ h) in
+              absurd (refused_not x (sym a))
 
-      module _ (h : b ≡ true) where
+      module _ (h : r ≡ Ok tt) where
+        short_is : too_long max_levels (parse_children c) ≡ false
+        short_is = go (too_long max_levels (parse_children c)) refl
+          where
+            go : (l : Bool) → too_long max_levels (parse_children c) ≡ l → l ≡ false
+            go true l =
+                let a : 39 ≡ 0 = ap answer (sym (rw l at s) ∙ h) in
+                absurd (omega (arith, a))
+            go false l = refl
+
         marks_are : new ≡ sets marks 0 (judged max_levels (parse_children c))
-        marks_are = let l : too_long max_levels (parse_children c) ≡ false = long_is true h in rw l at w
+        marks_are = rw short_is at w
 
         pub judged_front : length c / child_size ≤ length marks → take (length c / child_size) new ≡ judged max_levels (parse_children c)
         judged_front k =
@@ -244,8 +248,7 @@ module _ (e c index room marks report : List ℕ) where
         pub pass_done : mended_bytes (seen_by (judged max_levels (parse_children c)) (parse_children c)) e c new report ≡ pass_call e c index room marks report
         unfolding pass_call
         pass_done =
-            let l : too_long max_levels (parse_children c) ≡ false = long_is true h in
-            let q : first_failing (pass_tests e c index room marks report) ≡ 0 = pass_number ∙ rw l in
+            let q : first_failing (pass_tests e c index room marks report) ≡ 0 = pass_number ∙ rw short_is in
             rw (q, marks_are)
 
 -- ## What is told

@@ -1,13 +1,14 @@
 // The mending under marks that are handed in, and the pass: refusals first.
-ghost use Rattle.std.specs.Prelude.{◌≡◌, true, ◌&&◌, List, ℕ, ◌+◌, ◌*◌, ◌/◌, ◌≤◌, length};
+ghost use Rattle.std.specs.Prelude.{◌≡◌, true, List, ℕ, ◌+◌, ◌*◌, ◌/◌, ◌≤◌, length};
 ghost use Rattle.std.proofs.lemmas.List.Edits.{sets};
+ghost use Rattle.refusals.specs.Numbers.{answer};
 ghost use Rattle.tables.specs.Check.{first_failing};
 ghost use Rattle.index.specs.Entries.{place_size};
 ghost use Rattle.names.specs.Rows.{entry_size, child_size, parse_children};
 ghost use Rattle.names.specs.Check.{SoundNames};
 ghost use Rattle.names.specs.Visible.{seen_by, good_marks};
-ghost use Rattle.names.specs.Calls.{roomy, report_size, report_numbers, left, mended_bytes, mend_tests, mend_call, pass_call};
-ghost use Rattle.names_mend.specs.Mending.{answer_of, report_by};
+ghost use Rattle.names.specs.Calls.{report_size, report_numbers, left, mended_bytes, mend_tests, mend_call, pass_call};
+ghost use Rattle.names_mend.specs.Mending.{report_by};
 ghost use Rattle.names_mend.specs.Refusals.{places_tests};
 
 use super::{Mending, sweeps};
@@ -15,22 +16,10 @@ use names::rows::CHILD_SIZE;
 use names_check::check;
 use names_judge::{calls, judge};
 use names_marks::fit;
+use refusals::Refusal;
 
 // The numbers of a report.
 pub const REPORT_SIZE: usize = 5;
-
-// The answer where a record outgrows the room for its child's linkEA.
-pub const LINK_FULL: u32 = 38;
-
-// The answer of a mending: 38 where it stopped.
-fn answer_of(full: bool) -> u32
-    ensures { result ≡ answer_of full }
-{
-    if full {
-        return LINK_FULL;
-    }
-    0
-}
 
 // Writes the report of a mending.
 fn put_report(report: &mut [u64], x: Mending)
@@ -52,55 +41,41 @@ fn mend_told(
     index: &mut [u8],
     room: &mut [u8],
     report: &mut [u64],
-) -> u32
+) -> Result<(), Refusal>
     requires { SoundNames entries.old children.old × (good_marks marks.now (parse_children children.old) ≡ true)
         × (place_size * (length entries.old / entry_size + length children.old / child_size) ≤ length index.old)
         × (place_size * (length entries.old / entry_size + length children.old / child_size) ≤ length room.old)
         × (report_size ≤ length report.old) }
-    ensures { (ms : List ℕ) → left result entries.new children.new ms report.new
+    ensures { (ms : List ℕ) → left (answer result) entries.new children.new ms report.new
         ≡ mended_bytes (seen_by marks.now (parse_children children.old)) entries.old children.old ms report.old }
 {
     let x = sweeps::mend(entries, children, marks, index, room);
     put_report(report, x);
-    answer_of(x.full)
+    x.done()
 }
 
-// Whether index and room have a place for each row of both tables that pass the check.
-fn has_rooms(entries: &[u8], children: &[u8], index: &[u8], room: &[u8]) -> bool
-    requires { SoundNames entries.now children.now }
-    ensures { result ≡ (roomy entries.now children.now index.now && roomy entries.now children.now room.now) }
-{
-    if !calls::has_room(entries, children, index) {
-        return false;
-    }
-    calls::has_room(entries, children, room)
-}
-
-// The number with which a mending is refused, else 0: 11, 16, 31, then 17 for index, room and report.
-fn mend_number(
+// Why a mending is refused: 11, 16, 31, then 17 for index, room and report.
+fn mend_check(
     entries: &[u8],
     children: &[u8],
     index: &[u8],
     room: &[u8],
     marks: &[u64],
     report: &[u64],
-) -> u32
-    ensures { result ≡ first_failing (mend_tests entries.now children.now index.now room.now marks.now report.now) }
+) -> Result<(), Refusal>
+    ensures { answer result ≡ first_failing (mend_tests entries.now children.now index.now room.now marks.now report.now) }
 {
     if !fit::good_marks(children, marks) {
-        return 11;
+        return Err(Refusal::BadTable);
     }
-    let refused = check::check(entries, children);
-    if refused != 0 {
-        return refused;
-    }
-    if !has_rooms(entries, children, index, room) {
-        return 17;
+    check::check(entries, children)?;
+    if !calls::has_rooms(entries, children, index, room) {
+        return Err(Refusal::TooShort);
     }
     if report.len() < REPORT_SIZE {
-        return 17;
+        return Err(Refusal::TooShort);
     }
-    0
+    Ok(())
 }
 
 // Mends under the marks: 11, 16, 31, 17, then 38, with which tables and report are written too. Index and room are lent to work in.
@@ -111,42 +86,36 @@ pub fn mend(
     room: &mut [u8],
     marks: &[u64],
     report: &mut [u64],
-) -> u32
-    ensures { left result entries.new children.new marks.now report.new
+) -> Result<(), Refusal>
+    ensures { left (answer result) entries.new children.new marks.now report.new
         ≡ mend_call entries.old children.old index.old room.old marks.now report.old }
 {
-    let refused = mend_number(entries, children, index, room, marks, report);
-    if refused != 0 {
-        return refused;
-    }
+    mend_check(entries, children, index, room, marks, report)?;
     mend_told(entries, children, marks, index, room, report)
 }
 
-// The number with which a pass is refused before it judges, else 0: 11, 16, 31, then 17 for index, room, marks and report.
-fn pass_number(
+// Why a pass is refused before it judges: 11, 16, 31, then 17 for index, room, marks and report.
+fn pass_check(
     entries: &[u8],
     children: &[u8],
     index: &[u8],
     room: &[u8],
     marks: &[u64],
     report: &[u64],
-) -> u32
-    ensures { result ≡ first_failing (places_tests entries.now children.now index.now room.now marks.now report.now) }
+) -> Result<(), Refusal>
+    ensures { answer result ≡ first_failing (places_tests entries.now children.now index.now room.now marks.now report.now) }
 {
-    let refused = check::check(entries, children);
-    if refused != 0 {
-        return refused;
-    }
-    if !has_rooms(entries, children, index, room) {
-        return 17;
+    check::check(entries, children)?;
+    if !calls::has_rooms(entries, children, index, room) {
+        return Err(Refusal::TooShort);
     }
     if marks.len() < children.len() / CHILD_SIZE {
-        return 17;
+        return Err(Refusal::TooShort);
     }
     if report.len() < REPORT_SIZE {
-        return 17;
+        return Err(Refusal::TooShort);
     }
-    0
+    Ok(())
 }
 
 // The pass, judging and then mending under its marks: 11, 16, 31, 17, 39, then 38, with which tables, marks and report are written too.
@@ -158,17 +127,12 @@ pub fn pass(
     room: &mut [u8],
     marks: &mut [u64],
     report: &mut [u64],
-) -> u32
-    ensures { left result entries.new children.new marks.new report.new
+) -> Result<(), Refusal>
+    ensures { left (answer result) entries.new children.new marks.new report.new
         ≡ pass_call entries.old children.old index.old room.old marks.old report.old }
 {
-    let refused = pass_number(entries, children, index, room, marks, report);
-    if refused != 0 {
-        return refused;
-    }
-    if !judge::judge_rows(children, index, room, marks) {
-        return calls::LONG_CLIMB;
-    }
+    pass_check(entries, children, index, room, marks, report)?;
+    judge::judge_rows(children, index, room, marks)?;
     let count = children.len() / CHILD_SIZE;
     mend_told(entries, children, &marks[..count], index, room, report)
 }

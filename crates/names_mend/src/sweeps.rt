@@ -62,10 +62,10 @@ fn sweep(
     let swept = names_append::append_all(entries, children, notes);
     let removed = remove(swept.full, entries, children, marks, index, n, notes);
     Mending {
-        taken: taken,
-        written: written,
+        taken,
+        written,
         appended: swept.count,
-        removed: removed,
+        removed,
         reached: swept.reached,
         full: swept.full,
     }

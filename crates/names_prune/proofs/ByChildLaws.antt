@@ -1,4 +1,5 @@
 -- The entries by the row of their child: what is listed, and what is found. Assumes nothing.
+use Rattle.std.specs.Prelude.{None, Some}
 use mathlib.Core.Path.{◌≡◌, refl, sym, ap, ◌∙◌}
 use mathlib.Core.Bool.{Bool, true, false, cond, ◌&&◌, ◌||◌}
 use mathlib.Core.List.{List, [], ◌∷◌, ◌++◌, map, append-nil}
@@ -19,11 +20,10 @@ use Rattle.tables.specs.Check.{all}
 use Rattle.tables.proofs.AllLaws.{all_at}
 use Rattle.index.specs.Entries.{place_size, value_range, entries, number, sorted}
 use Rattle.index.specs.Search.{Ordered, lowest_of, key_of, numbers_of, listed, is_key, first_with}
-use Rattle.index.specs.declared.Found.TheVariants.{Nothing, Value}
 use Rattle.index.proofs.EntryLaws.{moved, number_key, number_fits}
 use Rattle.index.proofs.OrderLaws.{sorted_ordered}
 use Rattle.index.proofs.RowLaws.{sorted_first}
-use Rattle.index.proofs.FindLaws.{value_nothing, value_injective}
+use Rattle.std.proofs.lemmas.Option.{none-some, same_Some}
 use Rattle.names.specs.Rows.{Entry, entry_size, name_room, name_length, decode_entry, entry_rows, parse_entries}
 use Rattle.names.specs.Check.{good_name}
 use Rattle.names.specs.Findings.{any, same, same_name, same_link, link_for}
@@ -136,25 +136,25 @@ pub record Names (es : List Entry) (r : ℕ) (x : Link) (i k : ℕ) : Type 0 whe
   pub has : named es r x ≡ true
   pub link : same_link x (link_for (get_or es (k - i) no_entry)) ≡ true
 
-pub found_none : (es : List Entry) (r : ℕ) (x : Link) (i : ℕ) → first_named es r x i ≡ Nothing → named es r x ≡ false
+pub found_none : (es : List Entry) (r : ℕ) (x : Link) (i : ℕ) → first_named es r x i ≡ None → named es r x ≡ false
 unfolding first_named named any
 found_none [] r x i h = refl
 found_none (e ∷ es) r x i h = go (eqb e.child r && same_link x (link_for e)) h (found_none es r x (suc i))
   where
-    go : (b : Bool) → cond b (Value i) (first_named es r x (suc i)) ≡ Nothing → (first_named es r x (suc i) ≡ Nothing → named es r x ≡ false) →
+    go : (b : Bool) → cond b (Some i) (first_named es r x (suc i)) ≡ None → (first_named es r x (suc i) ≡ None → named es r x ≡ false) →
         (b || named es r x) ≡ false
-    go true k on = absurd (value_nothing i k)
+    go true k on = absurd (none-some i (sym k))
     go false k on = on k
 
-pub found_some : (es : List Entry) (r : ℕ) (x : Link) (i k : ℕ) → first_named es r x i ≡ Value k → Names es r x i k
+pub found_some : (es : List Entry) (r : ℕ) (x : Link) (i k : ℕ) → first_named es r x i ≡ Some k → Names es r x i k
 unfolding first_named named any
-found_some [] r x i k h = absurd (value_nothing k (sym h))
+found_some [] r x i k h = absurd (none-some k h)
 found_some (e ∷ es) r x i k h = go (eqb e.child r && same_link x (link_for e)) refl h (found_some es r x (suc i) k)
   where
-    go : (b : Bool) → (eqb e.child r && same_link x (link_for e)) ≡ b → cond b (Value i) (first_named es r x (suc i)) ≡ Value k →
-        (first_named es r x (suc i) ≡ Value k → Names es r x (suc i) k) → Names (e ∷ es) r x i k
+    go : (b : Bool) → (eqb e.child r && same_link x (link_for e)) ≡ b → cond b (Some i) (first_named es r x (suc i)) ≡ Some k →
+        (first_named es r x (suc i) ≡ Some k → Names es r x (suc i) k) → Names (e ∷ es) r x i k
     go true t v on =
-        let q : i ≡ k = value_injective i k v in
+        let q : i ≡ k = same_Some i k v in
         let z : k - i ≡ 0 = omega arith in
         record { from = omega arith; inside = omega arith; has = rw t; link = rw z (and_second (eqb e.child r) (same_link x (link_for e)) t) }
     go false t v on =

@@ -1,4 +1,5 @@
 -- The flags of the records, one after the other, and what one record is asked. Assumes nothing.
+use Rattle.std.specs.Prelude.{Option, None, Some}
 use mathlib.Core.Path.{◌≡◌, refl, sym, ap, ◌∙◌}
 use mathlib.Core.Bool.{Bool, true, false, cond, not, ◌&&◌}
 use mathlib.Core.List.{List, [], ◌∷◌, ◌++◌, append_assoc, append-nil}
@@ -12,8 +13,6 @@ use Rattle.wire.proofs.Both.{and_first}
 use Rattle.fid.specs.declared.MdtFid.{MdtFid}
 use Rattle.fid.proofs.SameLaws.{same_is}
 use Rattle.linkea.specs.Link.{Link}
-use Rattle.index.specs.declared.Found.{Found}
-use Rattle.index.specs.declared.Found.TheVariants.{Nothing, Value}
 use Rattle.names.specs.Rows.{Entry, entry_size, parse_entries}
 use Rattle.names.specs.Findings.{any, same, same_name, same_link, link_for}
 use Rattle.names.specs.Sweeps.{one, named, goes, kept}
@@ -90,10 +89,10 @@ module _ (seen : MdtFid → Bool) (es : List Entry) (r : ℕ) (before : List Lin
 
 -- what is found of the record, and the note of the entry that has it
 module _ (seen : MdtFid → Bool) (t notes : List ℕ) (r : ℕ) (before : List Link) (x : Link) where
-  pub goes_none : (f : Found) → f ≡ first_named (parse_entries t) r x 0 → f ≡ Nothing → seen x.parent ≡ goes seen (parse_entries t) r before x
+  pub goes_none : (f : Option ℕ) → f ≡ first_named (parse_entries t) r x 0 → f ≡ None → seen x.parent ≡ goes seen (parse_entries t) r before x
   goes_none f e n = goes_unnamed seen (parse_entries t) r before x (found_none (parse_entries t) r x 0 (sym e ∙ n))
 
-  module _ (w : Noted seen t notes) (f : Found) (e : f ≡ first_named (parse_entries t) r x 0) (i : ℕ) (v : f ≡ Value i) where
+  module _ (w : Noted seen t notes) (f : Option ℕ) (e : f ≡ first_named (parse_entries t) r x 0) (i : ℕ) (v : f ≡ Some i) where
     names : Names (parse_entries t) r x 0 i
     names = found_some (parse_entries t) r x 0 i (sym e ∙ v)
 

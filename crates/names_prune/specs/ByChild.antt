@@ -1,10 +1,8 @@
 -- The index of the entries by the row of their child.
-use Rattle.std.specs.Prelude.{ℕ, suc, ◌*◌, ◌/◌, ◌≤◌, ◌≡◌, Bool, cond, ◌&&◌, List, [], ◌∷◌, map, ltb, eqb, length, get_or}
+use Rattle.std.specs.Prelude.{ℕ, suc, ◌*◌, ◌/◌, ◌≤◌, ◌≡◌, Bool, cond, ◌&&◌, List, [], ◌∷◌, map, ltb, eqb, length, get_or, Option, None, Some}
 use Rattle.linkea.specs.Link.{Link}
 use Rattle.index.specs.Entries.{place_size, entries, sorted}
 use Rattle.index.specs.Search.{Key, key, key_of, listed}
-use Rattle.index.specs.declared.Found.{Found}
-use Rattle.index.specs.declared.Found.TheVariants.{Nothing, Value}
 use Rattle.names.specs.Rows.{Entry, entry_size, parse_entries}
 use Rattle.names.specs.Check.{max_rows}
 use Rattle.names.specs.Findings.{same_link, link_for}
@@ -27,6 +25,6 @@ unfoldable pub is_named : List Entry → Link → ℕ → Bool
 is_named es x i = ltb i (length es) && same_link x (link_for (get_or es i no_entry))
 
 -- the first entry of child r that has a record; the list is that of the entries from i on
-unfoldable pub first_named : List Entry → ℕ → Link → ℕ → Found
-first_named [] r x i = Nothing
-first_named (e ∷ es) r x i = cond (eqb e.child r && same_link x (link_for e)) (Value i) (first_named es r x (suc i))
+unfoldable pub first_named : List Entry → ℕ → Link → ℕ → Option ℕ
+first_named [] r x i = None
+first_named (e ∷ es) r x i = cond (eqb e.child r && same_link x (link_for e)) (Some i) (first_named es r x (suc i))

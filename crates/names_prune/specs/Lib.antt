@@ -1,2 +1,3 @@
 pub mod ByChild
 pub mod Ready
+pub mod ReadyProps

@@ -8,7 +8,6 @@ ghost use Rattle.names_check.specs.Asked.{asked};
 ghost use Rattle.names_prune.specs.ByChild.{entry_numbers, ByChild, is_named, first_named};
 
 use fid::MdtFid;
-use index::Found;
 use names::rows;
 use names::rows::ENTRY_SIZE;
 use names_check::links;
@@ -45,28 +44,17 @@ fn is_named(entries: &[u8], i: u32, parent: MdtFid, name: &[u8]) -> bool
         return false;
     }
     let row = tables::rows::row_at(entries, ENTRY_SIZE, k);
-    if parent != rows::parent_of(row) {
+    if !fid::same_mdt(parent, rows::parent_of(row)) {
         return false;
     }
     links::same_name(name, rows::name_of(row))
 }
 
 // The first entry of child r that has a directory and a name.
-pub fn find(entries: &[u8], places: &[u8], r: u32, parent: MdtFid, name: &[u8]) -> Found
+pub fn find(entries: &[u8], places: &[u8], r: u32, parent: MdtFid, name: &[u8]) -> Option<u32>
     requires { ByChild entries.now places.now × (all good_name (entry_rows entries.now) ≡ true) }
     ensures { result ≡ first_named (parse_entries entries.now) r (asked parent name.now) 0 }
 {
     let count = entries.len() / ENTRY_SIZE;
-    let first = index::first_of(places, count, 0, r);
-    for j in first..count {
-        match index::value_at(places, j, 0, r) {
-            Found::Nothing => return Found::Nothing,
-            Found::Value(i) => {
-                if is_named(entries, i, parent, name) {
-                    return Found::Value(i);
-                }
-            }
-        }
-    }
-    Found::Nothing
+    index::find_by(places, count, 0, r, |i| is_named(entries, i, parent, name))
 }

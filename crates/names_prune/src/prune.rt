@@ -9,7 +9,7 @@ ghost use Rattle.names_store.specs.Notes.{Noted};
 ghost use Rattle.names_prune.specs.ByChild.{ByChild};
 ghost use Rattle.names_prune.specs.Ready.{Ready, flag_room, child_bytes, Flags};
 
-use super::records;
+use super::records::Lent;
 use names::rows;
 use names::rows::CHILD_SIZE;
 use names_links::keep;
@@ -18,33 +18,20 @@ use names_links::keep;
 const FLAG_ROOM: usize = 256;
 
 // Tells how many records of child r go, and where some do flags each of them.
-fn flag_child(
-    entries: &[u8],
-    children: &[u8],
-    marks: &[u64],
-    index: &[u8],
-    n: usize,
-    places: &[u8],
-    notes: &[u8],
-    r: usize,
-    flags: &mut [u8],
-) -> usize
-    requires { Ready entries.now children.now marks.now index.now n places.now notes.now × (r < length children.now / child_size) × (flag_room ≤ length flags.old) }
-    ensures { (result ≡ gone (seen_by marks.now (parse_children children.now)) (parse_entries entries.now) r (decode_child (child_bytes children.now r)))
+fn flag_child(lent: Lent<'_>, r: usize, flags: &mut [u8]) -> usize
+    requires { (r < length lent.children.now / child_size) × (flag_room ≤ length flags.old) }
+    ensures { (result ≡ gone (seen_by lent.entry.marks.now (parse_children lent.entry.children.now)) (parse_entries lent.entry.entries.now) r (decode_child (child_bytes lent.entry.children.now r)))
         × (result ≤ flag_room)
-        × (0 < result → Flags (seen_by marks.now (parse_children children.now)) (parse_entries entries.now) r (child_bytes children.now r) flags.new) }
+        × (0 < result → Flags (seen_by lent.entry.marks.now (parse_children lent.entry.children.now)) (parse_entries lent.entry.entries.now) r (child_bytes lent.entry.children.now r) flags.new) }
 {
-    let row = tables::rows::row_at(children, CHILD_SIZE, r);
+    let row = tables::rows::row_at(lent.children, CHILD_SIZE, r);
     if rows::is_none(rows::self_of(row)) {
         return 0;
     }
     if rows::link_len(row) == 0 {
         return 0;
     }
-    let l = rows::link_of(row);
-    records::flag(
-        entries, children, marks, index, n, places, notes, r as u32, l, flags,
-    )
+    lent.flag(r as u32, rows::link_of(row), flags)
 }
 
 // Removes the records of child r that go, and tells how many they were.
@@ -65,9 +52,16 @@ fn prune_child(
         × SoundNames entries.now children.new }
 {
     let mut flags = [0u8; FLAG_ROOM];
-    let gone = flag_child(
-        entries, children, marks, index, n, places, notes, r, &mut flags,
-    );
+    let lent = Lent {
+        entries,
+        children,
+        marks,
+        index,
+        n,
+        places,
+        notes,
+    };
+    let gone = flag_child(lent, r, &mut flags);
     if gone == 0 {
         return 0;
     }

@@ -1,23 +1,20 @@
-use mathlib.Core.Path.{ap, ◌∙◌}
-use mathlib.Core.Bool.{not}
-use mathlib.Core.List.{List}
-use Prim.Native.Nat.{ℕ}
-use native.Mathlib.Omega.{arith}
+use Rattle.std.proofs.Common.{not, ap, ◌∙◌, List, ℕ, arith}
+use borrow.Author.Tests.{lt-leb}
 use Rattle.linkea.specs.Conditions.{some, bad_byte}
 use Rattle.names_check.proofs.TestLaws.{name_empty, name_long, name_read}
+use Rattle.names_check.proofs.check.good_name.Goals.{then-n-ge1, else-n-ge1}
 use Rattle.names_check.proofs.check.good_name.Goals as goal
 
-pub returns-then-n-lt1 : goal.returns-then-n-lt1
-returns-then-n-lt1 c = name_empty c.args.row.now (omega (arith, c.name_len-n.ensures))
-
-pub returns-then-n-gt-NAME_ROOM : goal.returns-then-n-gt-NAME_ROOM
-returns-then-n-gt-NAME_ROOM c =
+pub returns-then-n-le-NAME_ROOM : goal.returns-then-n-le-NAME_ROOM
+returns-then-n-le-NAME_ROOM c =
     let e = c.name_len-n.ensures in
-    name_long c.args.row.now (omega (arith, e)) (omega (arith, e))
-
-pub returns : goal.returns
-returns c =
-    let d = c in
-    let e = d.name_len-n.ensures in
     ap not (c.bad_bytes.ensures ∙ ap (λ (l : List ℕ). some bad_byte l) c.name_of.ensures.0)
-    ∙ name_read d.args.row.now (omega (arith, e)) (omega (arith, e))
+    ∙ name_read c.args.row.now (omega (arith, e)) (omega (arith, e))
+
+pub returns-else-n-le-NAME_ROOM : goal.returns-else-n-le-NAME_ROOM
+returns-else-n-le-NAME_ROOM c =
+    let e = c.name_len-n.ensures in
+    elim c.if-n-ge1.branch [
+      | then-n-ge1 w ↦ cc (w.t-5-is, lt-leb c.name_len-n.result 255 (omega arith), name_long c.args.row.now (omega (arith, e)) (omega (arith, e)))
+      | else-n-ge1 w ↦ cc (w.t-5-is, name_empty c.args.row.now (omega (arith, e)))
+    ]

@@ -1,14 +1,13 @@
-use mathlib.Core.Path.{sym, ◌∙◌}
+use Rattle.std.proofs.Common.{sym, ◌∙◌}
 use Rattle.names_check.proofs.TestLaws.{whole_not, whole_then}
 use Rattle.names_check.proofs.check.names_whole.Goals as goal
 
-pub returns-then-not-whole_rows : goal.returns-then-not-whole_rows
-returns-then-not-whole_rows c =
+pub returns-then-whole_rows : goal.returns-then-whole_rows
+returns-then-whole_rows c =
     let a = c.args in
-    whole_not a.entries.now a.children.now (sym c.whole_rows.ensures ∙ c.if-not-whole_rows.true)
+    c.whole_rows-then-whole_rows.ensures ∙ whole_then a.entries.now a.children.now (sym c.whole_rows.ensures ∙ c.if-whole_rows.true)
 
-pub returns : goal.returns
-returns c =
+pub returns-else-whole_rows : goal.returns-else-whole_rows
+returns-else-whole_rows c =
     let a = c.args in
-    c.whole_rows-2.ensures
-    ∙ whole_then a.entries.now a.children.now (sym c.whole_rows.ensures ∙ c.if-not-whole_rows.false)
+    c.if-whole_rows.false ∙ whole_not a.entries.now a.children.now (sym c.whole_rows.ensures ∙ c.if-whole_rows.false)

@@ -33,7 +33,7 @@ link_finding-link-requires c =
     )
 
 pub bounds-out-i-2 : goal.bounds-out-i-2
-bounds-out-i-2 c = let a = c.args in omega (arith, length-set a.out.now (2 * a.i) c.fid_number.result)
+bounds-out-i-2 c = let a = c.args in omega (arith, length-set a.out.now (2 * a.i) c.number.result)
 
 pub returns : goal.returns
 unfolding entry_at
@@ -43,7 +43,7 @@ returns c =
     let a = b.args in
     let w = d.row_at-row.ensures.0 in
     let k = child_in a.entries.now a.children.now b.requires.0 a.i b.requires.1 _ w _ c.child_of.ensures in
-    two_stores a.entries.now a.children.now a.out.now a.i _ _ _ _ _ _ c.fid_number.ensures c.link_number.ensures
+    two_stores a.entries.now a.children.now a.out.now a.i _ _ _ _ _ _ c.number.ensures c.number-2.ensures
     (c.fids_finding-fid.ensures ∙ ap₂ fids_finding (c.fid_of.ensures ∙ ap (λ (l : List ℕ). (decode_entry l).fid) w) c.self_of.ensures)
     (c.link_finding-link.ensures ∙ ap (λ (l : List ℕ). link_finding (decode_entry l) (decode_child c.row_at-child.result.now)) w)
     (c.child_of.ensures ∙ ap (λ (l : List ℕ). (decode_entry l).child) w) k c.row_at-child.ensures.0

@@ -1,4 +1,3 @@
-use Rattle.fid.proofs.SameLaws.{eq_same}
 use mathlib.Core.Path.{sym, ap, ap₂, ◌∙◌}
 use native.Mathlib.Omega.{arith}
 use lib.ListN.{length, set}
@@ -18,7 +17,6 @@ returns-then-notes-i-eq0 c =
     let a = c.args in
     let cs = parse_children a.children.now in
     let x = entry_at a.entries.now a.i in (
-      omega arith,
       c.requires.0,
       λ seen q.
           let v = not_visible seen cs x (hidden_note seen x _ c.if-notes-i-eq0.true q) in
@@ -41,16 +39,15 @@ returns-then-is_none c =
     let k = child_in a.entries.now a.children.now c.requires.0 a.i c.requires.1 _ w _ o in
     let d = its_child a.entries.now a.children.now a.i _ w _ _ o k c.row_at.ensures.0 in
     let h = ap (λ (y : Child). is_none y.self) (sym d) ∙ ap is_none (sym c.self_of-own.ensures) ∙ sym c.is_none.ensures ∙ c.if-is_none.true in (
-      omega arith,
       c.requires.0,
       λ seen q.
           let v = no_self seen cs x h in
           (entry_stays a.entries.now a.i (written seen cs x) c.requires.1 v.0, v.1),
     )
 
-pub returns-then-eq : goal.returns-then-eq
+pub returns-then-same_mdt : goal.returns-then-same_mdt
 unfolding same
-returns-then-eq c =
+returns-then-same_mdt c =
     let a = c.args in
     let cs = parse_children a.children.now in
     let x = entry_at a.entries.now a.i in
@@ -60,8 +57,7 @@ returns-then-eq c =
     let d = its_child a.entries.now a.children.now a.i _ w _ _ o k c.row_at.ensures.0 in
     let g = c.self_of-own.ensures ∙ ap (λ (y : Child). y.self) d in
     let f = its_fid a.entries.now a.children.now a.i _ w _ c.fid_of.ensures in
-    let h = ap₂ same (sym f) (sym g) ∙ sym (c.eq.ensures ∙ eq_same _ _) ∙ c.if-eq.true in (
-      omega arith,
+    let h = ap₂ same (sym f) (sym g) ∙ sym c.same_mdt.ensures ∙ c.if-same_mdt.true in (
       c.requires.0,
       λ seen q.
           let v = agrees seen cs x h in
@@ -81,10 +77,9 @@ returns c =
     let g = c.self_of-own.ensures ∙ ap (λ (y : Child). y.self) d in
     let f = its_fid a.entries.now a.children.now a.i _ w _ c.fid_of.ensures in
     let n = ap is_none (sym g) ∙ sym c.is_none.ensures ∙ c.if-is_none.false in
-    let h = ap₂ same (sym f) (sym g) ∙ sym (c.eq.ensures ∙ eq_same _ _) ∙ c.if-eq.false in
+    let h = ap₂ same (sym f) (sym g) ∙ sym c.same_mdt.ensures ∙ c.if-same_mdt.false in
     let r = c.self_of-own.type_inv in
     let t = fid_stored a.entries.now a.children.now c.requires.0 a.i c.requires.1 c.self_of-own.result (record { seq = omega (arith, r); oid = omega (arith, r); ver = omega (arith, r) }) _ c.put_fid.ensures in (
-      omega arith,
       t.1,
       λ seen q.
           let v = wins seen cs x (visible_note seen x _ c.if-notes-i-eq0.false q) n h in

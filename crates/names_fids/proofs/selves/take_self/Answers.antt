@@ -12,13 +12,13 @@ use Rattle.names_fids.proofs.selves.take_self.Goals as goal
 pub returns-then-notes-i-eq0 : goal.returns-then-notes-i-eq0
 returns-then-notes-i-eq0 c =
     let a = c.args in
-    (omega arith, c.requires.0, λ seen q. not_visible seen (parse_children a.children.now) (entry_at a.entries.now a.i) (hidden_note seen (entry_at a.entries.now a.i) _ c.if-notes-i-eq0.true q))
+    (c.requires.0, λ seen q. not_visible seen (parse_children a.children.now) (entry_at a.entries.now a.i) (hidden_note seen (entry_at a.entries.now a.i) _ c.if-notes-i-eq0.true q))
 
 pub returns-then-is_none : goal.returns-then-is_none
 returns-then-is_none c =
     let a = c.args in
     let f = its_fid a.entries.now a.children.now a.i _ c.row_at-row.ensures.0 _ c.fid_of-f.ensures in
-    (omega arith, c.requires.0, λ seen q. no_fid seen (parse_children a.children.now) (entry_at a.entries.now a.i) (ap is_none (sym f) ∙ sym c.is_none.ensures ∙ c.if-is_none.true))
+    (c.requires.0, λ seen q. no_fid seen (parse_children a.children.now) (entry_at a.entries.now a.i) (ap is_none (sym f) ∙ sym c.is_none.ensures ∙ c.if-is_none.true))
 
 pub row_at-child-requires : goal.row_at-child-requires
 row_at-child-requires c =
@@ -33,7 +33,7 @@ returns-then-not-is_none c =
     let k = child_in a.entries.now a.children.now c.requires.0 a.i c.requires.1 _ w _ c.child_of-r.ensures in
     let d = its_child a.entries.now a.children.now a.i _ w _ _ c.child_of-r.ensures k c.row_at-child.ensures.0 in
     let h = ap (λ (x : Child). is_none x.self) (sym d) ∙ ap is_none (sym c.self_of.ensures) ∙ sym c.is_none-2.ensures ∙ c.if-not-is_none.true in
-    (omega arith, c.requires.0, λ seen q. has_self_lem seen (parse_children a.children.now) (entry_at a.entries.now a.i) h)
+    (c.requires.0, λ seen q. has_self_lem seen (parse_children a.children.now) (entry_at a.entries.now a.i) h)
 
 pub slice_bounds-put_self-end : goal.slice_bounds-put_self-end
 slice_bounds-put_self-end c =
@@ -54,7 +54,6 @@ returns c =
     let n = ap is_none (sym f) ∙ sym c.is_none.ensures ∙ c.if-is_none.false in
     let h = ap (λ (y : Child). is_none y.self) (sym d) ∙ ap is_none (sym c.self_of.ensures) ∙ sym c.is_none-2.ensures ∙ c.if-not-is_none.false in
     let t = self_stored a.entries.now a.children.now c.requires.0 _ k c.fid_of-f.result (record { seq = omega (arith, c.fid_of-f.type_inv); oid = omega (arith, c.fid_of-f.type_inv); ver = omega (arith, c.fid_of-f.type_inv) }) _ c.put_self.ensures in (
-      omega arith,
       t.1,
       λ seen q.
           let v = takes seen cs x (visible_note seen x _ c.if-notes-i-eq0.false q) n h in

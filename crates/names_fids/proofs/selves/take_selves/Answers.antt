@@ -1,7 +1,9 @@
-use mathlib.Core.Path.{sym, ◌∙◌}
+use mathlib.Core.Path.{sym, ap, ◌∙◌}
 use native.Mathlib.Omega.{arith}
 use Rattle.names.specs.Rows.{parse_children}
+use Rattle.names.specs.Sweeps.{one}
 use Rattle.names_store.proofs.NoteLaws.{note_at_lem}
+use Rattle.names_fids.proofs.NotedLaws.{flag_one, flag_most}
 use Rattle.names_fids.proofs.SelvesLaws.{swept_start, swept_next, swept_end}
 use Rattle.names_fids.proofs.selves.take_selves.Goals as goal
 
@@ -10,21 +12,22 @@ loop-i-init c =
     let a = c.args in
     (omega arith, omega arith, omega arith, c.requires.0, λ seen q. swept_start seen a.entries.now (parse_children a.children.now))
 
-pub take_self-n-requires : goal.take_self-n-requires
-take_self-n-requires c = (c.loop-i.invariant.3, omega arith, omega arith)
+pub take_self-requires : goal.take_self-requires
+take_self-requires c = (c.loop-i.invariant.3, omega arith, omega arith)
 
 pub loop-i-preserved : goal.loop-i-preserved
 loop-i-preserved c =
     let a = c.args in
-    let t = c.take_self-n.ensures in (
+    let t = c.take_self.ensures in (
       omega arith,
-      omega (arith, t.0),
+      omega (arith, flag_most _ _ c.from-n.ensures),
       omega arith,
-      t.1,
+      t.0,
       λ seen q.
           let i = c.loop-i.invariant.4 seen q in
+          let d = t.1 seen (note_at_lem seen a.entries.now a.notes.now c.loop-i.i (omega arith) q) in
           let k = swept_next seen a.entries.now c.loop-i.i (parse_children c.loop-i.children) _ _ c.loop-i.n (omega arith)
-          (t.2 seen (note_at_lem seen a.entries.now a.notes.now c.loop-i.i (omega arith) q)) in
+          (d.0, flag_one _ _ c.from-n.ensures ∙ ap one d.1) in
           (i.0 ∙ k.0, i.1 ∙ k.1),
     )
 

@@ -1,12 +1,12 @@
-use native.Mathlib.Omega.{arith}
+use Rattle.std.proofs.Common.{◌∙◌, arith}
 use Rattle.names_judge.proofs.LookLaws.{within_endless, within_cut, within_fits}
 use Rattle.names_judge.proofs.climb.allowed.Goals as goal
 
-pub returns-then-left-d : goal.returns-then-left-d
-returns-then-left-d c = within_cut _ _ _ _ c.in-Ends.is (omega arith)
+pub returns-in_err-levels : goal.returns-in_err-levels
+returns-in_err-levels c = c.from_residual.ensures ∙ within_endless _ _ c.in_err-levels.was
 
-pub returns-in-Endless : goal.returns-in-Endless
-returns-in-Endless c = within_endless _ _ c.in-Endless.is
+pub returns-then-left-levels : goal.returns-then-left-levels
+returns-then-left-levels c = within_cut _ _ _ _ c.in_ok-levels.was (omega arith)
 
-pub returns-else-left-d : goal.returns-else-left-d
-returns-else-left-d c = within_fits _ _ _ _ c.in-Ends.is (omega arith)
+pub returns : goal.returns
+returns c = c.in_ok-levels.was ∙ within_fits _ _ _ _ c.in_ok-levels.was (omega arith)

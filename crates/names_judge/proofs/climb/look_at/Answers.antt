@@ -14,17 +14,17 @@ find-requires c = let i = c.requires.0 in (i.few, i.room, i.rows)
 pub look_row-requires : goal.look_row-requires
 look_row-requires c =
     let a = c.args in
-    (row_in_table a.children.now a.f _ (sym c.find.ensures ∙ c.in-Value.is), c.requires.1)
+    (row_in_table a.children.now a.f _ (sym c.find.ensures ∙ c.in-Some.is), c.requires.1)
 
-pub returns-in-Nothing : goal.returns-in-Nothing
-returns-in-Nothing c =
+pub returns-in-None : goal.returns-in-None
+returns-in-None c =
     let a = c.args in
     look_out (parse_children a.children.now) a.room.now a.f (sym c.is_root.ensures ∙ c.if-is_root.false)
-    (sym c.find.ensures ∙ c.in-Nothing.is)
+    (sym c.find.ensures ∙ c.in-None.is)
 
-pub returns-in-Value : goal.returns-in-Value
-returns-in-Value c =
+pub returns-in-Some : goal.returns-in-Some
+returns-in-Some c =
     let a = c.args in
     c.look_row.ensures
     ∙ look_in_lem (parse_children a.children.now) a.room.now a.f (sym c.is_root.ensures ∙ c.if-is_root.false) _
-    (sym c.find.ensures ∙ c.in-Value.is)
+    (sym c.find.ensures ∙ c.in-Some.is)

@@ -3,7 +3,7 @@ use native.Mathlib.Omega.{arith}
 use Rattle.names.specs.Rows.{parse_children, child_at}
 use Rattle.names.specs.Visible.{max_levels}
 use Rattle.names_judge.proofs.DirectoryLaws.{its_self}
-use Rattle.names_judge.proofs.JudgeLaws.{none_long, some_long}
+use Rattle.names_judge.proofs.JudgeLaws.{none_long, some_long, long_is}
 use Rattle.names_judge.proofs.judge.row_too_long.Goals as goal
 
 pub returns-then-is_none : goal.returns-then-is_none
@@ -22,4 +22,4 @@ returns c =
     let k = c.climb in
     let cs = parse_children a.children.now in
     let p = its_self a.children.now a.r _ _ (omega arith) c.row_at.ensures.0 c.self_of-name.ensures in
-    (some_long max_levels cs (child_at cs a.r) _ p (sym c.is_none.ensures ∙ c.if-is_none.false) _ k.ensures.0 _ c.is_endless.ensures, k.ensures.1)
+    (some_long max_levels cs (child_at cs a.r) _ p (sym c.is_none.ensures ∙ c.if-is_none.false) _ k.ensures.0 _ (long_is _ _ c.is_none-2.ensures), k.ensures.1)

@@ -1,9 +1,5 @@
-use mathlib.Core.Path.{sym, ap, ◌∙◌}
-use mathlib.Core.List.{List}
-use Prim.Native.Nat.{ℕ}
-use native.Mathlib.Omega.{arith}
-use Rattle.index.specs.Search.{key_of, lowest_of}
-use Rattle.index.proofs.FindLaws.{walk_start, walk_done, walk_over, walk_takes, walk_skips}
+use Rattle.std.proofs.Common.{rules, sym, ap, ◌∙◌, List, ℕ, arith}
+use Rattle.index.specs.Search.{key_of, lowest_of, Tells}
 use Rattle.names.specs.Rows.{parse_children}
 use Rattle.names.proofs.SoundLaws.{parsed_children}
 use Rattle.names_judge.specs.Listed.{is_row}
@@ -15,55 +11,15 @@ returns-then-is_none c =
     let a = c.args in
     directory_none (parse_children a.children.now) a.f (sym c.is_none.ensures ∙ c.if-is_none.true)
 
-pub first_of-first-requires : goal.first_of-first-requires
-first_of-first-requires c =
+pub find_by-requires-clause-ordered : goal.find_by-requires-clause-ordered
+find_by-requires-clause-ordered c =
     (omega arith, listed_ordered (parse_children c.args.children.now) c.args.n c.args.index.now c.requires.2)
 
-pub loop-i-init : goal.loop-i-init
-loop-i-init c =
-    let a = c.args in
-    let cs = parse_children a.children.now in
-    let o = listed_ordered cs a.n a.index.now c.requires.2 in
-    let k = key_of a.f.0.seq a.f.0.oid in (
-      omega arith,
-      directory_found cs a.f (sym c.is_none.ensures ∙ c.if-is_none.false) (omega (arith, parsed_children a.children.now))
-          ∙ ap (λ (l : List ℕ). lowest_of (is_row cs a.f) k l) (sym c.requires.2)
-          ∙ walk_start a.index.now a.n a.f.0.seq a.f.0.oid _ o c.first_of-first.ensures (is_row cs a.f),
-    )
-
-pub returns-in-Nothing : goal.returns-in-Nothing
-returns-in-Nothing c =
-    let a = c.args in
-    let cs = parse_children a.children.now in
-    let o = listed_ordered cs a.n a.index.now c.requires.2 in
-    walk_over a.index.now a.n a.f.0.seq a.f.0.oid _ o c.first_of-first.ensures (is_row cs a.f) c.loop-i.i c.loop-i.invariant.0
-    (omega arith) (sym c.value_at.ensures ∙ c.in-Nothing.is)
-    ∙ sym c.loop-i.invariant.1
-
-pub returns-then-is_row : goal.returns-then-is_row
-returns-then-is_row c =
-    let a = c.args in
-    let cs = parse_children a.children.now in
-    let o = listed_ordered cs a.n a.index.now c.requires.2 in
-    walk_takes a.index.now a.n a.f.0.seq a.f.0.oid _ o c.first_of-first.ensures (is_row cs a.f) c.loop-i.i _ (omega arith)
-    (sym c.value_at.ensures ∙ c.in-Value.is) (sym c.is_row.ensures ∙ c.if-is_row.true)
-    ∙ sym c.loop-i.invariant.1
-
-pub loop-i-preserved : goal.loop-i-preserved
-loop-i-preserved c =
-    let a = c.args in
-    let cs = parse_children a.children.now in
-    let o = listed_ordered cs a.n a.index.now c.requires.2 in (
-      omega arith,
-      c.loop-i.invariant.1
-          ∙ walk_skips a.index.now a.n a.f.0.seq a.f.0.oid _ o c.first_of-first.ensures (is_row cs a.f) c.loop-i.i _ (omega arith)
-          (sym c.value_at.ensures ∙ c.in-Value.is) (sym c.is_row.ensures ∙ c.if-is_row.false),
-    )
-
 pub returns : goal.returns
+unfolding Tells
 returns c =
     let a = c.args in
     let cs = parse_children a.children.now in
-    let o = listed_ordered cs a.n a.index.now c.requires.2 in
-    walk_done a.index.now a.n a.f.0.seq a.f.0.oid _ o c.first_of-first.ensures (is_row cs a.f) c.loop-i.i (omega arith)
-    ∙ sym c.loop-i.invariant.1
+    c.find_by.ensures (is_row cs a.f) (λ v b h p. search rules)
+    ∙ sym (ap (λ (l : List ℕ). lowest_of (is_row cs a.f) (key_of a.f.0.seq a.f.0.oid) l) (sym c.requires.2))
+    ∙ sym (directory_found cs a.f (sym c.is_none.ensures ∙ c.if-is_none.false) (omega (arith, parsed_children a.children.now)))

@@ -1,18 +1,18 @@
-use Rattle.fid.proofs.SameLaws.{eq_same}
 use mathlib.Core.Path.{ap, ◌∙◌}
 use mathlib.Core.List.{List}
 use Prim.Native.Nat.{ℕ}
 use native.Mathlib.Omega.{arith}
+use borrow.Author.Tests.{le-ltb}
 use Rattle.names.specs.Rows.{decode_child}
 use Rattle.names_judge.proofs.DirectoryLaws.{row_past, row_there}
 use Rattle.names_judge.proofs.listing.is_row.Goals as goal
 
-pub returns-then-children-k : goal.returns-then-children-k
-returns-then-children-k c = let a = c.args in row_past a.children.now a.f a.r (omega arith)
+pub returns-else-k-children : goal.returns-else-k-children
+returns-else-k-children c = let a = c.args in le-ltb a.r _ c.if-k-children.false ∙ row_past a.children.now a.f a.r (omega arith)
 
-pub returns : goal.returns
-returns c =
+pub returns-then-k-children : goal.returns-then-k-children
+returns-then-k-children c =
     let a = c.args in
-    c.eq.ensures ∙ eq_same _ _
+    c.same_mdt.ensures
     ∙ row_there a.children.now a.f a.r (omega arith) _
     (c.self_of.ensures ∙ ap (λ (l : List ℕ). (decode_child l).self) c.row_at.ensures.0)

@@ -11,16 +11,16 @@ returns-then-is_root c =
 pub bounds-marks-r : goal.bounds-marks-r
 bounds-marks-r c =
     let a = c.args in
-    marked_inside a.children.now a.marks.now a.f _ c.requires.marked (sym c.find.ensures ∙ c.in-Value.is)
+    marked_inside a.children.now a.marks.now a.f _ c.requires.marked (sym c.find.ensures ∙ c.in-Some.is)
 
-pub returns-in-Nothing : goal.returns-in-Nothing
-returns-in-Nothing c =
+pub returns-in-None : goal.returns-in-None
+returns-in-None c =
     let a = c.args in
     seen_out a.marks.now (parse_children a.children.now) a.f (sym c.is_root.ensures ∙ c.if-is_root.false)
-    (sym c.find.ensures ∙ c.in-Nothing.is)
+    (sym c.find.ensures ∙ c.in-None.is)
 
-pub returns-in-Value : goal.returns-in-Value
-returns-in-Value c =
+pub returns-in-Some : goal.returns-in-Some
+returns-in-Some c =
     let a = c.args in
     seen_row a.marks.now (parse_children a.children.now) a.f (sym c.is_root.ensures ∙ c.if-is_root.false) _
-    (sym c.find.ensures ∙ c.in-Value.is)
+    (sym c.find.ensures ∙ c.in-Some.is)

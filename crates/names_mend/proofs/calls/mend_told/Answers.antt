@@ -15,6 +15,6 @@ returns c =
     λ ms.
     let a = c.args in
     let k = c.mend-x in
-    ap₂ (λ (n : ℕ) (r : List ℕ). left n k.new.entries k.new.children ms r) c.answer_of.ensures c.put_report.ensures
+    ap₂ (λ (n : ℕ) (r : List ℕ). left n k.new.entries k.new.children ms r) c.done.ensures c.put_report.ensures
     ∙ told (seen_by a.marks.now (parse_children a.children.now)) a.entries.now a.children.now k.new.entries k.new.children a.report.now k.result k.ensures.0
     (λ i. search rules) (λ i. search rules) k.ensures.1 ms
