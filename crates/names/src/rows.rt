@@ -5,6 +5,7 @@ ghost use Rattle.fid.specs.Fid.{encode_fid};
 ghost use Rattle.names.specs.Rows.{entry_size, child_size, name_room, link_room, child_fid_at, decode_entry, decode_child, is_none, name_length, link_length, link_bytes};
 
 use fid::{FID_SIZE, Fid, MdtFid};
+use wire::Little;
 
 // An entry row: parent FID, child's row, child FID, name length, name.
 pub const CHILD_ROW_AT: usize = FID_SIZE;
@@ -34,13 +35,8 @@ pub const CHILD_SIZE: usize = LINK_ROOM_AT + LINK_ROOM;
 pub fn is_none(f: MdtFid) -> bool
     ensures { result ≡ is_none f }
 {
-    let zero = Fid {
-        seq: 0,
-        oid: 0,
-        ver: 0,
-    };
     let g = f.0;
-    fid::same_fid(g, zero)
+    g == Fid::ZERO
 }
 
 // The directory of an entry.
@@ -56,7 +52,7 @@ pub fn child_of(row: &[u8]) -> u32
     requires { length row.now ≡ entry_size }
     ensures { result ≡ (decode_entry row.now).child }
 {
-    wire::le32(row, CHILD_ROW_AT)
+    wire::get::<u32, Little>(row, CHILD_ROW_AT)
 }
 
 // The FID-in-dirent.
@@ -72,7 +68,7 @@ pub fn name_len(row: &[u8]) -> u16
     requires { length row.now ≡ entry_size }
     ensures { result ≡ name_length row.now }
 {
-    wire::le16(row, NAME_LENGTH_AT)
+    wire::get::<u16, Little>(row, NAME_LENGTH_AT)
 }
 
 // The name.
@@ -115,7 +111,7 @@ pub fn link_len(row: &[u8]) -> u16
     requires { length row.now ≡ child_size }
     ensures { result ≡ link_length row.now }
 {
-    wire::le16(row, LINK_LENGTH_AT)
+    wire::get::<u16, Little>(row, LINK_LENGTH_AT)
 }
 
 // The bytes of its linkEA.

@@ -19,7 +19,7 @@ pub fn fids_finding(f: MdtFid, own: MdtFid) -> FidFinding
         (true, true) => FidFinding::NeitherFid,
         (false, true) => FidFinding::NoSelfFid,
         (true, false) => FidFinding::NoDirentFid,
-        (false, false) => if fid::same_mdt(f, own) {
+        (false, false) => if f == own {
             FidFinding::FidAgrees
         } else {
             FidFinding::FidDiffers

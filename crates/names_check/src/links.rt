@@ -7,6 +7,7 @@ ghost use Rattle.names_check.specs.Asked.{asked};
 
 use fid::MdtFid;
 use linkea::{LINK_HEADER, NAME_AT, PARENT_AT};
+use wire::Big;
 
 // Whether two names are the same.
 pub fn same_name(a: &[u8], b: &[u8]) -> bool
@@ -20,9 +21,9 @@ pub fn is_link(l: &[u8], p: usize, parent: MdtFid, name: &[u8]) -> bool
     requires { (p < length l.now) × (bad_record l.now p ≡ false) }
     ensures { result ≡ same_link (asked parent name.now) (link_at l.now p) }
 {
-    let n = wire::be16(l, p) as usize;
-    let there = MdtFid(fid::read_big(l, p + PARENT_AT));
-    fid::same_mdt(parent, there) && same_name(name, &l[p + NAME_AT..p + n])
+    let n = wire::get::<u16, Big>(l, p) as usize;
+    let there = MdtFid(fid::read_in::<Big>(l, p + PARENT_AT));
+    parent == there && same_name(name, &l[p + NAME_AT..p + n])
 }
 
 // Whether a linkEA that is not refused has a record with a directory and a name.
@@ -36,7 +37,7 @@ pub fn has_link(l: &[u8], parent: MdtFid, name: &[u8]) -> bool
         if is_link(l, at, parent, name) {
             return true;
         }
-        at += wire::be16(l, at) as usize;
+        at += wire::get::<u16, Big>(l, at) as usize;
     }
     false
 }

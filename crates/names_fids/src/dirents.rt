@@ -27,7 +27,7 @@ fn write_fid(entries: &mut [u8], children: &[u8], notes: &[u8], i: usize) -> boo
     if rows::is_none(own) {
         return false;
     }
-    if fid::same_mdt(rows::fid_of(row), own) {
+    if rows::fid_of(row) == own {
         return false;
     }
     let a = ENTRY_SIZE * i;

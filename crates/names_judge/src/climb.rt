@@ -11,6 +11,7 @@ use fid::{Fid, MdtFid};
 use index::PLACE_SIZE;
 use names::rows;
 use names::rows::CHILD_SIZE;
+use wire::Little;
 
 // The levels that a climb may take.
 pub const MAX_LEVELS: u32 = 4096;
@@ -26,7 +27,7 @@ pub fn is_root(f: MdtFid) -> bool
         oid: 1,
         ver: 0,
     };
-    fid::same_mdt(f, MdtFid(root))
+    f == MdtFid(root)
 }
 
 // The end that a note tells.
@@ -55,7 +56,7 @@ fn look_row(children: &[u8], room: &[u8], r: u32) -> Looked
     ensures { result ≡ look_row (parse_children children.now) room.now r }
 {
     let k = r as usize;
-    let note = wire::le32(room, PLACE_SIZE * k);
+    let note = wire::get::<u32, Little>(room, PLACE_SIZE * k);
     if note != 0 {
         return Looked::Told(told(note));
     }
@@ -90,7 +91,7 @@ fn put_note(room: &mut [u8], r: u32, d: u32, v: bool)
     ensures { room.new ≡ noted r (Some (d, v)) room.old }
 {
     let k = r as usize;
-    wire::put_le32(room, PLACE_SIZE * k, 1 + 2 * d + u32::from(v));
+    wire::put::<u32, Little>(room, PLACE_SIZE * k, 1 + 2 * d + u32::from(v));
 }
 
 // Notes of row r that its climb takes a level more than the one above.

@@ -15,6 +15,7 @@ use index::PLACE_SIZE;
 use names::rows;
 use names::rows::CHILD_SIZE;
 use refusals::Refusal;
+use wire::Little;
 
 // The mark of a hidden directory, of a visible one, and of a row without self FID.
 pub const HIDDEN: u64 = 0;
@@ -29,7 +30,7 @@ fn clear(room: &mut [u8], count: usize)
     ensures { Blank count room.new }
 {
     for r in 0..count {
-        wire::put_le32(room, PLACE_SIZE * r, 0);
+        wire::put::<u32, Little>(room, PLACE_SIZE * r, 0);
     }
 }
 

@@ -43,10 +43,7 @@ fn is_row(children: &[u8], r: u32, f: MdtFid) -> bool
 {
     let k = r as usize;
     k < children.len() / CHILD_SIZE
-        && fid::same_mdt(
-            rows::self_of(tables::rows::row_at(children, CHILD_SIZE, k)),
-            f,
-        )
+        && rows::self_of(tables::rows::row_at(children, CHILD_SIZE, k)) == f
 }
 
 // The directory of a FID: the first row with it.

@@ -12,6 +12,7 @@ use super::room;
 use fid::MdtFid;
 use linkea::{LinkHeader, NAME_AT, PARENT_AT};
 use names::rows::{LINK_ROOM, LINK_ROOM_AT};
+use wire::Big;
 
 // Whether a record whose name has n bytes outgrows the room for the linkEA of a child.
 pub fn outgrows_room(row: &[u8], n: usize) -> bool
@@ -30,8 +31,8 @@ fn put_record(row: &mut [u8], at: usize, parent: MdtFid, name: &[u8])
 {
     let f = parent.0;
     let size = NAME_AT + name.len();
-    wire::put_be16(row, at, size as u16);
-    fid::write_big(row, at + PARENT_AT, f);
+    wire::put::<u16, Big>(row, at, size as u16);
+    fid::write_in::<Big>(row, at + PARENT_AT, f);
     wire::put_bytes(row, at + NAME_AT, name);
 }
 

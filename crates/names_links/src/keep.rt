@@ -12,6 +12,7 @@ use super::room;
 use linkea::{LINK_HEADER, LinkHeader};
 use names::rows;
 use names::rows::{LINK_ROOM, LINK_ROOM_AT};
+use wire::Big;
 
 // The flag of a record that stays.
 const STAYS: u8 = 1;
@@ -52,7 +53,7 @@ fn keep_all(row: &mut [u8], old: &[u8], flags: &[u8]) -> Packed
     let mut at = LINK_HEADER;
     let mut k = 0usize;
     while at < old.len() {
-        let end = at + wire::be16(old, at) as usize;
+        let end = at + wire::get::<u16, Big>(old, at) as usize;
         p = keep_one(row, p, &old[at..end], flags[k]);
         at = end;
         k += 1;

@@ -10,6 +10,7 @@ ghost use Rattle.names_links.specs.Room.{closed};
 use linkea::{LINK_HEADER, LinkHeader};
 use names::rows;
 use names::rows::{LINK_LENGTH_AT, LINK_ROOM_AT};
+use wire::Little;
 
 // The header of the linkEA of a child, or of a new one without records.
 pub fn header_of(row: &[u8]) -> LinkHeader
@@ -43,7 +44,7 @@ pub fn close_link(row: &mut [u8], h: LinkHeader)
     let start = LINK_ROOM_AT;
     let end = start + LINK_HEADER;
     let total = h.total as usize;
-    wire::put_le16(row, LINK_LENGTH_AT, total as u16);
+    wire::put::<u16, Little>(row, LINK_LENGTH_AT, total as u16);
     linkea_write::write_header(&mut row[start..end], h);
     zero_from(row, start + total);
 }

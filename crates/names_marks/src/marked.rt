@@ -20,12 +20,7 @@ fn self_under(mark: u64, f: MdtFid) -> MdtFid
     if mark < NO_SELF {
         return f;
     }
-    let zero = Fid {
-        seq: 0,
-        oid: 0,
-        ver: 0,
-    };
-    MdtFid(zero)
+    MdtFid(Fid::ZERO)
 }
 
 // Puts the rows that are directories under the marks in the index, and tells how many they are.
@@ -63,7 +58,7 @@ fn is_marked(children: &[u8], marks: &[u64], r: u32, f: MdtFid) -> bool
         return false;
     }
     let row = tables::rows::row_at(children, CHILD_SIZE, k);
-    fid::same_mdt(self_under(marks[k], rows::self_of(row)), f)
+    self_under(marks[k], rows::self_of(row)) == f
 }
 
 // The directory of a FID under the marks.

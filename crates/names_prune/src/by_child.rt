@@ -44,7 +44,7 @@ fn is_named(entries: &[u8], i: u32, parent: MdtFid, name: &[u8]) -> bool
         return false;
     }
     let row = tables::rows::row_at(entries, ENTRY_SIZE, k);
-    if !fid::same_mdt(parent, rows::parent_of(row)) {
+    if parent != rows::parent_of(row) {
         return false;
     }
     links::same_name(name, rows::name_of(row))

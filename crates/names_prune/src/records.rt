@@ -15,6 +15,7 @@ use fid::MdtFid;
 use linkea::{LINK_HEADER, NAME_AT, PARENT_AT};
 use names_check::links;
 use names_marks::marked;
+use wire::Big;
 
 // Whether one of the first k records of a linkEA has a directory and a name.
 // A loop: the place of the next record comes from the one read, so no iterator gives it.
@@ -27,7 +28,7 @@ fn stands_before(l: &[u8], k: usize, parent: MdtFid, name: &[u8]) -> bool
         if links::is_link(l, at, parent, name) {
             return true;
         }
-        at += wire::be16(l, at) as usize;
+        at += wire::get::<u16, Big>(l, at) as usize;
     }
     false
 }
@@ -67,8 +68,8 @@ impl Lent<'_> {
         requires { (refused_link l.now ≡ false) × (p < length l.now) × (bad_record l.now p ≡ false) × (k ≤ length (decode_link_ea l.now).links) }
         ensures { result ≡ one (not (goes (seen_by self.entry.marks.now (parse_children self.entry.children.now)) (parse_entries self.entry.entries.now) r (take k (decode_link_ea l.now).links) (link_at l.now p))) }
     {
-        let size = wire::be16(l, p) as usize;
-        let parent = MdtFid(fid::read_big(l, p + PARENT_AT));
+        let size = wire::get::<u16, Big>(l, p) as usize;
+        let parent = MdtFid(fid::read_in::<Big>(l, p + PARENT_AT));
         let a = p + NAME_AT;
         let e = p + size;
         if self.must_go(r, l, k, parent, &l[a..e]) {
@@ -91,7 +92,7 @@ impl Lent<'_> {
             flags[k] = stays;
             gone += 1 - stays as usize;
             k += 1;
-            at += wire::be16(l, at) as usize;
+            at += wire::get::<u16, Big>(l, at) as usize;
         }
         gone
     }

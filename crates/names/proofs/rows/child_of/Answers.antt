@@ -3,4 +3,4 @@ use Rattle.names.proofs.rows.child_of.Goals as goal
 
 pub returns : goal.returns
 unfolding decode_entry child_row
-returns c = c.le32.ensures
+returns c = c.get.ensures

@@ -3,4 +3,4 @@ use Rattle.names.proofs.rows.name_len.Goals as goal
 
 pub returns : goal.returns
 unfolding name_length
-returns c = c.le16.ensures
+returns c = c.get.ensures

@@ -32,25 +32,25 @@ returns-then-is_link c =
     let a = w.args in
     sym (w.loop-at.invariant.1 ∙ any_hit (same_link (asked a.parent a.name.now)) a.l.now w.loop-at.at (omega arith) w.loop-at.invariant.0 (sym c.is_link.ensures ∙ c.if-is_link.true))
 
-pub be16-requires : goal.be16-requires
-be16-requires c = omega (arith, good (goal.at.be16-requires c).In-loop-at)
+pub get-requires : goal.get-requires
+get-requires c = omega (arith, good (goal.at.get-requires c).In-loop-at)
 
 pub overflow_add-at : goal.overflow_add-at
 overflow_add-at c =
     let w = c in
-    omega (arith, good (goal.at.overflow_add-at c).In-loop-at, c.be16.ensures, length_read w.args.l.now w.loop-at.at)
+    omega (arith, good (goal.at.overflow_add-at c).In-loop-at, c.get.ensures, length_read w.args.l.now w.loop-at.at)
 
 pub loop-at-smaller : goal.loop-at-smaller
 loop-at-smaller c =
     let w = c in
-    omega (arith, good (goal.at.loop-at-smaller c).In-loop-at, c.be16.ensures, length_read w.args.l.now w.loop-at.at)
+    omega (arith, good (goal.at.loop-at-smaller c).In-loop-at, c.get.ensures, length_read w.args.l.now w.loop-at.at)
 
 pub loop-at-preserved : goal.loop-at-preserved
 loop-at-preserved c =
     let w = c in
     let a = w.args in
     let t = same_link (asked a.parent a.name.now) in
-    let e = sym (c.be16.ensures ∙ length_read a.l.now w.loop-at.at) in (
+    let e = sym (c.get.ensures ∙ length_read a.l.now w.loop-at.at) in (
       subst (λ (n : ℕ). AllGood a.l.now (w.loop-at.at + n)) e (good_on a.l.now w.loop-at.at (omega arith) w.loop-at.invariant.0),
       w.loop-at.invariant.1 ∙ any_pass t a.l.now w.loop-at.at (omega arith) w.loop-at.invariant.0 (sym c.is_link.ensures ∙ c.if-is_link.false)
           ∙ ap (λ (n : ℕ). any_from t a.l.now (w.loop-at.at + n)) e,

@@ -1,3 +1,4 @@
+use Rattle.fid.proofs.SameLaws.{eq_same}
 use mathlib.Core.Path.{sym, ap, ap₂, ◌∙◌}
 use native.Mathlib.Omega.{arith}
 use lib.ListN.{length, set}
@@ -45,9 +46,9 @@ returns-then-is_none c =
           (entry_stays a.entries.now a.i (written seen cs x) c.requires.1 v.0, v.1),
     )
 
-pub returns-then-same_mdt : goal.returns-then-same_mdt
+pub returns-then-eq : goal.returns-then-eq
 unfolding same
-returns-then-same_mdt c =
+returns-then-eq c =
     let a = c.args in
     let cs = parse_children a.children.now in
     let x = entry_at a.entries.now a.i in
@@ -57,7 +58,7 @@ returns-then-same_mdt c =
     let d = its_child a.entries.now a.children.now a.i _ w _ _ o k c.row_at.ensures.0 in
     let g = c.self_of-own.ensures ∙ ap (λ (y : Child). y.self) d in
     let f = its_fid a.entries.now a.children.now a.i _ w _ c.fid_of.ensures in
-    let h = ap₂ same (sym f) (sym g) ∙ sym c.same_mdt.ensures ∙ c.if-same_mdt.true in (
+    let h = ap₂ same (sym f) (sym g) ∙ sym (c.eq.ensures ∙ eq_same _ _) ∙ c.if-eq.true in (
       c.requires.0,
       λ seen q.
           let v = agrees seen cs x h in
@@ -77,7 +78,7 @@ returns c =
     let g = c.self_of-own.ensures ∙ ap (λ (y : Child). y.self) d in
     let f = its_fid a.entries.now a.children.now a.i _ w _ c.fid_of.ensures in
     let n = ap is_none (sym g) ∙ sym c.is_none.ensures ∙ c.if-is_none.false in
-    let h = ap₂ same (sym f) (sym g) ∙ sym c.same_mdt.ensures ∙ c.if-same_mdt.false in
+    let h = ap₂ same (sym f) (sym g) ∙ sym (c.eq.ensures ∙ eq_same _ _) ∙ c.if-eq.false in
     let r = c.self_of-own.type_inv in
     let t = fid_stored a.entries.now a.children.now c.requires.0 a.i c.requires.1 c.self_of-own.result (record { seq = omega (arith, r); oid = omega (arith, r); ver = omega (arith, r) }) _ c.put_fid.ensures in (
       t.1,

@@ -12,4 +12,4 @@ bit_is false n e = e
 pub returns : goal.returns
 returns c =
     let a = c.args in
-    note_put a.r a.d _ a.v a.room.now _ (bit_is a.v _ c.from.ensures) c.put_le32.ensures
+    note_put a.r a.d _ a.v a.room.now _ (bit_is a.v _ c.from.ensures) c.put.ensures

@@ -1,3 +1,4 @@
+use Rattle.fid.proofs.SameLaws.{eq_same}
 use mathlib.Core.Path.{ap, ◌∙◌}
 use mathlib.Core.List.{List}
 use Prim.Native.Nat.{ℕ}
@@ -13,6 +14,6 @@ returns-else-k-children c = let a = c.args in le-ltb a.r _ c.if-k-children.false
 pub returns-then-k-children : goal.returns-then-k-children
 returns-then-k-children c =
     let a = c.args in
-    c.same_mdt.ensures
+    c.eq.ensures ∙ eq_same _ _
     ∙ row_there a.children.now a.f a.r (omega arith) _
     (c.self_of.ensures ∙ ap (λ (l : List ℕ). (decode_child l).self) c.row_at.ensures.0)

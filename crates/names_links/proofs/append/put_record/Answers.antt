@@ -5,4 +5,4 @@ use Rattle.names_links.proofs.append.put_record.Goals as goal
 pub returns : goal.returns
 returns c =
     let a = c.args in
-    record_put a.row.now _ _ _ a.at _ a.parent a.name.now refl c.put_be16.ensures c.write_big.ensures c.put_bytes.ensures
+    record_put a.row.now _ _ _ a.at _ a.parent a.name.now refl c.put.ensures c.write_in.ensures c.put_bytes.ensures

@@ -37,19 +37,19 @@ returns-then-is_link c =
     ∙ to_hit (same_link (asked a.parent a.name.now)) (decode_link_ea a.l.now).links c.loop-j.j a.k (link_at a.l.now c.loop-j.at)
     (walked_here a.l.now c.loop-j.j c.loop-j.at c.loop-j.invariant.1 (place (goal.at.returns-then-is_link c).In-loop-j)) (omega arith) (sym c.is_link.ensures ∙ c.if-is_link.true))
 
-pub be16-requires : goal.be16-requires
-be16-requires c = omega (arith, good (goal.at.be16-requires c).In-loop-j)
+pub get-requires : goal.get-requires
+get-requires c = omega (arith, good (goal.at.get-requires c).In-loop-j)
 
 pub overflow_add-at : goal.overflow_add-at
 overflow_add-at c =
-    omega (arith, good (goal.at.overflow_add-at c).In-loop-j, c.be16.ensures, length_read c.args.l.now c.loop-j.at)
+    omega (arith, good (goal.at.overflow_add-at c).In-loop-j, c.get.ensures, length_read c.args.l.now c.loop-j.at)
 
 pub loop-j-preserved : goal.loop-j-preserved
 loop-j-preserved c =
     let a = c.args in
     let e = walked_here a.l.now c.loop-j.j c.loop-j.at c.loop-j.invariant.1 (place (goal.at.loop-j-preserved c).In-loop-j) in (
       omega arith,
-      walked_next a.l.now c.loop-j.j c.loop-j.at c.loop-j.invariant.1 (place (goal.at.loop-j-preserved c).In-loop-j) _ (ap (λ (n : ℕ). c.loop-j.at + n) (c.be16.ensures ∙ length_read a.l.now c.loop-j.at)),
+      walked_next a.l.now c.loop-j.j c.loop-j.at c.loop-j.invariant.1 (place (goal.at.loop-j-preserved c).In-loop-j) _ (ap (λ (n : ℕ). c.loop-j.at + n) (c.get.ensures ∙ length_read a.l.now c.loop-j.at)),
       c.loop-j.invariant.2
           ∙ to_pass (same_link (asked a.parent a.name.now)) (decode_link_ea a.l.now).links c.loop-j.j a.k (link_at a.l.now c.loop-j.at) e (omega arith)
           (sym c.is_link.ensures ∙ c.if-is_link.false),

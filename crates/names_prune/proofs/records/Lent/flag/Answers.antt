@@ -43,22 +43,22 @@ overflow_add-gone c = omega (arith, c.loop-at.invariant.0, c.loop-at.invariant.1
 pub overflow_add-k : goal.overflow_add-k
 overflow_add-k c = omega (arith, c.loop-at.invariant.0)
 
-pub be16-requires : goal.be16-requires
-be16-requires c = omega (arith, good (goal.at.be16-requires c).In-loop-at)
+pub get-requires : goal.get-requires
+get-requires c = omega (arith, good (goal.at.get-requires c).In-loop-at)
 
 pub overflow_add-at : goal.overflow_add-at
 overflow_add-at c =
-    omega (arith, good (goal.at.overflow_add-at c).In-loop-at, c.be16.ensures, length_read c.args.l.now c.loop-at.at)
+    omega (arith, good (goal.at.overflow_add-at c).In-loop-at, c.get.ensures, length_read c.args.l.now c.loop-at.at)
 
 pub loop-at-smaller : goal.loop-at-smaller
 loop-at-smaller c =
-    omega (arith, good (goal.at.loop-at-smaller c).In-loop-at, c.be16.ensures, length_read c.args.l.now c.loop-at.at)
+    omega (arith, good (goal.at.loop-at-smaller c).In-loop-at, c.get.ensures, length_read c.args.l.now c.loop-at.at)
 
 pub loop-at-preserved : goal.loop-at-preserved
 loop-at-preserved c =
     let a = c.args in
     let l = a.l.now in (
-      walked_next l c.loop-at.k c.loop-at.at c.loop-at.invariant.0 (omega arith) _ (ap (λ (n : ℕ). c.loop-at.at + n) (c.be16.ensures ∙ length_read l c.loop-at.at)),
+      walked_next l c.loop-at.k c.loop-at.at c.loop-at.invariant.0 (omega arith) _ (ap (λ (n : ℕ). c.loop-at.at + n) (c.get.ensures ∙ length_read l c.loop-at.at)),
       flagged_next (seen_by a.self.marks.now (parse_children a.self.children.now)) (parse_entries a.self.entries.now) a.r (decode_link_ea l).links c.loop-at.k c.loop-at.gone _
           c.loop-at.flags (link_at l c.loop-at.at) c.loop-at.invariant.1 (walked_here l c.loop-at.k c.loop-at.at c.loop-at.invariant.0 (omega arith))
           (omega (arith, c.loop-at.invariant.0)) c.flag_of-stays.ensures,

@@ -11,26 +11,26 @@ use Rattle.names_prune.proofs.RecordLaws.{read_link_lem}
 use Rattle.names_prune.proofs.FlagLaws.{flag_zero, flag_one}
 use Rattle.names_prune.proofs.records.Lent.flag_of.Goals as goal
 
-pub be16-size-requires : goal.be16-size-requires
-be16-size-requires c = omega (arith, good_record c.args.l.now c.args.p c.requires.2)
+pub get-size-requires : goal.get-size-requires
+get-size-requires c = omega (arith, good_record c.args.l.now c.args.p c.requires.2)
 
-pub read_big-requires : goal.read_big-requires
-read_big-requires c = omega (arith, good_record c.args.l.now c.args.p c.requires.2)
+pub read_in-requires : goal.read_in-requires
+read_in-requires c = omega (arith, good_record c.args.l.now c.args.p c.requires.2)
 
 pub slice_bounds-must_go-count : goal.slice_bounds-must_go-count
 slice_bounds-must_go-count c =
     let a = c.args in
-    omega (arith, good_record a.l.now a.p c.requires.2, c.be16-size.ensures, length_read a.l.now a.p)
+    omega (arith, good_record a.l.now a.p c.requires.2, c.get-size.ensures, length_read a.l.now a.p)
 
 pub slice_bounds-must_go-start : goal.slice_bounds-must_go-start
 slice_bounds-must_go-start c =
     let a = c.args in
-    omega (arith, good_record a.l.now a.p c.requires.2, c.be16-size.ensures, length_read a.l.now a.p)
+    omega (arith, good_record a.l.now a.p c.requires.2, c.get-size.ensures, length_read a.l.now a.p)
 
 pub slice_bounds-must_go-end : goal.slice_bounds-must_go-end
 slice_bounds-must_go-end c =
     let a = c.args in
-    omega (arith, good_record a.l.now a.p c.requires.2, c.be16-size.ensures, length_read a.l.now a.p)
+    omega (arith, good_record a.l.now a.p c.requires.2, c.get-size.ensures, length_read a.l.now a.p)
 
 pub returns-then-must_go : goal.returns-then-must_go
 returns-then-must_go c =
@@ -38,7 +38,7 @@ returns-then-must_go c =
     flag_zero _ _
     (c.must_go.ensures
     ∙ ap (goes (seen_by a.self.marks.now (parse_children a.self.children.now)) (parse_entries a.self.entries.now) a.r (take a.k (decode_link_ea a.l.now).links))
-    (read_link_lem a.l.now a.p _ _ c.read_big.ensures c.be16-size.ensures))
+    (read_link_lem a.l.now a.p _ _ c.read_in.ensures c.get-size.ensures))
     c.if-must_go.true
 
 pub returns : goal.returns
@@ -47,5 +47,5 @@ returns c =
     flag_one _ _
     (c.must_go.ensures
     ∙ ap (goes (seen_by a.self.marks.now (parse_children a.self.children.now)) (parse_entries a.self.entries.now) a.r (take a.k (decode_link_ea a.l.now).links))
-    (read_link_lem a.l.now a.p _ _ c.read_big.ensures c.be16-size.ensures))
+    (read_link_lem a.l.now a.p _ _ c.read_in.ensures c.get-size.ensures))
     c.if-must_go.false
