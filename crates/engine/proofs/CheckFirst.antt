@@ -1,9 +1,13 @@
 -- The check first: a run call that it refuses, and one that it lets through to the steps. Assumes nothing.
 use Prim.Native.Nat.{ℕ}
-use mathlib.Core.Path.{◌≡◌}
+use mathlib.Core.Path.{◌≡◌, ap, ◌∙◌}
 use mathlib.Core.List.{List}
 use borrow.Author.Tests.{eq-eqb, ne_eqb}
+use Rattle.std.specs.Prelude.{Result}
+use Rattle.refusals.specs.Numbers.{answer, told}
+use Rattle.refusals.specs.declared.Refusal.{Refusal}
 use Rattle.tables.specs.Check.{check_number}
+use Rattle.tables.proofs.CheckLaws.{check_told}
 use Rattle.tables.specs.declared.Position.{Position}
 use Rattle.rules.specs.Runs.{no_counts}
 use Rattle.rules.specs.declared.Counts.{Counts}
@@ -19,3 +23,8 @@ module _ (p o s : List ℕ) (policy most n : ℕ) (at : Position) (e : n ≡ che
   pub run_accepted : n ≡ 0 → run_bytes p o s policy most at ≡ steps_bytes p o s policy most at
   unfolding run_bytes steps_bytes
   run_accepted z = rw (← e, eq-eqb n 0 z)
+
+-- the number of what the check says
+pub check_answer : (p o s : List ℕ) (policy : ℕ) (at : Position) (r : Result (Unit {0}) Refusal) → r ≡ told (check_number p o s policy at) (tt {0}) →
+    answer r ≡ check_number p o s policy at
+check_answer p o s policy at r h = ap answer h ∙ check_told p o s policy at
