@@ -17,5 +17,7 @@ pub fn lfsck_step_writes(
     ensures answer { result ≡ writes_answer parents.now objects.now reserve.now policy (place stage row part) out.old }
     ensures out { out.new ≡ writes_out parents.now objects.now reserve.now policy (place stage row part) out.old }
 {
-    capi_writes::step_writes(parents, objects, reserve, policy, stage, row, part, out)
+    refusals::answer(capi_writes::step_writes(
+        parents, objects, reserve, policy, stage, row, part, out,
+    ))
 }

@@ -3,6 +3,7 @@
 
 ghost use Rattle.std.specs.Prelude.{◌≡◌, [], ◌∷◌, ◌++◌, ◌+◌, ◌*◌, ◌≤◌, ◌<◌, length};
 ghost use Rattle.std.proofs.lemmas.List.Edits.{sets};
+ghost use Rattle.refusals.specs.Numbers.{answer};
 ghost use Rattle.tables.specs.Positions.{place};
 ghost use Rattle.rules.specs.Cuts.{target};
 ghost use Rattle.capi_writes.specs.Writes.{most_writes, writes_size, row_numbers, writes_numbers, step_number, told, writes_answer, writes_out};
@@ -69,26 +70,25 @@ fn put_writes(out: &mut [u64], x: Write, y: Write, z: Write)
 }
 
 // The writes of a step, or the number of a stop.
-fn tell(out: &mut [u64], d: Step) -> u32
+fn tell(out: &mut [u64], d: Step) -> Result<(), Refusal>
     requires { writes_size ≤ length out.old }
-    ensures answer { result ≡ step_number d }
+    ensures answer { answer result ≡ step_number d }
     ensures out { out.new ≡ told d out.old }
 {
     match d {
         Step::Rests => {
             put_none(out);
-            0
+            Ok(())
         }
         Step::Repairs(_, x, y, z) => {
             put_writes(out, x, y, z);
-            0
+            Ok(())
         }
-        Step::Stops(stop) => stop.number(),
+        Step::Stops(stop) => Err(stop),
     }
 }
 
 // The writes of the step at a position: 7 numbers into out.
-// Its answer is a number, as the stop of a step is.
 pub fn step_writes(
     parents: &[u8],
     objects: &[u8],
@@ -98,20 +98,17 @@ pub fn step_writes(
     row: u64,
     part: u64,
     out: &mut [u64],
-) -> u32
-    ensures answer { result ≡ writes_answer parents.now objects.now reserve.now policy (place stage row part) out.old }
+) -> Result<(), Refusal>
+    ensures answer { answer result ≡ writes_answer parents.now objects.now reserve.now policy (place stage row part) out.old }
     ensures out { out.new ≡ writes_out parents.now objects.now reserve.now policy (place stage row part) out.old }
 {
     let at = Position { stage, row, part };
-    if let Err(refusal) = checks::check(parents, objects, reserve, policy, at) {
-        return refusal.number();
-    }
+    checks::check(parents, objects, reserve, policy, at)?;
     if positions::is_end(at) {
-        return Refusal::NoPlace.number();
+        return Err(Refusal::NoPlace);
     }
     if out.len() < WRITES_SIZE {
-        return Refusal::TooShort.number();
+        return Err(Refusal::TooShort);
     }
-    let d = decide::decide(parents, objects, reserve, policy, at);
-    tell(out, d)
+    tell(out, decide::decide(parents, objects, reserve, policy, at))
 }

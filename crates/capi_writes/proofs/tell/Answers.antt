@@ -30,6 +30,6 @@ returns-in-Stops c =
     let a = c.args in
     let e = sym c.in-Stops.is in
     record {
-      answer = c.number.ensures ∙ ap step_number e;
+      answer = ap step_number e;
       out = ap (λ (d : Step). told d a.out.now) e;
     }
