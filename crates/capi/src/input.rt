@@ -18,9 +18,7 @@ pub fn lfsck_check(
 ) -> u32
     ensures { result ≡ check_number parents.now objects.now reserve.now policy (place stage row part) }
 {
-    refusals::answer(capi_tables::check(
-        parents, objects, reserve, policy, stage, row, part,
-    ))
+    refusals::answer(capi_tables::check(parents, objects, reserve, policy, stage, row, part))
 }
 
 // Where a run starts: 3 numbers into position.

@@ -81,7 +81,13 @@ fn put_search(out: &mut [u64], found: Search)
 }
 
 // The keeper of an object: 4 numbers into out.
-pub fn keeper_of(parents: &[u8], objects: &[u8], sequence: u64, id: u64, out: &mut [u64]) -> Result<(), Refusal>
+pub fn keeper_of(
+    parents: &[u8],
+    objects: &[u8],
+    sequence: u64,
+    id: u64,
+    out: &mut [u64],
+) -> Result<(), Refusal>
     ensures answer { answer result ≡ out_answer (keeper_number parents.now objects.now sequence id) (keeper_numbers parents.now objects.now sequence id) out.old }
     ensures out { out.new ≡ out_numbers (keeper_number parents.now objects.now sequence id) (keeper_numbers parents.now objects.now sequence id) out.old }
 {

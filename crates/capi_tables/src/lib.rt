@@ -25,7 +25,13 @@ pub fn check(
 ) -> Result<(), Refusal>
     ensures { answer result ≡ check_number parents.now objects.now reserve.now policy (place stage row part) }
 {
-    checks::check(parents, objects, reserve, policy, Position { stage, row, part })
+    checks::check(
+        parents,
+        objects,
+        reserve,
+        policy,
+        Position { stage, row, part },
+    )
 }
 
 // The position that is handed in; another amount than three numbers is none.

@@ -71,9 +71,7 @@ fn good_entry(entry: &[u8]) -> bool
 pub fn good_reserve(reserve: &[u8]) -> bool
     ensures { result ≡ all good_entry (reserve_entries reserve.now) }
 {
-    reserve
-        .chunks_exact(ENTRY_SIZE)
-        .all(good_entry)
+    reserve.chunks_exact(ENTRY_SIZE).all(good_entry)
 }
 
 // Whether the rows of both tables are good.

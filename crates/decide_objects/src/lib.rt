@@ -116,10 +116,8 @@ pub fn object(parents: &[u8], objects: &[u8], reserve: &[u8], policy: u64, k: us
         return Step::Rests;
     }
     match classify_objects::object_class(parents, objects, k) {
-        ObjectClass::UNUSED
-        | ObjectClass::KEPT
-        | ObjectClass::SPARE
-        | ObjectClass::CONFLICT => Step::Rests,
+        ObjectClass::UNUSED | ObjectClass::KEPT | ObjectClass::SPARE | ObjectClass::CONFLICT =>
+            Step::Rests,
         ObjectClass::EMPTY => {
             Step::Repairs(
                 Repair::OfEmpty,

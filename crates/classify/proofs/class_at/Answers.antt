@@ -18,10 +18,10 @@ returns-then-not-is_position c =
     let a = c.args in
     let k = c.in_ok-check_tables.ensures in
     elim c.then-not-is_position.branch [
-      then-not-is_position-via-then-not-is_position w ↦
-        answer_nowhere a.parents.now a.objects.now a.at k (sym c.is_position.ensures ∙ w.if-not-is_position.true)
-    | then-not-is_position-via-else-not-is_position+then-is_end w ↦
-        answer_end a.parents.now a.objects.now a.at k (sym c.is_position.ensures ∙ w.if-not-is_position.false) (sym w.is_end.ensures ∙ w.if-is_end.true)
+      | then-not-is_position-via-then-not-is_position w ↦
+          answer_nowhere a.parents.now a.objects.now a.at k (sym c.is_position.ensures ∙ w.if-not-is_position.true)
+      | then-not-is_position-via-else-not-is_position+then-is_end w ↦
+          answer_end a.parents.now a.objects.now a.at k (sym c.is_position.ensures ∙ w.if-not-is_position.false) (sym w.is_end.ensures ∙ w.if-is_end.true)
     ]
 
 pub class_of-requires : goal.class_of-requires

@@ -18,6 +18,7 @@ some_way (Take r) n = refl
 pub returns : goal.returns
 unfolding is_way
 returns c =
-    elim c.match-matches.branch
-    [ in-NoWay w ↦ ap not w.matches-is ∙ sym (ap is_way w.in-NoWay.is)
-    | in_default w ↦ ap not w.matches-is ∙ some_way c.args.w w.in_default.not-NoWay ]
+    elim c.match-matches.branch [
+      | in-NoWay w ↦ ap not w.matches-is ∙ sym (ap is_way w.in-NoWay.is)
+      | in_default w ↦ ap not w.matches-is ∙ some_way c.args.w w.in_default.not-NoWay
+    ]
