@@ -2,10 +2,9 @@
 use mathlib.Core.Path.{◌≡◌, refl, sym, ap, ◌∙◌}
 use Rattle.std.specs.Prelude.{Option}
 use mathlib.Core.List.{List}
-use mathlib.Core.Bool.{Bool, true, false, not, ◌&&◌}
+use mathlib.Core.Bool.{Bool, not, ◌&&◌}
 use Prim.Native.Nat.{ℕ, ◌/◌, ◌<◌}
 use native.Mathlib.Omega.{arith}
-use borrow.Author.Tests.{eq-eqb, ne_eqb}
 use lib.Dec.{eqb}
 use lib.ListN.{length}
 use Rattle.std.specs.List.{list_any, range_with_len}
@@ -34,22 +33,10 @@ module _ (ps : List ParentRow) (r n : ℕ) (area : List ℕ) (e : slots_of (row_
   unfolding names_at
   area_names f j s b h q t = sym (t ∙ ap (slot_names f) (area_slot ps r n area e j s h q))
 
-  pub area_else : (f : OstFid) (k i j : ℕ) (s : Slot) (b : Bool) → j < n → s ≡ slot_of area j → b ≡ (slot_names f s && not (eqb r k && eqb j i)) →
+  area_else : (f : OstFid) (k i j : ℕ) (s : Slot) (b : Bool) → j < n → s ≡ slot_of area j → b ≡ (slot_names f s && not (eqb r k && eqb j i)) →
       names_else ps f k i r j ≡ b
   unfolding names_else
   area_else f k i j s b h q t = rw (area_names f j s (slot_names f s) h q refl) (sym t)
-
--- ## Named by another slot
-
-module _ (f : OstFid) (s : Slot) (k i r j : ℕ) where
-  pub else_unnamed : slot_names f s ≡ false → false ≡ (slot_names f s && not (eqb k r && eqb i j))
-  else_unnamed h = rw h
-
-  pub else_row : slot_names f s ≡ true → (k ≡ r → ⊥) → true ≡ (slot_names f s && not (eqb k r && eqb i j))
-  else_row h d = rw (h, ne_eqb k r d)
-
-  pub else_slot : slot_names f s ≡ true → k ≡ r → not (eqb i j) ≡ (slot_names f s && not (eqb k r && eqb i j))
-  else_slot h q = rw (h, eq-eqb k r q)
 
 -- ## Named at all
 

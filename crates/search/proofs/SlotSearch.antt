@@ -32,7 +32,7 @@ found_after n None = n
 found_after n (Some j) = j + 1
 
 -- in a row of n slots, the first that passes has the first number that passes
-pub slot_row : (passes : ℕ → ℕ → Bool) (r n j : ℕ) → found_at r (row_from n j (passes r)) ≡ slot_from r n j passes
+slot_row : (passes : ℕ → ℕ → Bool) (r n j : ℕ) → found_at r (row_from n j (passes r)) ≡ slot_from r n j passes
 unfolding found_at row_from slot_from
 slot_row passes r zero j = refl
 slot_row passes r (suc n) j = go (passes r j) (slot_row passes r n (suc j))
