@@ -1,8 +1,8 @@
--- The counts of the searches: how large they can be, and what a loop over rows has counted. Assumes nothing.
+-- The counts of the searches: how large they can be, and what a loop over slots or rows has counted. Assumes nothing.
 use mathlib.Core.Path.{◌≡◌, refl, sym}
 use Rattle.std.specs.Prelude.{Option, Some, None}
 use mathlib.Core.List.{List, [], ◌∷◌, ◌++◌, map}
-use mathlib.Core.Bool.{Bool, true, false, cond, ◌||◌}
+use mathlib.Core.Bool.{Bool, true, false, cond}
 use Prim.Native.Nat.{ℕ, suc, ◌+◌, ◌*◌, ◌/◌, ◌≤◌, ◌<◌}
 use native.Mathlib.Numerals.{add-one}
 use native.Mathlib.Omega.{arith}
@@ -20,10 +20,9 @@ use Rattle.tables.specs.Bytes.{parent_size, layout_room, is_used, layout_length,
 use Rattle.tables.specs.Positions.{slots_of, row_at, width}
 use Rattle.tables.specs.Check.{all, when_used, good_layout, good_layouts}
 use Rattle.tables.proofs.PositionLaws.{parents_many, parsed_parents, slots_unused, slots_used}
-use Rattle.rules.specs.Search.{slot_from, is_somewhere}
 use Rattle.rules.specs.Rows.{slot_at, names_at}
-use Rattle.rules.specs.Compared.{up_to, hit, in_turn, all_slots}
-use Rattle.rules.proofs.ComparedLaws.{up_to_most, take_one, one_there, one_past, hit_row, turn_most, turn_last, all_row, all_past, within}
+use Rattle.rules.specs.Compared.{up_to, in_turn, all_slots}
+use Rattle.rules.proofs.ComparedLaws.{up_to_most, take_one, one_there, one_past, slots_left_lem, slots_hit, slots_pass, slots_none, turn_most, turn_last, all_row, all_past, within}
 
 -- ## The slots of all layouts are few
 
@@ -83,22 +82,41 @@ module _ (ps : List ParentRow) (f : OstFid) (r j n : ℕ) (w : n ≡ width ps r)
     unfolding width
     claimed_miss t = (rw t, sym (one_there f (slots_of (row_at ps r)) j (omega arith)))
 
--- ## Row by row: s slots were compared, and x are in all
+-- ## Slot by slot, row by row: s slots were compared, and x are in all
+
+-- those from slot j of row r on, and then others
+pub slot_count : List ParentRow → OstFid → ℕ → ℕ → List Slot → ℕ
+slot_count ps f r j m = up_to f (drop j (slots_of (row_at ps r)) ++ m)
+
+module _ (ps : List ParentRow) (f : OstFid) (r n : ℕ) (w : n ≡ width ps r) (j s x : ℕ) (m : List Slot) (e : x ≡ s + slot_count ps f r j m) where
+  pub slot_fits : j < n → s + 1 ≤ x
+  unfolding slot_count width
+  slot_fits h = let z = slots_left_lem f (slots_of (row_at ps r)) j m (omega arith) in omega (arith, e, z)
+
+  pub slot_counted : j < n → names_at ps f r j ≡ true → s + 1 ≡ x
+  unfolding slot_count names_at slot_at width
+  slot_counted h t = let z = slots_hit f (slots_of (row_at ps r)) j m (omega arith) t in omega (arith, e, z)
+
+  pub slot_passed : j < n → names_at ps f r j ≡ false → x ≡ s + 1 + slot_count ps f r (j + 1) m
+  unfolding slot_count names_at slot_at width
+  slot_passed h t =
+      let z = slots_pass f (slots_of (row_at ps r)) j m (omega arith) t in
+      let y : slot_count ps f r (j + 1) m ≡ up_to f (drop (suc j) (slots_of (row_at ps r)) ++ m) = rw add-one in
+      omega (arith, e, z, y)
+
+  slots_passed : n ≤ j → x ≡ s + up_to f m
+  unfolding slot_count width
+  slots_passed h = let z = slots_none f (slots_of (row_at ps r)) j m (omega arith) in omega (arith, e, z)
 
 -- those from row r on
 pub row_count : List ParentRow → OstFid → ℕ → ℕ
 row_count ps f r = up_to f (all_slots (drop r ps))
 
--- in one list of slots after another, the second where the first has no hit
-up_to_both : (f : OstFid) (l m : List Slot) → up_to f (l ++ m) ≡ up_to f l + cond (hit f l) 0 (up_to f m)
-unfolding up_to hit
-up_to_both f [] m = omega arith
-up_to_both f (s ∷ l) m = go (slot_names f s) (up_to_both f l m)
-  where
-    go : (b : Bool) → up_to f (l ++ m) ≡ up_to f l + cond (hit f l) 0 (up_to f m) →
-        suc (cond b 0 (up_to f (l ++ m))) ≡ suc (cond b 0 (up_to f l)) + cond (b || hit f l) 0 (up_to f m)
-    go true e = omega arith
-    go false e = omega (arith, e)
+-- out of row r
+pub row_leaves : (ps : List ParentRow) (f : OstFid) (r n : ℕ) → n ≡ width ps r → (j s x : ℕ) → x ≡ s + slot_count ps f r j (all_slots (drop (r + 1) ps)) →
+    n ≤ j → x ≡ s + row_count ps f (r + 1)
+unfolding row_count
+row_leaves ps f r n w j s x e h = slots_passed ps f r n w j s x (all_slots (drop (r + 1) ps)) e h
 
 module _ (p : List ℕ) (f : OstFid) where
   pub row_count_start : up_to f (all_slots (parse_parents p)) ≡ 0 + row_count (parse_parents p) f 0
@@ -106,24 +124,11 @@ module _ (p : List ℕ) (f : OstFid) where
   row_count_start = omega arith
 
   module _ (r s x : ℕ) (e : x ≡ s + row_count (parse_parents p) f r) where
+    -- into row r
+    pub row_enters : r < length p / parent_size → x ≡ s + slot_count (parse_parents p) f r 0 (all_slots (drop (r + 1) (parse_parents p)))
+    unfolding row_count slot_count
+    row_enters h = rw (e, all_row (parse_parents p) r (rw (parsed_parents p) h), add-one)
+
     pub rows_passed : length p / parent_size ≤ r → s ≡ x
     unfolding row_count
     rows_passed h = let z = all_past (parse_parents p) r f (rw (parsed_parents p) h) in omega (arith, e, z)
-
-    -- row r has `here`, and n of its slots were compared
-    module _ (h : r < length p / parent_size) (here : Option (ℕ × ℕ)) (n : ℕ) (q : here ≡ slot_from r (width (parse_parents p) r) 0 (names_at (parse_parents p) f))
-        (k : n ≡ up_to f (slots_of (row_at (parse_parents p) r))) where
-      row_step : x ≡ s + (n + cond (is_somewhere here) 0 (row_count (parse_parents p) f (r + 1)))
-      unfolding row_count
-      row_step =
-          let ps : List ParentRow = parse_parents p in
-          rw (e, all_row ps r (rw (parsed_parents p) h), up_to_both f (slots_of (row_at ps r)) (all_slots (drop (suc r) ps)), hit_row ps f r, ← q, ← k, add-one)
-
-      pub row_fits_in : s + n ≤ x
-      row_fits_in = let z = row_step in omega (arith, z)
-
-      pub row_counted : is_somewhere here ≡ true → s + n ≡ x
-      row_counted t = let z : x ≡ s + (n + 0) = rw t at row_step in omega (arith, z)
-
-      pub row_missed : is_somewhere here ≡ false → x ≡ s + n + row_count (parse_parents p) f (r + 1)
-      row_missed t = let z : x ≡ s + (n + row_count (parse_parents p) f (r + 1)) = rw t at row_step in omega (arith, z)

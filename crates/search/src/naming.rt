@@ -29,19 +29,22 @@ pub fn first_naming(parents: &[u8], f: OstFid) -> Search
     ensures place { result.place ≡ scan (parse_parents parents.now) (names_at (parse_parents parents.now) f) }
     ensures compared { result.compared ≡ up_to f (all_slots (parse_parents parents.now)) }
 {
+    let n = parents.len() / PARENT_SIZE;
+    let mut place = None;
     let mut compared = 0;
-    // A loop: it adds up the counts of the rows, and an adapter that stops at the first hit gives only the place.
-    for r in 0..parents.len() / PARENT_SIZE {
-        let near = slots::first_in(parents, f, r);
-        compared += near.compared;
-        if near.place.is_some() {
-            return Search { compared, ..near };
+    // Loops: the scan is nested loops left by a label, a form that the paper names (docs/DECISIONS.md).
+    'rows: for r in 0..n {
+        let area = slots::slot_area(rows::row_at(parents, PARENT_SIZE, r));
+        let count = area.len() / SLOT_SIZE;
+        for j in 0..count {
+            compared += 1;
+            if layout::names(layout::slot_at(area, j), f) {
+                place = Some((r, j));
+                break 'rows;
+            }
         }
     }
-    Search {
-        place: None,
-        compared,
-    }
+    Search { place, compared }
 }
 
 // Whether a slot of row k, other than slot j of row r, names an object.
