@@ -265,7 +265,7 @@ le_in k n m l h =
     let e : m ≡ k + (m - k) = omega arith in
     ap (λ (j : ℕ). le n (drop k (take j l))) e ∙ ap (le n) (drop-take k (m - k) l) ∙ le_part n (m - k) (drop k l) (omega arith)
 
-slot_part : (area : List ℕ) (k : ℕ) → slot_of (part_of slot_size area k) 0 ≡ slot_of area k
+pub slot_part : (area : List ℕ) (k : ℕ) → slot_of (part_of slot_size area k) 0 ≡ slot_of area k
 unfolding slot_of decode_slot decode_fid part_of
 slot_part area k =
     let l : List ℕ = drop (k * slot_size) area in

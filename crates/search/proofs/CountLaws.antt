@@ -1,7 +1,7 @@
 -- The counts of the searches: how large they can be, and what a loop over slots or rows has counted. Assumes nothing.
 use mathlib.Core.Path.{◌≡◌, refl, sym}
 use Rattle.std.specs.Prelude.{Option, Some, None}
-use mathlib.Core.List.{List, [], ◌∷◌, ◌++◌, map, append-nil}
+use mathlib.Core.List.{List, [], ◌∷◌, ◌++◌, map}
 use mathlib.Core.Bool.{Bool, true, false, cond}
 use Prim.Native.Nat.{ℕ, suc, ◌+◌, ◌*◌, ◌/◌, ◌≤◌, ◌<◌}
 use native.Mathlib.Numerals.{add-one}
@@ -88,10 +88,6 @@ module _ (ps : List ParentRow) (f : OstFid) (r j n : ℕ) (w : n ≡ width ps r)
 pub slot_count : List ParentRow → OstFid → ℕ → ℕ → List Slot → ℕ
 slot_count ps f r j m = up_to f (drop j (slots_of (row_at ps r)) ++ m)
 
-pub slot_count_start : (ps : List ParentRow) (f : OstFid) (r : ℕ) → up_to f (slots_of (row_at ps r)) ≡ 0 + slot_count ps f r 0 []
-unfolding slot_count
-slot_count_start ps f r = rw append-nil (omega arith)
-
 module _ (ps : List ParentRow) (f : OstFid) (r n : ℕ) (w : n ≡ width ps r) (j s x : ℕ) (m : List Slot) (e : x ≡ s + slot_count ps f r j m) where
   pub slot_fits : j < n → s + 1 ≤ x
   unfolding slot_count width
@@ -111,11 +107,6 @@ module _ (ps : List ParentRow) (f : OstFid) (r n : ℕ) (w : n ≡ width ps r) (
   slots_passed : n ≤ j → x ≡ s + up_to f m
   unfolding slot_count width
   slots_passed h = let z = slots_none f (slots_of (row_at ps r)) j m (omega arith) in omega (arith, e, z)
-
--- all slots of a row: j of its n
-pub row_passed : (ps : List ParentRow) (f : OstFid) (r n : ℕ) → n ≡ width ps r → (j x : ℕ) → x ≡ j + slot_count ps f r j [] → n ≤ j → j ≤ n → n ≡ x
-unfolding up_to
-row_passed ps f r n w j x e h k = let z = slots_passed ps f r n w j j x [] e h in omega (arith, z)
 
 -- those from row r on
 pub row_count : List ParentRow → OstFid → ℕ → ℕ

@@ -6,6 +6,7 @@ pub mod ParsedRows
 pub mod FoundRows
 -- Slots and the keeper
 pub mod SlotArea
+pub mod SlotSearch
 pub mod NamingLaws
 pub mod CountLaws
 pub mod KeeperLaws

@@ -2,11 +2,12 @@
 use mathlib.Core.Path.{◌≡◌, refl, sym, ap, ◌∙◌}
 use Rattle.std.specs.Prelude.{Option}
 use mathlib.Core.List.{List}
-use mathlib.Core.Bool.{Bool, true, false, not, ◌&&◌}
+use mathlib.Core.Bool.{Bool, not, ◌&&◌}
 use Prim.Native.Nat.{ℕ, ◌/◌, ◌<◌}
-use borrow.Author.Tests.{eq-eqb, ne_eqb}
+use native.Mathlib.Omega.{arith}
 use lib.Dec.{eqb}
 use lib.ListN.{length}
+use Rattle.std.specs.List.{list_any, range_with_len}
 use Rattle.fid.specs.declared.OstFid.{OstFid}
 use Rattle.layout.specs.Slot.{slot_of, decode_slots, slot_names}
 use Rattle.layout.specs.declared.Slot.{Slot}
@@ -16,7 +17,7 @@ use Rattle.tables.specs.Positions.{slots_of, row_at, width}
 use Rattle.tables.proofs.PositionLaws.{parsed_parents}
 use Rattle.rules.specs.Search.{slot_from, is_somewhere}
 use Rattle.rules.specs.Rows.{names_at, scan, named, names_else, named_else}
-use Rattle.search.proofs.PlaceSearch.{slots_left, places_left, slot_start_lem, place_start}
+use Rattle.search.proofs.PlaceSearch.{places_left, place_start, any_slot, any_place}
 use Rattle.search.proofs.SlotArea.{area_width, area_slot}
 
 -- a scan begins at row 0 of the bytes
@@ -28,29 +29,14 @@ scan_start p passes = rw (parsed_parents p) (place_start (width (parse_parents p
 -- ## A slot, as it is read from the area of its row
 
 module _ (ps : List ParentRow) (r n : ℕ) (area : List ℕ) (e : slots_of (row_at ps r) ≡ decode_slots n area) where
-  pub row_slots_start : (passes : ℕ → ℕ → Bool) → slot_from r (width ps r) 0 passes ≡ slots_left passes r n 0
-  row_slots_start passes = rw (← area_width ps r n area e) (slot_start_lem passes r n)
-
   pub area_names : (f : OstFid) (j : ℕ) (s : Slot) (b : Bool) → j < n → s ≡ slot_of area j → b ≡ slot_names f s → names_at ps f r j ≡ b
   unfolding names_at
   area_names f j s b h q t = sym (t ∙ ap (slot_names f) (area_slot ps r n area e j s h q))
 
-  pub area_else : (f : OstFid) (k i j : ℕ) (s : Slot) (b : Bool) → j < n → s ≡ slot_of area j → b ≡ (slot_names f s && not (eqb r k && eqb j i)) →
+  area_else : (f : OstFid) (k i j : ℕ) (s : Slot) (b : Bool) → j < n → s ≡ slot_of area j → b ≡ (slot_names f s && not (eqb r k && eqb j i)) →
       names_else ps f k i r j ≡ b
   unfolding names_else
   area_else f k i j s b h q t = rw (area_names f j s (slot_names f s) h q refl) (sym t)
-
--- ## Named by another slot
-
-module _ (f : OstFid) (s : Slot) (k i r j : ℕ) where
-  pub else_unnamed : slot_names f s ≡ false → false ≡ (slot_names f s && not (eqb k r && eqb i j))
-  else_unnamed h = rw h
-
-  pub else_row : slot_names f s ≡ true → (k ≡ r → ⊥) → true ≡ (slot_names f s && not (eqb k r && eqb i j))
-  else_row h d = rw (h, ne_eqb k r d)
-
-  pub else_slot : slot_names f s ≡ true → k ≡ r → not (eqb i j) ≡ (slot_names f s && not (eqb k r && eqb i j))
-  else_slot h q = rw (h, eq-eqb k r q)
 
 -- ## Named at all
 
@@ -58,6 +44,16 @@ pub named_is : (ps : List ParentRow) (f : OstFid) (a : Option (ℕ × ℕ)) (b :
 unfolding named
 named_is ps f a b e t = t ∙ ap is_somewhere e
 
-pub named_else_is : (ps : List ParentRow) (f : OstFid) (r j : ℕ) (a : Option (ℕ × ℕ)) (b : Bool) → a ≡ scan ps (names_else ps f r j) → b ≡ is_somewhere a → b ≡ named_else ps f r j
-unfolding named_else
-named_else_is ps f r j a b e t = t ∙ ap is_somewhere e
+-- by another slot: of row r, as its area has them
+pub any_else : (ps : List ParentRow) (k : ℕ) (area : List ℕ) → slots_of (row_at ps k) ≡ decode_slots (length area / 24) area → (f : OstFid) (r j : ℕ) →
+    list_any (λ i. slot_names f (slot_of area i) && not (eqb k r && eqb i j)) (range_with_len 0 (length area / 24)) ≡ is_somewhere (slot_from k (width ps k) 0 (names_else ps f r j))
+any_else ps k area e f r j =
+    any_slot (λ i. slot_names f (slot_of area i) && not (eqb k r && eqb i j)) (names_else ps f r j) k (length area / 24) 0
+    (λ i a b. area_else ps k (length area / 24) area e f r j i _ _ (omega arith) refl refl)
+    ∙ ap (λ (n : ℕ). is_somewhere (slot_from k n 0 (names_else ps f r j))) (area_width ps k (length area / 24) area e)
+
+-- of any row
+pub any_else_row : (p : List ℕ) (f : OstFid) (r j : ℕ) →
+    list_any (λ k. is_somewhere (slot_from k (width (parse_parents p) k) 0 (names_else (parse_parents p) f r j))) (range_with_len 0 (length p / parent_size)) ≡ named_else (parse_parents p) f r j
+unfolding named_else scan
+any_else_row p f r j = rw (parsed_parents p) (any_place (width (parse_parents p)) (names_else (parse_parents p) f r j) (length p / parent_size) 0)

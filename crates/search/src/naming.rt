@@ -1,8 +1,10 @@
 // The slots that name an object, in scan order: parent row, then slot.
-ghost use Rattle.std.specs.Prelude.{◌≡◌, true, not, ◌&&◌, eqb};
+ghost use Rattle.std.specs.Prelude.{◌≡◌, true, not, ◌&&◌, eqb, ◌/◌, ◌<◌, length};
 ghost use Rattle.layout.specs.Slot.{slot_names};
-ghost use Rattle.tables.specs.Bytes.{parse_parents};
+ghost use Rattle.tables.specs.Bytes.{parent_size, parse_parents};
+ghost use Rattle.tables.specs.Positions.{width};
 ghost use Rattle.tables.specs.Check.{good_layouts};
+ghost use Rattle.rules.specs.Search.{slot_from, is_somewhere};
 ghost use Rattle.rules.specs.Rows.{names_at, scan, named, names_else, named_else};
 ghost use Rattle.rules.specs.Compared.{up_to, all_slots};
 
@@ -30,11 +32,12 @@ pub fn first_naming(parents: &[u8], f: OstFid) -> Search
     let n = parents.len() / PARENT_SIZE;
     let mut place = None;
     let mut compared = 0;
+    // Loops: the scan is nested loops left by a label, a form that the paper names (docs/DECISIONS.md).
     'rows: for r in 0..n {
         let area = slots::slot_area(rows::row_at(parents, PARENT_SIZE, r));
         let count = area.len() / SLOT_SIZE;
         for j in 0..count {
-            compared = compared + 1;
+            compared += 1;
             if layout::names(layout::slot_at(area, j), f) {
                 place = Some((r, j));
                 break 'rows;
@@ -44,24 +47,13 @@ pub fn first_naming(parents: &[u8], f: OstFid) -> Search
     Search { place, compared }
 }
 
-// The first slot in scan order that names an object, other than slot j of row r.
-fn first_else(parents: &[u8], f: OstFid, r: usize, j: usize) -> Option<(usize, usize)>
-    requires { good_layouts parents.now ≡ true }
-    ensures { result ≡ scan (parse_parents parents.now) (names_else (parse_parents parents.now) f r j) }
+// Whether a slot of row k, other than slot j of row r, names an object.
+fn named_in(parents: &[u8], f: OstFid, k: usize, r: usize, j: usize) -> bool
+    requires { (good_layouts parents.now ≡ true) × (k < length parents.now / parent_size) }
+    ensures { result ≡ is_somewhere (slot_from k (width (parse_parents parents.now) k) 0 (names_else (parse_parents parents.now) f r j)) }
 {
-    let n = parents.len() / PARENT_SIZE;
-    let mut found = None;
-    'rows: for k in 0..n {
-        let area = slots::slot_area(rows::row_at(parents, PARENT_SIZE, k));
-        let count = area.len() / SLOT_SIZE;
-        for i in 0..count {
-            if names_else(layout::slot_at(area, i), f, k, i, r, j) {
-                found = Some((k, i));
-                break 'rows;
-            }
-        }
-    }
-    found
+    let area = slots::slot_area(rows::row_at(parents, PARENT_SIZE, k));
+    (0..area.len() / SLOT_SIZE).any(|i| names_else(layout::slot_at(area, i), f, k, i, r, j))
 }
 
 // Whether a slot names an object.
@@ -77,5 +69,5 @@ pub fn named_else(parents: &[u8], f: OstFid, r: usize, j: usize) -> bool
     requires { good_layouts parents.now ≡ true }
     ensures { result ≡ named_else (parse_parents parents.now) f r j }
 {
-    first_else(parents, f, r, j).is_some()
+    (0..parents.len() / PARENT_SIZE).any(|k| named_in(parents, f, k, r, j))
 }

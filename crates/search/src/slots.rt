@@ -71,17 +71,17 @@ pub fn first_in(parents: &[u8], f: OstFid, r: usize) -> Search
     ensures compared { result.compared ≡ up_to f (slots_of (row_at (parse_parents parents.now) r)) }
 {
     let area = slot_area(rows::row_at(parents, PARENT_SIZE, r));
-    let count = area.len() / SLOT_SIZE;
-    for j in 0..count {
-        if layout::names(layout::slot_at(area, j), f) {
-            return Search {
-                place: Some((r, j)),
-                compared: j + 1,
-            };
-        }
-    }
-    Search {
-        place: None,
-        compared: count,
+    let found = area
+        .chunks_exact(SLOT_SIZE)
+        .position(|slot| layout::names(layout::slot_at(slot, 0), f));
+    match found {
+        Some(j) => Search {
+            place: Some((r, j)),
+            compared: j + 1,
+        },
+        None => Search {
+            place: None,
+            compared: area.len() / SLOT_SIZE,
+        },
     }
 }
