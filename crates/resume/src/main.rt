@@ -23,10 +23,7 @@ struct Resumed {
 fn with_position(report: Report, position: Position) -> Resumed
     ensures { result ≡ record { report = report; position = position } }
 {
-    Resumed {
-        report: report,
-        position: position,
-    }
+    Resumed { report, position }
 }
 
 // A run from a position: a copy of it is lent to `run_on`.
@@ -107,7 +104,7 @@ fn file_name() -> Fid {
 fn object_name(oid: u32) -> Fid {
     Fid {
         seq: 0x2_4000_0400,
-        oid: oid,
+        oid,
         ver: 0,
     }
 }

@@ -117,10 +117,10 @@ pub fn decode_object(row: &[u8]) -> Object
     let fresh = row[FRESH_AT] == 1;
     Object {
         fid: OstFid(name),
-        ost: ost,
-        owner: owner,
-        claim: claim,
-        fresh: fresh,
+        ost,
+        owner,
+        claim,
+        fresh,
     }
 }
 

@@ -147,6 +147,7 @@ pub fn get<W: Word, O: ByteOrder>(s: &[u8], at: usize) -> W
     requires { at + W.SIZE ≤ length s.now }
     ensures { W.value result ≡ O.number_of W.SIZE (drop at s.now) }
 {
+    // A loop over places: where a byte stands is the order's to say.
     let mut n: u64 = 0;
     for i in (0..W::SIZE).rev() {
         n = 256 * n + s[at + O::place(i, W::SIZE)] as u64;
