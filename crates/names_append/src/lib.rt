@@ -16,7 +16,7 @@ use names_check::finding;
 use names_links::append;
 
 // What an entry asks of its child: nothing, a record for which there is room, or one that outgrows it.
-#[derive(Clone, Copy)]
+#[derive(Clone, Copy, Debug, PartialEq, Eq)]
 pub enum Asked {
     Nothing,
     Room,
@@ -25,7 +25,7 @@ pub enum Asked {
 
 // How many records were appended, the entry it stopped in front of or the number of entries, and whether it stopped.
 // A flag beside the numbers: they are told in either case, so a Result would hold them twice.
-#[derive(Clone, Copy)]
+#[derive(Clone, Copy, Debug, PartialEq, Eq)]
 pub struct Swept {
     pub count: usize,
     pub reached: usize,
@@ -65,6 +65,7 @@ fn append_at(entries: &[u8], children: &mut [u8], notes: &[u8], i: usize) -> Ask
 }
 
 // The sweep over tables that pass the check, under every visibility that the notes are of.
+// A loop over numbers: the entry it stops in front of is told by its number.
 pub fn append_all(entries: &[u8], children: &mut [u8], notes: &[u8]) -> Swept
     requires { SoundNames entries.now children.old × (length entries.now / entry_size ≤ length notes.now) }
     ensures { SoundNames entries.now children.new
@@ -77,7 +78,7 @@ pub fn append_all(entries: &[u8], children: &mut [u8], notes: &[u8]) -> Swept
         match append_at(entries, children, notes, i) {
             Asked::Nothing => {}
             Asked::Room => {
-                n = n + 1;
+                n += 1;
             }
             Asked::More => {
                 return Swept {

@@ -7,7 +7,7 @@ use native.Mathlib.Numerals.{add-one}
 use native.Mathlib.Omega.{arith}
 use mir.Val.{bool_byte}
 use lib.ListN.{length, take, set}
-use lib.Seq.{take-suc, take_all, take-suc-set}
+use lib.Seq.{take-suc, take_all, take-suc-set, take-append_seam}
 use Rattle.fid.specs.declared.MdtFid.{MdtFid}
 use Rattle.names.specs.Rows.{Entry, entry_size, decode_entry, parse_entries}
 use Rattle.names.specs.Sweeps.{one}
@@ -20,10 +20,6 @@ module _ (seen : MdtFid → Bool) (e : Entry) (b : ℕ) where
   pub note_visible : seen e.parent ≡ true → 1 ≡ note_of seen e
   unfolding note_of one
   note_visible h = rw h
-
-  pub note_hidden : seen e.parent ≡ false → 0 ≡ note_of seen e
-  unfolding note_of one
-  note_hidden h = rw h
 
   pub hidden_note : b ≡ 0 → b ≡ note_of seen e → seen e.parent ≡ false
   unfolding note_of one
@@ -58,11 +54,14 @@ module _ (seen : MdtFid → Bool) (entries : List ℕ) where
       rw (take-suc (parse_entries entries) i (decode_entry []) (omega (arith, parsed_entries entries)), entry_row entries i h) in
       rw (add-one i, take-suc-set l i b k, n, t, map-append (note_of seen) (take i (parse_entries entries)) (entry_at entries i ∷ []), e)
 
-  pub noted_all : (i : ℕ) (l : List ℕ) → length entries / entry_size ≤ i → i ≤ length entries / entry_size → NotedTo i l → Noted seen entries l
+  pub noted_all : (i : ℕ) (l rest : List ℕ) → length entries / entry_size ≤ i → i ≤ length entries / entry_size → length l ≡ i → NotedTo i l →
+      Noted seen entries (l ++ rest)
   unfolding NotedTo Noted
-  noted_all i l h k n =
+  noted_all i l rest h k q n =
       let z : i ≡ length entries / entry_size = omega arith in
-      rw (← z) (n ∙ ap (map (note_of seen)) (take_all i (parse_entries entries) (omega (arith, parsed_entries entries))))
+      rw (← z)
+      (ap (λ (j : ℕ). take j (l ++ rest)) (sym q) ∙ take-append_seam l rest ∙ sym (take_all i l (omega (arith, q))) ∙ n
+      ∙ ap (map (note_of seen)) (take_all i (parse_entries entries) (omega (arith, parsed_entries entries))))
 
 -- a flag counted
 pub flag_one : (b : Bool) (n : ℕ) → n ≡ bool_byte b → n ≡ one b
@@ -73,3 +72,8 @@ flag_one false n e = e
 pub flag_most : (b : Bool) (n : ℕ) → n ≡ bool_byte b → n ≤ 1
 flag_most true n e = omega (arith, e)
 flag_most false n e = omega (arith, e)
+
+-- a flag noted
+pub noted_flag : (seen : MdtFid → Bool) (e : Entry) (b : Bool) (n : ℕ) → n ≡ bool_byte b → b ≡ seen e.parent → n ≡ note_of seen e
+unfolding note_of
+noted_flag seen e b n k h = flag_one b n k ∙ ap one h

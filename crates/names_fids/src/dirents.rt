@@ -37,6 +37,7 @@ fn write_fid(entries: &mut [u8], children: &[u8], notes: &[u8], i: usize) -> boo
 }
 
 // The sweep over tables that pass the check, and how many FIDs were written, under every visibility that the notes are of.
+// A loop: turn i writes row i of the entries, and of rows that chunks_exact_mut lends a proof knows the length only.
 pub fn write_fids(entries: &mut [u8], children: &[u8], notes: &[u8]) -> usize
     requires { SoundNames entries.old children.now × (length entries.old / entry_size ≤ length notes.now) }
     ensures { SoundNames entries.new children.now

@@ -4,22 +4,26 @@ ghost use Rattle.names.specs.Rows.{entry_size, parse_children};
 ghost use Rattle.names.specs.Visible.{seen_by};
 ghost use Rattle.names_check.specs.Asked.{entry_at};
 ghost use Rattle.names_marks.specs.Directories.{IndexedUnder};
-ghost use Rattle.names_store.specs.Notes.{note_of, Noted};
+ghost use Rattle.names_store.specs.Notes.{Noted};
 
 use names::rows;
 use names::rows::ENTRY_SIZE;
 use names_marks::marked;
 
-// The note of entry i.
-fn note_of(entries: &[u8], children: &[u8], marks: &[u64], index: &[u8], n: usize, i: usize) -> u8
+// Whether the directory of entry i is visible under the marks.
+fn entry_seen(
+    entries: &[u8],
+    children: &[u8],
+    marks: &[u64],
+    index: &[u8],
+    n: usize,
+    i: usize,
+) -> bool
     requires { IndexedUnder children.now marks.now index.now n × (i < length entries.now / entry_size) }
-    ensures { result ≡ note_of (seen_by marks.now (parse_children children.now)) (entry_at entries.now i) }
+    ensures { result ≡ seen_by marks.now (parse_children children.now) (entry_at entries.now i).parent }
 {
     let row = tables::rows::row_at(entries, ENTRY_SIZE, i);
-    if marked::seen(children, marks, index, n, rows::parent_of(row)) {
-        return 1;
-    }
-    0
+    marked::seen(children, marks, index, n, rows::parent_of(row))
 }
 
 // Notes of each entry whether its directory is visible under the marks.
@@ -35,7 +39,7 @@ pub fn note(
     ensures { Noted (seen_by marks.now (parse_children children.now)) entries.now notes.new }
 {
     let count = entries.len() / ENTRY_SIZE;
-    for i in 0..count {
-        notes[i] = note_of(entries, children, marks, index, n, i);
+    for (i, note) in notes[..count].iter_mut().enumerate() {
+        *note = u8::from(entry_seen(entries, children, marks, index, n, i));
     }
 }

@@ -2,14 +2,14 @@
 use Rattle.std.specs.Prelude.{Result, Ok, Err, None, Some, ⊤, is_some}
 use mathlib.Core.Path.{◌≡◌, refl, sym, ap, ◌∙◌}
 use mathlib.Core.Bool.{Bool, true, false, cond, not, ◌||◌, true≢false}
-use mathlib.Core.List.{List, [], ◌∷◌, map}
+use mathlib.Core.List.{List, [], ◌∷◌, ◌++◌, map}
 use Prim.Native.Nat.{ℕ, zero, suc, ◌+◌, ◌≤◌, ◌<◌}
 use native.Mathlib.Nat.{zero-add, not-suc-le-zero}
 use native.Mathlib.Numerals.{add-one}
 use native.Mathlib.Omega.{arith}
-use lib.ListN.{length, drop, get_or, set, length-map, drop_of_length-le}
-use lib.Seq.{sets, drop-cons}
-use Rattle.wire.proofs.Splice.{stored, stored_none, stored_next, stored_all_lem}
+use lib.ListN.{length, take, drop, get_or, set, length-map, drop_of_length-le}
+use lib.Seq.{sets, drop-cons, length-take-le}
+use Rattle.wire.proofs.Splice.{sets_whole, sets_front, stored, stored_none, stored_next, stored_all_lem}
 use Rattle.fid.specs.declared.MdtFid.{MdtFid}
 use Rattle.names.specs.Rows.{Child, is_none, no_child, child_at}
 use Rattle.names.specs.Findings.{any}
@@ -107,9 +107,15 @@ module _ (levels : ℕ) (cs : List Child) where
   marks_next marks l r m p h e =
       rw zero-add at (stored_next marks 0 (map (mark_of levels cs) cs) r m l p (rw (length-map cs (mark_of levels cs)) h) (e ∙ sym (mark_at_lem (mark_of levels cs) cs r h)))
 
-  pub marks_all : (marks l : List ℕ) (r : ℕ) → l ≡ marked_to marks r → length cs ≤ r → l ≡ sets marks 0 (judged levels cs)
+  pub marks_all : (marks l : List ℕ) (n r : ℕ) → l ≡ marked_to (take n marks) r → n ≤ length marks → length cs ≡ n → n ≤ r →
+      l ++ drop n marks ≡ sets marks 0 (judged levels cs)
   unfolding marked_to judged
-  marks_all marks l r p h = stored_all_lem marks 0 (map (mark_of levels cs) cs) r l p (rw (length-map cs (mark_of levels cs)) h)
+  marks_all marks l n r p k q h =
+      let js : List ℕ = map (mark_of levels cs) cs in
+      let m : length js ≡ n = length-map cs (mark_of levels cs) ∙ q in
+      let e : l ≡ js =
+      stored_all_lem (take n marks) 0 js r l p (omega (arith, m)) ∙ sets_whole js (take n marks) (length-take-le n marks k ∙ sym m) in
+      rw e (ap (λ (j : ℕ). js ++ drop j marks) (sym m) ∙ sym (sets_front js marks (omega (arith, m))))
 
 -- ## The whole
 

@@ -1,8 +1,8 @@
 -- Notes of the lent room: one is made, the others stand, and a look by right notes is right. Assumes nothing.
-use Rattle.std.specs.Prelude.{Option, None, Some}
+use Rattle.std.specs.Prelude.{Option, None, Some, replicate}
 use mathlib.Core.Path.{◌≡◌, refl, sym, ap, subst, ◌∙◌}
 use mathlib.Core.Bool.{Bool, true, false, cond}
-use mathlib.Core.List.{List, [], ◌∷◌}
+use mathlib.Core.List.{List, [], ◌∷◌, ◌++◌}
 use Prim.Native.Nat.{ℕ, zero, suc, ◌+◌, ◌-◌, ◌*◌, ◌/◌, ◌%◌, ◌^◌, ◌≤◌, ◌<◌}
 use native.Mathlib.Nat.{mod-eq_of_lt, not-suc-le-zero}
 use native.Mathlib.Numerals.{add-one}
@@ -189,23 +189,19 @@ few_above k cs g above e h = subst (λ (x : Ended). Few max_levels x) (sym e) (g
 
 -- ## Blank notes
 
-pub blank_start : (room : List ℕ) → Blank 0 room
-unfolding Blank
-blank_start room r h = absurd (not-suc-le-zero h)
+drop_zeros : (n m : ℕ) (l : List ℕ) → drop n (replicate (m + n) 0 ++ l) ≡ replicate m 0 ++ l
+drop_zeros zero m l = let z : m + zero ≡ m = omega arith in rw z
+drop_zeros (suc n) m l = let z : m + suc n ≡ suc (m + n) = omega arith in rw z (drop_zeros n m l)
 
-pub blank_next : (n : ℕ) (room new : List ℕ) → place_size * n + place_size ≤ length room → new ≡ sets room (place_size * n) (bytes 4 0) → Blank n room →
-    Blank (n + 1) new
-unfolding Blank
-blank_next n room new h p b r k = rw p (go (eqb r n) refl)
-  where
-    go : (t : Bool) → eqb r n ≡ t → note_at r (sets room (place_size * n) (bytes 4 0)) ≡ 0
-    go true e =
-        ap (λ (j : ℕ). note_at j (sets room (place_size * n) (bytes 4 0))) (eqb-true r n e) ∙ note_same n 0 room h (omega arith)
-    go false e = note_other n r 0 room (eqb-false r n e) ∙ b r (omega (arith, eqb-false r n e))
+blank_zeros : (n : ℕ) (l : List ℕ) → Blank n (replicate (place_size * n) 0 ++ l)
+unfolding Blank note_at le
+blank_zeros n l r h =
+    let k : ℕ = place_size * n - (place_size * r + 4) in
+    let z : place_size * n ≡ suc (suc (suc (suc k))) + place_size * r = omega arith in
+    ap (λ (m : ℕ). le 4 (drop (place_size * r) (replicate m 0 ++ l))) z ∙ ap (le 4) (drop_zeros (place_size * r) (suc (suc (suc (suc k)))) l)
 
-pub blank_all : (r n : ℕ) (room : List ℕ) → n ≤ r → Blank r room → Blank n room
-unfolding Blank
-blank_all r n room h b i k = b i (omega arith)
+pub blank_by : (n : ℕ) (x l : List ℕ) (m : ℕ) → m ≡ place_size * n → x ≡ replicate m 0 → Blank n (x ++ l)
+blank_by n x l m h e = rw (e, h) (blank_zeros n l)
 
 pub blank_noted : (cs : List Child) (n : ℕ) (room : List ℕ) → length cs ≤ n → Blank n room → Noted cs room
 unfolding Blank Noted

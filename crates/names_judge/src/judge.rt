@@ -15,7 +15,6 @@ use index::PLACE_SIZE;
 use names::rows;
 use names::rows::CHILD_SIZE;
 use refusals::Refusal;
-use wire::Little;
 
 // The mark of a hidden directory, of a visible one, and of a row without self FID.
 pub const HIDDEN: u64 = 0;
@@ -29,9 +28,7 @@ fn clear(room: &mut [u8], count: usize)
     requires { place_size * count ≤ length room.old }
     ensures { Blank count room.new }
 {
-    for r in 0..count {
-        wire::put::<u32, Little>(room, PLACE_SIZE * r, 0);
-    }
+    room[..PLACE_SIZE * count].fill(0);
 }
 
 // The mark of a directory by how its climb ends.
@@ -90,8 +87,8 @@ fn put_marks(children: &[u8], index: &[u8], n: usize, room: &mut [u8], marks: &m
     ensures { marks.new ≡ sets marks.old 0 (judged max_levels (parse_children children.now)) }
 {
     let count = children.len() / CHILD_SIZE;
-    for r in 0..count {
-        marks[r] = row_mark(children, index, n, room, r);
+    for (r, mark) in marks[..count].iter_mut().enumerate() {
+        *mark = row_mark(children, index, n, room, r);
     }
 }
 

@@ -24,6 +24,7 @@ pub fn put_row(index: &mut [u8], n: usize, r: u32, name: MdtFid) -> usize
 }
 
 // Puts the rows that have a self FID in the index, and tells how many they are.
+// A loop: how many were put so far says where the next one goes.
 pub fn list(children: &[u8], index: &mut [u8]) -> usize
     requires { (length children.now / child_size ≤ max_rows) × (place_size * (length children.now / child_size) ≤ length index.old) }
     ensures { (entries result index.new ≡ child_numbers (parse_children children.now)) × (result ≤ length children.now / child_size) }

@@ -1,16 +1,16 @@
 -- Marks that fit the rows, one by one. Assumes nothing.
 use mathlib.Core.Path.{◌≡◌, refl, sym, ap, ◌∙◌}
 use mathlib.Core.Bool.{Bool, true, false, not, ◌&&◌, or-false}
-use mathlib.Core.List.{List, [], ◌∷◌}
-use Prim.Native.Nat.{ℕ, suc, ◌+◌, ◌≤◌, ◌<◌}
-use native.Mathlib.Numerals.{add-one}
+use mathlib.Core.List.{List, [], ◌∷◌, map}
+use Prim.Native.Nat.{ℕ, suc, ◌≤◌, ◌<◌}
 use native.Mathlib.Omega.{arith}
 use borrow.Author.Tests.{lt-ltb, le-ltb, ne_eqb}
 use lib.Dec.{eqb}
-use lib.ListN.{length, drop, get_or, drop_of_length-le}
-use lib.Seq.{drop-cons}
+use lib.ListN.{length}
 use Rattle.fid.specs.declared.MdtFid.{MdtFid}
-use Rattle.names.specs.Rows.{Child, is_none, no_child, child_at}
+use Rattle.names.specs.Rows.{Child, is_none, decode_child}
+use Rattle.std.specs.List.{list_all, zip}
+use Rattle.std.proofs.Common.{nat_eq}
 use Rattle.names.specs.Visible.{no_self_mark, good_mark, good_marks}
 use Rattle.names_marks.specs.Directories.{fit_mark}
 
@@ -33,25 +33,19 @@ other_many (m ∷ ms) (c ∷ cs) h = go (good_mark m c) (other_many ms cs (λ e.
     go true e = e
     go false e = refl
 
-module _ (ms : List ℕ) (cs : List Child) where
-  -- from row r on
-  pub fit_from : ℕ → Bool
-  fit_from r = good_marks (drop r ms) (drop r cs)
+pub other_count : (ms : List ℕ) (cs : List Child) (n : ℕ) → length cs ≡ n → (length ms ≡ n → ⊥) → nat_eq (length ms) n ≡ good_marks ms cs
+other_count ms cs n e h = ne_eqb (length ms) n h ∙ other_many ms cs (λ k. h (k ∙ e))
 
-  pub fit_start : good_marks ms cs ≡ fit_from 0
-  unfolding fit_from
-  fit_start = refl
+-- the self FIDs of the rows beside their marks
+abbrev pub self_in : List ℕ → MdtFid
+self_in row = (decode_child row).self
 
-  next : (r : ℕ) → r < length ms → r < length cs → fit_from r ≡ (fit_mark (get_or ms r 0) (child_at cs r).self && fit_from (r + 1))
-  unfolding fit_from good_marks good_mark fit_mark child_at
-  next r h k = rw (add-one r, drop-cons ms r 0 h, drop-cons cs r no_child k)
+abbrev pub fit_pair : ℕ × MdtFid → Bool
+fit_pair p = fit_mark p.0 p.1
 
-  pub fit_not : (r : ℕ) → r < length ms → r < length cs → fit_mark (get_or ms r 0) (child_at cs r).self ≡ false → fit_from r ≡ false
-  fit_not r h k t = next r h k ∙ rw t
-
-  pub fit_on : (r : ℕ) → r < length ms → r < length cs → fit_mark (get_or ms r 0) (child_at cs r).self ≡ true → fit_from r ≡ fit_from (r + 1)
-  fit_on r h k t = next r h k ∙ rw t
-
-  pub fit_all : (r : ℕ) → length ms ≤ r → length cs ≤ r → fit_from r ≡ true
-  unfolding fit_from good_marks
-  fit_all r h k = rw (drop_of_length-le ms h, drop_of_length-le cs k)
+pub fit_pairs : (ms : List ℕ) (rs : List (List ℕ)) → length ms ≡ length rs → list_all fit_pair (zip ms (map self_in rs)) ≡ good_marks ms (map decode_child rs)
+unfolding good_marks good_mark fit_mark
+fit_pairs [] [] h = refl
+fit_pairs [] (r ∷ rs) h = absurd (omega (arith, h))
+fit_pairs (m ∷ ms) [] h = absurd (omega (arith, h))
+fit_pairs (m ∷ ms) (r ∷ rs) h = ap (λ (b : Bool). fit_mark m (self_in r) && b) (fit_pairs ms rs (omega (arith, h)))

@@ -23,15 +23,12 @@ fn good_mark(mark: u64, f: MdtFid) -> bool
 pub fn good_marks(children: &[u8], marks: &[u64]) -> bool
     ensures { result ≡ good_marks marks.now (parse_children children.now) }
 {
-    let count = children.len() / CHILD_SIZE;
-    if marks.len() != count {
-        return false;
-    }
-    for r in 0..count {
-        let row = tables::rows::row_at(children, CHILD_SIZE, r);
-        if !good_mark(marks[r], rows::self_of(row)) {
-            return false;
-        }
-    }
-    true
+    let selves = children
+        .chunks_exact(CHILD_SIZE)
+        .map(|row| rows::self_of(row));
+    marks.len() == children.len() / CHILD_SIZE
+        && marks
+            .iter()
+            .zip(selves)
+            .all(|(mark, own)| good_mark(*mark, own))
 }

@@ -24,6 +24,7 @@ fn self_under(mark: u64, f: MdtFid) -> MdtFid
 }
 
 // Puts the rows that are directories under the marks in the index, and tells how many they are.
+// A loop: how many were put so far says where the next one goes.
 fn list(children: &[u8], marks: &[u64], index: &mut [u8]) -> usize
     requires { (length children.now / child_size ≤ max_rows) × (length marks.now ≡ length children.now / child_size) × (place_size * (length children.now / child_size) ≤ length index.old) }
     ensures { (entries result index.new ≡ child_numbers (directories marks.now (parse_children children.now))) × (result ≤ length children.now / child_size) }

@@ -13,7 +13,7 @@ use refusals::Refusal;
 
 // What a mending did: self FIDs taken, FID-in-dirents written, records appended, records removed, the entry it stopped in front of or the
 // number of entries, and whether it stopped.
-#[derive(Clone, Copy)]
+#[derive(Clone, Copy, Debug, PartialEq, Eq)]
 pub struct Mending {
     pub taken: usize,
     pub written: usize,

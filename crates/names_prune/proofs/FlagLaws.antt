@@ -6,6 +6,7 @@ use mathlib.Core.List.{List, [], ◌∷◌, ◌++◌, append_assoc, append-nil}
 use Prim.Native.Nat.{ℕ, ◌+◌, ◌-◌, ◌/◌, ◌≤◌, ◌<◌}
 use native.Mathlib.Nat.{not-suc-le-zero}
 use native.Mathlib.Omega.{arith}
+use mir.Val.{bool_byte}
 use lib.Dec.{eqb}
 use lib.ListN.{length, take, drop, get_or, set, length-append, length-take, length-map, drop_of_length-le}
 use lib.Seq.{take_all, length-take-le}
@@ -28,13 +29,19 @@ use Rattle.names_prune.proofs.RecordLaws.{taken, inside}
 
 -- ## One record
 
-one_most : (b : Bool) → one b ≤ 1
+-- the flag as a byte, and how many more are gone by it
+pub flag_byte : (s b : Bool) (f : ℕ) → f ≡ bool_byte s → s ≡ not b → f ≡ one (not b)
 unfolding one
-one_most true = omega arith
-one_most false = omega arith
+flag_byte true b f k h = rw (k, ← h)
+flag_byte false b f k h = rw (k, ← h)
 
-pub flag_most : (b : Bool) (f : ℕ) → f ≡ one b → f ≤ 1
-flag_most b f e = rw e (one_most b)
+pub gone_most : (s : Bool) (g : ℕ) → g ≡ bool_byte (not s) → g ≤ 1
+gone_most true g e = omega (arith, e)
+gone_most false g e = omega (arith, e)
+
+pub gone_byte : (s : Bool) (f g : ℕ) → f ≡ bool_byte s → g ≡ bool_byte (not s) → 1 - f ≡ g
+gone_byte true f g k h = omega (arith, k, h)
+gone_byte false f g k h = omega (arith, k, h)
 
 one_zero : (b : Bool) → one b ≡ 0 → b ≡ false
 unfolding one
@@ -45,15 +52,6 @@ one_some : (b : Bool) → (one b ≡ 0 → ⊥) → b ≡ true
 unfolding one
 one_some true h = refl
 one_some false h = absurd (h refl)
-
--- the flag of a record that goes, and of one that stays
-pub flag_zero : (b c : Bool) → b ≡ c → b ≡ true → 0 ≡ one (not c)
-unfolding one
-flag_zero b c e h = rw (← e, h)
-
-pub flag_one : (b c : Bool) → b ≡ c → b ≡ false → 1 ≡ one (not c)
-unfolding one
-flag_one b c e h = rw (← e, h)
 
 -- a record that an entry has: its directory is the entry's
 same_parent : (x y : Link) → same_link x y ≡ true → y.parent ≡ x.parent

@@ -35,6 +35,7 @@ fn flag_child(lent: Lent<'_>, r: usize, flags: &mut [u8]) -> usize
 }
 
 // Removes the records of child r that go, and tells how many they were.
+// The parts come one by one: `Lent` reads the children, which this writes.
 fn prune_child(
     entries: &[u8],
     children: &mut [u8],
@@ -72,6 +73,7 @@ fn prune_child(
 }
 
 // Sweep 4 over tables that pass the check, and how many records were removed.
+// A loop: turn r reads all children and then writes row r of them, so no iterator can lend that row.
 pub fn prune(
     entries: &[u8],
     children: &mut [u8],

@@ -5,7 +5,7 @@ ghost use Rattle.linkea.specs.Conditions.{bad_record, refused_link};
 ghost use Rattle.names.specs.Rows.{link_room, parse_entries, parse_children};
 ghost use Rattle.names.specs.Findings.{any, same_link};
 ghost use Rattle.names.specs.Visible.{seen_by};
-ghost use Rattle.names.specs.Sweeps.{one, goes};
+ghost use Rattle.names.specs.Sweeps.{goes};
 ghost use Rattle.names_check.specs.Asked.{asked};
 ghost use Rattle.names_prune.specs.ReadyProps.{ready_props};
 ghost use Rattle.names_prune.specs.Ready.{Ready, flag_room, Told};
@@ -63,19 +63,16 @@ impl Lent<'_> {
         }
     }
 
-    // The flag of the record at place p, which has k records before it: 1 where it stays.
-    fn flag_of(self, r: u32, l: &[u8], p: usize, k: usize) -> u8
+    // Whether the record at place p stays, which has k records before it.
+    fn stays(self, r: u32, l: &[u8], p: usize, k: usize) -> bool
         requires { (refused_link l.now ≡ false) × (p < length l.now) × (bad_record l.now p ≡ false) × (k ≤ length (decode_link_ea l.now).links) }
-        ensures { result ≡ one (not (goes (seen_by self.entry.marks.now (parse_children self.entry.children.now)) (parse_entries self.entry.entries.now) r (take k (decode_link_ea l.now).links) (link_at l.now p))) }
+        ensures { result ≡ not (goes (seen_by self.entry.marks.now (parse_children self.entry.children.now)) (parse_entries self.entry.entries.now) r (take k (decode_link_ea l.now).links) (link_at l.now p)) }
     {
         let size = wire::get::<u16, Big>(l, p) as usize;
         let parent = MdtFid(fid::read_in::<Big>(l, p + PARENT_AT));
         let a = p + NAME_AT;
         let e = p + size;
-        if self.must_go(r, l, k, parent, &l[a..e]) {
-            return 0;
-        }
-        1
+        !self.must_go(r, l, k, parent, &l[a..e])
     }
 
     // Flags the records of a linkEA of child r, and tells how many go.
@@ -88,9 +85,9 @@ impl Lent<'_> {
         let mut k = 0usize;
         let mut gone = 0usize;
         while at < l.len() {
-            let stays = self.flag_of(r, l, at, k);
-            flags[k] = stays;
-            gone += 1 - stays as usize;
+            let stays = self.stays(r, l, at, k);
+            flags[k] = u8::from(stays);
+            gone += usize::from(!stays);
             k += 1;
             at += wire::get::<u16, Big>(l, at) as usize;
         }

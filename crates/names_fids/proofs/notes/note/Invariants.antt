@@ -1,13 +1,9 @@
-use Prim.Native.Nat.{◌-◌, ◌≤◌}
-use mathlib.Core.Path.{◌≡◌}
-use lib.ListN.{length}
+use Prim.Native.Nat.{◌≤◌}
+use Rattle.std.proofs.Common.{◌≡◌, length}
 use Rattle.names.specs.Rows.{parse_children}
 use Rattle.names.specs.Visible.{seen_by}
 use Rattle.names_fids.proofs.NotedLaws.{NotedTo}
 use Rattle.names_fids.proofs.notes.note.Given as goal
 
 abbrev pub invariant-loop-i : goal.invariant-loop-i
-invariant-loop-i l = (l.i ≤ l.count) × (length l.notes ≡ length l.initial.notes) × NotedTo (seen_by l.marks (parse_children l.children)) l.entries l.i l.notes
-
-abbrev pub decreases-loop-i : goal.decreases-loop-i
-decreases-loop-i l = l.count - l.i
+invariant-loop-i l = (l.i ≤ l.count) × (length l.note-items ≡ l.count) × NotedTo (seen_by l.marks (parse_children l.children)) l.entries l.i l.note-items

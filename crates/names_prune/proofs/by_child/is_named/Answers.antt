@@ -1,5 +1,5 @@
 use Rattle.fid.proofs.SameLaws.{alike, differs}
-use mathlib.Core.Path.{sym, ◌∙◌}
+use mathlib.Core.Path.{◌∙◌}
 use native.Mathlib.Omega.{arith}
 use Rattle.names_check.specs.Asked.{asked}
 use Rattle.names_prune.proofs.ByChildLaws.{row_name, named_past, named_elsewhere, named_there_by}

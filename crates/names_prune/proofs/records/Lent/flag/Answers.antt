@@ -8,7 +8,7 @@ use Rattle.linkea.proofs.RecordLaws.{length_read}
 use Rattle.names.specs.Rows.{parse_entries, parse_children}
 use Rattle.names.specs.Visible.{seen_by}
 use Rattle.names_prune.proofs.RecordLaws.{walked_start, walked_end, walked_here, walked_next}
-use Rattle.names_prune.proofs.FlagLaws.{flag_most, flagged_start, flagged_next, flagged_end}
+use Rattle.names_prune.proofs.FlagLaws.{flag_byte, gone_most, gone_byte, flagged_start, flagged_next, flagged_end}
 use Rattle.names_prune.proofs.records.Lent.flag.Goals as goal
 use Rattle.names_prune.proofs.records.Lent.flag.Goals.{In-loop-at}
 
@@ -26,19 +26,16 @@ loop-at-init c =
       omega arith,
     )
 
-pub flag_of-stays-requires : goal.flag_of-stays-requires
-flag_of-stays-requires c =
+pub stays-stays-requires : goal.stays-stays-requires
+stays-stays-requires c =
     let l = c.args.l.now in
     (c.requires.0, omega arith, good_here l c.loop-at.at (omega arith) c.loop-at.invariant.0.good, c.loop-at.invariant.0.count)
 
 pub bounds-flags-k : goal.bounds-flags-k
 bounds-flags-k c = omega (arith, c.loop-at.invariant.0)
 
-pub overflow_sub-gone : goal.overflow_sub-gone
-overflow_sub-gone c = flag_most _ _ c.flag_of-stays.ensures
-
 pub overflow_add-gone : goal.overflow_add-gone
-overflow_add-gone c = omega (arith, c.loop-at.invariant.0, c.loop-at.invariant.1.count)
+overflow_add-gone c = omega (arith, c.loop-at.invariant.0, c.loop-at.invariant.1.count, gone_most _ _ c.from-gone.ensures)
 
 pub overflow_add-k : goal.overflow_add-k
 overflow_add-k c = omega (arith, c.loop-at.invariant.0)
@@ -59,9 +56,10 @@ loop-at-preserved c =
     let a = c.args in
     let l = a.l.now in (
       walked_next l c.loop-at.k c.loop-at.at c.loop-at.invariant.0 (omega arith) _ (ap (λ (n : ℕ). c.loop-at.at + n) (c.get.ensures ∙ length_read l c.loop-at.at)),
-      flagged_next (seen_by a.self.marks.now (parse_children a.self.children.now)) (parse_entries a.self.entries.now) a.r (decode_link_ea l).links c.loop-at.k c.loop-at.gone _
+      rw (← gone_byte _ _ _ c.from.ensures c.from-gone.ensures)
+      (flagged_next (seen_by a.self.marks.now (parse_children a.self.children.now)) (parse_entries a.self.entries.now) a.r (decode_link_ea l).links c.loop-at.k c.loop-at.gone _
           c.loop-at.flags (link_at l c.loop-at.at) c.loop-at.invariant.1 (walked_here l c.loop-at.k c.loop-at.at c.loop-at.invariant.0 (omega arith))
-          (omega (arith, c.loop-at.invariant.0)) c.flag_of-stays.ensures,
+          (omega (arith, c.loop-at.invariant.0)) (flag_byte _ _ _ c.from.ensures c.stays-stays.ensures)),
       length-set c.loop-at.flags c.loop-at.k _ ∙ c.loop-at.invariant.2,
     )
 

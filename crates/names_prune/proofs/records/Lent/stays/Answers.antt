@@ -1,4 +1,5 @@
 use mathlib.Core.Path.{ap, ◌∙◌}
+use mathlib.Core.Bool.{not}
 use native.Mathlib.Omega.{arith}
 use lib.ListN.{take}
 use Rattle.linkea.specs.Link.{decode_link_ea}
@@ -8,8 +9,7 @@ use Rattle.names.specs.Rows.{parse_entries, parse_children}
 use Rattle.names.specs.Visible.{seen_by}
 use Rattle.names.specs.Sweeps.{goes}
 use Rattle.names_prune.proofs.RecordLaws.{read_link_lem}
-use Rattle.names_prune.proofs.FlagLaws.{flag_zero, flag_one}
-use Rattle.names_prune.proofs.records.Lent.flag_of.Goals as goal
+use Rattle.names_prune.proofs.records.Lent.stays.Goals as goal
 
 pub get-size-requires : goal.get-size-requires
 get-size-requires c = omega (arith, good_record c.args.l.now c.args.p c.requires.2)
@@ -32,20 +32,10 @@ slice_bounds-must_go-end c =
     let a = c.args in
     omega (arith, good_record a.l.now a.p c.requires.2, c.get-size.ensures, length_read a.l.now a.p)
 
-pub returns-then-must_go : goal.returns-then-must_go
-returns-then-must_go c =
-    let a = c.args in
-    flag_zero _ _
-    (c.must_go.ensures
-    ∙ ap (goes (seen_by a.self.marks.now (parse_children a.self.children.now)) (parse_entries a.self.entries.now) a.r (take a.k (decode_link_ea a.l.now).links))
-    (read_link_lem a.l.now a.p _ _ c.read_in.ensures c.get-size.ensures))
-    c.if-must_go.true
-
 pub returns : goal.returns
 returns c =
     let a = c.args in
-    flag_one _ _
+    ap not
     (c.must_go.ensures
     ∙ ap (goes (seen_by a.self.marks.now (parse_children a.self.children.now)) (parse_entries a.self.entries.now) a.r (take a.k (decode_link_ea a.l.now).links))
     (read_link_lem a.l.now a.p _ _ c.read_in.ensures c.get-size.ensures))
-    c.if-must_go.false
