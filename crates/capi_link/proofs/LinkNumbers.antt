@@ -3,17 +3,16 @@ use mathlib.Core.Path.{◌≡◌, refl, sym, ◌∙◌}
 use mathlib.Core.List.{List, [], ◌∷◌}
 use mathlib.Core.Bool.{Bool, true, false, cond}
 use Prim.Native.Nat.{ℕ, ◌≤◌, ◌<◌}
-use borrow.Author.Tests.{eq-eqb, ne_eqb, le-leb, lt-leb, eqb-true, eqb-false}
+use borrow.Author.Tests.{ne_eqb, eqb-true, eqb-false}
 use native.Mathlib.Omega.{arith}
-use lib.Dec.{eqb, leb, ltb}
-use lib.ListN.{length, get_or, set}
+use lib.Dec.{eqb, ltb}
+use lib.ListN.{length, set}
 use lib.Seq.{sets}
 use Rattle.std.specs.Prelude.{Option, Some, None, Result, Ok, Err, ok_or}
 use Rattle.refusals.specs.Numbers.{number}
 use Rattle.refusals.specs.declared.Refusal.{Refusal}
 use Rattle.refusals.specs.declared.Refusal.TheVariants.{BadLink, TooShort}
 use Rattle.refusals.proofs.NumberLaws.{told_number, told_ok}
-use Rattle.wire.specs.Numbers.{max_word}
 use Rattle.linkea.specs.Answers.{read_link, reading_number, read_record, record_number}
 use Rattle.linkea.specs.declared.LinkHeader.{LinkHeader}
 use Rattle.linkea.specs.declared.Found.{Found}
@@ -96,31 +95,6 @@ module _ (l : List ℕ) (p : ℕ) (out : List ℕ) where
     record_done y k q = out_done (record_number (read_record l p)) (record_fields (read_record l p)) out y record_number_lem (rw record_fields_lem k) (rw record_fields_lem q)
 
 -- ## The fields handed in
-
-module _ (l : List ℕ) where
-  pub fit_length : (length l ≡ header_numbers → ⊥) → false ≡ fields_fit l
-  unfolding fields_fit
-  fit_length h = rw (ne_eqb (length l) header_numbers h)
-
-  pub fit_count : length l ≡ header_numbers → max_word < get_or l 0 0 → false ≡ fields_fit l
-  unfolding fields_fit
-  fit_count h k = rw (eq-eqb (length l) header_numbers h, lt-leb (get_or l 0 0) max_word k)
-
-  pub fit_time : length l ≡ header_numbers → get_or l 0 0 ≤ max_word → max_word < get_or l 2 0 → false ≡ fields_fit l
-  unfolding fields_fit
-  fit_time h k t = rw (eq-eqb (length l) header_numbers h, le-leb (get_or l 0 0) max_word k, lt-leb (get_or l 2 0) max_word t)
-
-  pub fit_padding : length l ≡ header_numbers → get_or l 0 0 ≤ max_word → get_or l 2 0 ≤ max_word → leb (get_or l 3 0) max_word ≡ fields_fit l
-  unfolding fields_fit
-  fit_padding h k t = rw (eq-eqb (length l) header_numbers h, le-leb (get_or l 0 0) max_word k, le-leb (get_or l 2 0) max_word t)
-
-pub header_none : (l : List ℕ) → fields_fit l ≡ false → None ≡ header_given l
-unfolding header_given
-header_none l f = rw f
-
-pub header_is : (l : List ℕ) → fields_fit l ≡ true → Some (record { count = get_or l 0 0; total = get_or l 1 0; time = get_or l 2 0; padding = get_or l 3 0 }) ≡ header_given l
-unfolding header_given fields_header
-header_is l f = rw f
 
 given_fits : (l : List ℕ) (b : Bool) (h : LinkHeader) → fields_fit l ≡ b → cond b (Some (fields_header l)) None ≡ Some h → (fields_fit l ≡ true) × (fields_header l ≡ h)
 given_fits l true h f e = (f, cc)

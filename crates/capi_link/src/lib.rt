@@ -1,9 +1,8 @@
 // LinkEA values as numbers: read, one record of them, and written.
 #![tactic(auto)]
 
-ghost use Rattle.std.specs.Prelude.{◌≡◌, ◌≤◌, length, SomeIff};
+ghost use Rattle.std.specs.Prelude.{◌≡◌, ◌≤◌, length};
 ghost use Rattle.std.proofs.lemmas.List.Edits.{sets};
-ghost use Rattle.wire.specs.Numbers.{max_word};
 ghost use Rattle.refusals.specs.Numbers.{answer};
 ghost use Rattle.linkea.specs.Answers.{read_link, reading_number, read_record, record_number};
 ghost use Rattle.capi_out.specs.Out.{out_answer, out_numbers};
@@ -65,13 +64,6 @@ pub fn link_record(link: &[u8], place: u64, out: &mut [u64]) -> Result<(), Refus
     Ok(())
 }
 
-// A number as one of 32 bits, if it fits.
-fn word(n: u64) -> Option<u32>
-    ensures { SomeIff result (n ≤ max_word) n }
-{
-    u32::try_from(n).ok()
-}
-
 // The header of the numbers handed in, if there are four and each fits its field.
 fn given_header(fields: &[u64]) -> Option<LinkHeader>
     ensures { result ≡ header_given fields.now }
@@ -80,10 +72,10 @@ fn given_header(fields: &[u64]) -> Option<LinkHeader>
         return None;
     };
     Some(LinkHeader {
-        count: word(count)?,
+        count: u32::try_from(count).ok()?,
         total,
-        time: word(time)?,
-        padding: word(padding)?,
+        time: u32::try_from(time).ok()?,
+        padding: u32::try_from(padding).ok()?,
     })
 }
 

@@ -1,18 +1,20 @@
 -- The owners file byte by byte: its numbers, its line and where the next one begins. Assumes nothing.
 use Prim.Native.Nat.{ℕ, suc, ◌+◌, ◌-◌, ◌*◌, ◌≤◌, ◌<◌}
-use mathlib.Core.Path.{◌≡◌, refl, sym, ap, subst, ◌∙◌}
-use mathlib.Core.List.{List, [], ◌∷◌, ◌++◌, append-nil, append_assoc}
+use mathlib.Core.Path.{◌≡◌, refl, sym, ap, ◌∙◌}
+use mathlib.Core.List.{List, [], ◌∷◌}
 use mathlib.Core.Bool.{Bool, true, false, cond, ◌&&◌}
 use native.Mathlib.Numerals.{add-one}
 use native.Mathlib.Omega.{arith}
 use lib.ListN.{length, take, drop, get_or, length-drop, drop_of_length-le}
-use lib.Seq.{drop-cons, drop-length, take-suc, get_or-drop}
-use lib.Dec.{leb, ltb}
+use lib.Seq.{drop-cons, drop-drop, drop-length}
+use Rattle.std.proofs.lemmas.List.{take_all}
+use Rattle.std.specs.List.{position_or_len}
+use lib.Dec.{eqb, leb, ltb}
 use Rattle.wire.proofs.Both.{and_first, and_second}
-use borrow.Author.Tests.{eq-eqb, ne_eqb, leb-true, le-leb, lt-leb, lt-ltb, le-ltb}
+use borrow.Author.Tests.{ltb-true, ltb-false, eq-eqb, ne_eqb, leb-true, le-leb, lt-leb, lt-ltb, le-ltb}
 use Rattle.wire.specs.Numbers.{max_word}
 use Rattle.intake.specs.Owners.{Number, no_number, number, is_decimal, told, decimal, after_space, third, second, first, until_line, after_line}
-use Rattle.std.specs.Prelude.{Some, None}
+use Rattle.std.specs.Prelude.{Option, Some, None}
 use Rattle.std.specs.Char.{is_ascii_digit}
 use Rattle.intake_close.specs.OwnerLine.{NumberRead, OwnerRead, told_at, number_in, end_of, NumberTold, SpaceTold, owner_in, OwnerTold, LineStops, LineAfter}
 
@@ -177,68 +179,68 @@ ends_within m x n end h e = rw e at h
 
 -- ## The line
 
--- a line of which so much has been passed
-pub record Passed (s : List ℕ) (from at : ℕ) : Type 0 where
-  pub least : from ≤ at
-  pub within : at ≤ length s
-  pub line : until_line (drop from s) ≡ take (at - from) (drop from s) ++ until_line (drop at s)
-  pub after : after_line (drop from s) ≡ after_line (drop at s)
+-- how many bytes stand before a line's end
+abbrev pub line_long : List ℕ → ℕ
+line_long l = position_or_len (λ b. eqb b 10) l
 
-module _ (s : List ℕ) (from : ℕ) where
-  pub pass_start : from ≤ length s → Passed s from from
-  pass_start h =
-      let z : from - from ≡ 0 = omega arith in
-      record { least = omega arith; within = h; line = rw z; after = refl }
+until_long : (l : List ℕ) → until_line l ≡ take (line_long l) l
+unfolding until_line
+until_long [] = refl
+until_long (b ∷ l) = go (eqb b 10) refl (until_long l)
+  where
+    go : (t : Bool) → eqb b 10 ≡ t → until_line l ≡ take (line_long l) l → until_line (b ∷ l) ≡ take (line_long (b ∷ l)) (b ∷ l)
+    go true e q = rw e
+    go false e q = let k : 1 + line_long l ≡ suc (line_long l) = omega arith in rw (e, q, k)
 
-  module _ (at : ℕ) (g : Passed s from at) (h : at < length s) where
-    until_on : (get_or s at 0 ≡ 10 → ⊥) → until_line (drop at s) ≡ get_or s at 0 ∷ until_line (drop (suc at) s)
-    unfolding until_line
-    until_on e = rw (drop-cons s at 0 h, ne_eqb (get_or s at 0) 10 e)
+after_long : (l : List ℕ) → after_line l ≡ drop (suc (line_long l)) l
+unfolding after_line
+after_long [] = refl
+after_long (b ∷ l) = go (eqb b 10) refl (after_long l)
+  where
+    go : (t : Bool) → eqb b 10 ≡ t → after_line l ≡ drop (suc (line_long l)) l → after_line (b ∷ l) ≡ drop (suc (line_long (b ∷ l))) (b ∷ l)
+    go true e q = rw e
+    go false e q = let k : 1 + line_long l ≡ suc (line_long l) = omega arith in rw (e, q, k)
 
-    after_on : (get_or s at 0 ≡ 10 → ⊥) → after_line (drop at s) ≡ after_line (drop (suc at) s)
-    unfolding after_line
-    after_on e = rw (drop-cons s at 0 h, ne_eqb (get_or s at 0) 10 e)
+nothing_not : (n : ℕ) → ◌≡◌ {A = Option ℕ} (Some n) None → ⊥
+nothing_not n e = let z : ◌≡◌ {A = ℕ} 0 1 = cc e in omega (arith, z)
 
-    taken_on : take (at + 1 - from) (drop from s) ≡ take (at - from) (drop from s) ++ get_or s at 0 ∷ []
-    taken_on =
-        let n : at + 1 - from ≡ suc (at - from) = omega (arith, g.least) in
-        let k : from + (at - from) ≡ at = omega (arith, g.least) in
-        let w : at - from < length (drop from s) = rw length-drop (omega (arith, g.least)) in
-        rw (n, take-suc (drop from s) (at - from) 0 w, get_or-drop from s (at - from) 0, k)
+found_cases : (p m n : ℕ) (b : Bool) → ltb p m ≡ b → Some n ≡ cond b (Some p) None → (n ≡ p) × (p < m)
+found_cases p m n true e h = (cc h, ltb-true p m e)
+found_cases p m n false e h = absurd (nothing_not n h)
 
-    pub pass_on : (get_or s at 0 ≡ 10 → ⊥) → Passed s from (at + 1)
-    pass_on e = record {
-      least = omega (arith, g.least);
-      within = omega arith;
-      line = g.line ∙ rw (until_on e, taken_on, append_assoc, add-one);
-      after = g.after ∙ rw (after_on e, add-one);
-    }
+none_cases : (p m : ℕ) (b : Bool) → ltb p m ≡ b → None ≡ cond b (Some p) None → m ≤ p
+none_cases p m true e h = absurd (nothing_not p (sym h))
+none_cases p m false e h = ltb-false p m e
 
-    pub pass_end : get_or s at 0 ≡ 10 → LineStops s from at
-    unfolding until_line after_line
-    pass_end e = record {
-      least = g.least;
-      within = g.within;
-      line = g.line ∙ rw (drop-cons s at 0 h, eq-eqb (get_or s at 0) 10 e, append-nil);
-      after = g.after ∙ rw (drop-cons s at 0 h, eq-eqb (get_or s at 0) 10 e);
-    }
+module _ (s : List ℕ) (from : ℕ) (h : from ≤ length s) where
+  pub rest_whole : take (length s - from) (drop from s) ≡ drop from s
+  rest_whole = let n = length-drop from s in take_all (length s - from) (drop from s) (omega (arith, n))
 
-  pass_end_at : (at : ℕ) → Passed s from at → length s ≤ at → LineStops s from at
-  unfolding until_line after_line
-  pass_end_at at g h =
-      let z : drop (suc at) s ≡ [] = drop_of_length-le s {i = suc at} (omega arith) in
+  pub stops_found : (n : ℕ) → Some n ≡ cond (ltb (line_long (drop from s)) (length (drop from s))) (Some (line_long (drop from s))) None → LineStops s from (from + n)
+  stops_found n e =
+      let l : List ℕ = drop from s in
+      let p = found_cases (line_long l) (length l) n (ltb (line_long l) (length l)) refl e in
+      let z : from + n - from ≡ line_long l = omega (arith, p.0) in
+      let k : suc (from + n) ≡ from + suc (line_long l) = omega (arith, p.0) in
       record {
-        least = g.least;
-        within = g.within;
-        line = g.line ∙ rw (drop_of_length-le s h, append-nil);
-        after = g.after ∙ rw (drop_of_length-le s h, z);
+        least = omega arith;
+        within = omega (arith, p.0, p.1, length-drop from s);
+        line = rw z (until_long l);
+        after = after_long l ∙ rw (drop-drop (suc (line_long l)) from s, k);
       }
 
-  pub pass_last : (at : ℕ) → Passed s from at → length s ≤ at → LineStops s from (length s)
-  pass_last at g h =
-      let e : at ≡ length s = omega (arith, g.within) in
-      subst (λ (n : ℕ). LineStops s from n) e (pass_end_at at g h)
+  pub stops_end : None ≡ cond (ltb (line_long (drop from s)) (length (drop from s))) (Some (line_long (drop from s))) None → LineStops s from (length s)
+  stops_end e =
+      let l : List ℕ = drop from s in
+      let p : length l ≤ line_long l = none_cases (line_long l) (length l) (ltb (line_long l) (length l)) refl e in
+      record {
+        least = h;
+        within = omega arith;
+        line = until_long l ∙ take_all (line_long l) l p ∙ sym rest_whole;
+        after = after_long l ∙ drop_of_length-le l {i = suc (line_long l)} (omega arith) ∙ sym (drop_of_length-le s {i = suc (length s)} (omega arith));
+      }
 
+module _ (s : List ℕ) (from : ℕ) where
   pub after_next : (end : ℕ) → LineStops s from end → end < length s → LineAfter s from (end + 1)
   after_next end g h = record { least = omega (arith, g.least); within = omega arith; after = g.after ∙ rw add-one }
 

@@ -40,6 +40,7 @@ fn close_object(buf: &[u8], w: Owner, index: u32, objects: &mut [u8]) -> Result<
 }
 
 // An entry of this owner.
+// The tables stay two arguments: a struct that holds them as &mut needs a clause on each reference in every function that passes it on.
 fn close_owned(
     buf: &[u8],
     m: Marks,

@@ -23,6 +23,7 @@ pub fn number(line: &[u8], from: usize) -> Option<(u32, usize)>
     ensures { NumberTold line.now from result }
 {
     let mut n: u64 = 0;
+    // A loop: the place where the digits end is part of the answer.
     for at in from..line.len() {
         let b = line[at];
         if !b.is_ascii_digit() {
@@ -65,12 +66,10 @@ pub fn line_stop(s: &[u8], from: usize) -> usize
     requires { from ≤ length s.now }
     ensures { LineStops s.now from result }
 {
-    for at in from..s.len() {
-        if s[at] == NEWLINE {
-            return at;
-        }
+    match s[from..].iter().position(|b| *b == NEWLINE) {
+        Some(n) => from + n,
+        None => s.len(),
     }
-    s.len()
 }
 
 // Where the line after it begins, or the file's end.

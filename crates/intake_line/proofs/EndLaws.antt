@@ -6,7 +6,7 @@ use mathlib.Core.Bool.{Bool, true, false, cond}
 use native.Mathlib.Omega.{arith}
 use lib.ListN.{length, take, drop, length-take, length-drop}
 use lib.Dec.{eqb}
-use borrow.Author.Tests.{eq-eqb, ne_eqb}
+use borrow.Author.Tests.{ne_eqb}
 use denote.Enum.Bare.{sameb}
 use Rattle.intake.specs.contracts.Kind.{the_type}
 use Rattle.intake.specs.declared.Kind.{Kind}
@@ -15,8 +15,8 @@ use Rattle.intake_bytes.specs.declared.Half.{Half}
 use Rattle.intake_bytes.specs.declared.Half.TheVariants.{Even, Odd, Broken}
 use Rattle.intake_bytes.specs.declared.Unfinished.{Unfinished}
 use Rattle.intake_line.specs.declared.Said.TheVariants.{Opens, Closes, Skipped, Bad, Takes}
-use Rattle.intake.specs.Says.{Value, wrong, holds, opens, closes, skipped, bad, takes, starts, file_word, trusted_word, value_word, kind_of, good_size, sized, attribute, is_empty, judge}
-use Rattle.intake.specs.Machine.{broken, even, odd, value_of, line_end}
+use Rattle.intake.specs.Says.{Value, wrong, opens, closes, skipped, bad, takes, starts, file_word, trusted_word, value_word, kind_of, good_size, sized, attribute, is_empty, judge}
+use Rattle.intake.specs.Machine.{value_of, line_end}
 use Rattle.intake_bytes.specs.Lent.{kept_in, digits_of, digits_in, partial_in}
 use Rattle.intake_line.specs.Ending.{is_other, value_is}
 use Rattle.intake_bytes.proofs.StartsLaws.{starts_short}

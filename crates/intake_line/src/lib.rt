@@ -1,7 +1,7 @@
 // What a line of a dump says where it ends, and what it does to the open entry.
 #![tactic(auto)]
 
-ghost use Rattle.std.specs.Prelude.{◌≡◌, ◌≤◌, ◌<◌, length};
+ghost use Rattle.std.specs.Prelude.{◌≡◌, ◌+◌, ◌≤◌, ◌<◌, length};
 ghost use Rattle.intake.specs.Says.{head_size, good_size};
 ghost use Rattle.intake_bytes.specs.Lent.{layout_at, max_count, mark_of};
 ghost use Rattle.intake_line.specs.Ending.{HeadSaid, LineSaid};
@@ -117,26 +117,20 @@ pub fn no_marks() -> Marks
     }
 }
 
-// What a line of this number leaves: an open entry (its first line and what it has), or none where the entry closes.
-pub fn entry_line(
-    from: usize,
-    m: Marks,
-    s: Said,
-    size: usize,
-    line: usize,
-) -> Result<Option<(usize, Marks)>, Refusal>
-    requires { (0 < line) × (size < max_count) }
-    ensures { EntryStep from m s size line result }
+// What the reader's line leaves, which says this: an open entry (its first line and what it has), or none where the entry closes.
+pub fn entry_line(r: Reader, s: Said) -> Result<Option<(usize, Marks)>, Refusal>
+    requires { (r.count < max_count) × (r.line.size < max_count) }
+    ensures { EntryStep r.from r.marks s r.line.size (r.count + 1) result }
 {
     match s {
-        Said::Opens if from == 0 => Ok(Some((line, no_marks()))),
-        Said::Closes if from != 0 => Ok(None),
-        Said::Skipped if from != 0 => Ok(Some((from, m))),
-        Said::Takes(k) if from != 0 => {
-            if mark_of(k, m) != 0 {
+        Said::Opens if r.from == 0 => Ok(Some((r.count + 1, no_marks()))),
+        Said::Closes if r.from != 0 => Ok(None),
+        Said::Skipped if r.from != 0 => Ok(Some((r.from, r.marks))),
+        Said::Takes(k) if r.from != 0 => {
+            if mark_of(k, r.marks) != 0 {
                 return Err(Refusal::AttributeTwice);
             }
-            Ok(Some((from, marks_with(k, size + 1, m))))
+            Ok(Some((r.from, marks_with(k, r.line.size + 1, r.marks))))
         }
         _ => Err(Refusal::BadDump),
     }
@@ -147,15 +141,14 @@ pub fn line_end(buf: &[u8], r: Reader) -> Result<Option<Reader>, Refusal>
     requires { ReaderHeld buf.now r }
     ensures { TurnTaken buf.now r result }
 {
-    let count = r.count + 1;
     let said = line_says(buf, r.line);
-    let Some((from, marks)) = entry_line(r.from, r.marks, said, r.line.size, count)? else {
+    let Some((from, marks)) = entry_line(r, said)? else {
         return Ok(None);
     };
     Ok(Some(Reader {
         from,
         marks,
-        count,
+        count: r.count + 1,
         line: intake_bytes::new_line(),
     }))
 }

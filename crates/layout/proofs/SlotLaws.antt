@@ -2,7 +2,7 @@
 use mathlib.Core.Path.{◌≡◌, refl, sym, ap, ◌∙◌}
 use mathlib.Core.List.{List, [], ◌∷◌, ◌++◌, append_assoc, append-nil}
 use mathlib.Core.Bool.{Bool, true, false, cond, ◌&&◌}
-use Prim.Native.Nat.{ℕ, zero, suc, ◌+◌, ◌-◌, ◌*◌, ◌/◌, ◌≤◌, ◌<◌, ◌^◌}
+use Prim.Native.Nat.{ℕ, zero, suc, ◌+◌, ◌-◌, ◌*◌, ◌≤◌, ◌<◌, ◌^◌}
 use borrow.Author.Tests.{ne_eqb, eqb-true}
 use native.Mathlib.Omega.{arith}
 use Rattle.std.proofs.lemmas.List.{drop-take}
@@ -10,9 +10,10 @@ use native.Mathlib.Nat.{mod-eq_of_lt, not-suc-le-zero}
 use lib.Dec.{eqb, leb}
 use lib.ListN.{length, take, drop, set, get_or, length-append, length-drop, replicate}
 use lib.Seq.{sets, drop-drop, take-add, drop_at}
+use Rattle.std.specs.List.{list_all}
 use Rattle.wire.specs.Numbers.{le, bytes}
 use Rattle.wire.proofs.Both.{and_first, and_second}
-use Rattle.wire.proofs.Chunks.{part_of, PartsTested}
+use Rattle.wire.specs.Rows.{rows}
 use Rattle.wire.proofs.Splice.{sets_at, sets_whole, sets_mid}
 use Rattle.wire.proofs.NumberLaws.{Bytes, bytes_drop, bytes_le, length_bytes, le_bytes, le_small_at}
 use Rattle.fid.specs.Fid.{decode_fid, encode_fid, good_object}
@@ -232,26 +233,6 @@ slots_read_back holes (s ∷ ss) r h t =
 
 -- ## The test of all slots
 
-allowed_all : (holes : Bool) (area : List ℕ) (n : ℕ) → ((k : ℕ) → k < n → allowed_slot holes (slot_of area k) ≡ true) →
-    allowed_slots holes (decode_slots n area) ≡ true
-unfolding decode_slots allowed_slots slot_of
-allowed_all holes area zero h = refl
-allowed_all holes area (suc n) h =
-    let later : (k : ℕ) → k < n → allowed_slot holes (slot_of (drop slot_size area) k) ≡ true =
-    λ k l. let m : slot_size * suc k ≡ slot_size + slot_size * k = omega arith in
-    rw (drop-drop (slot_size * k) slot_size area, ← m) (h (suc k) (omega arith)) in
-    rw (h 0 (omega arith), allowed_all holes (drop slot_size area) n later)
-
-allowed_each : (holes : Bool) (area : List ℕ) (n : ℕ) → allowed_slots holes (decode_slots n area) ≡ true →
-    (k : ℕ) → k < n → allowed_slot holes (slot_of area k) ≡ true
-unfolding decode_slots allowed_slots slot_of
-allowed_each holes area zero e k h = absurd (not-suc-le-zero h)
-allowed_each holes area (suc n) e zero h = and_first (allowed_slot holes (decode_slot area)) (allowed_slots holes (decode_slots n (drop slot_size area))) e
-allowed_each holes area (suc n) e (suc k) h =
-    let m : slot_size * suc k ≡ slot_size + slot_size * k = omega arith in
-    rw (m, ← drop-drop (slot_size * k) slot_size area)
-    (allowed_each holes (drop slot_size area) n (and_second (allowed_slot holes (decode_slot area)) (allowed_slots holes (decode_slots n (drop slot_size area))) e) k (omega arith))
-
 -- the slot of a part of 24 bytes
 le_part : (n m : ℕ) (l : List ℕ) → n ≤ m → le n (take m l) ≡ le n l
 unfolding le
@@ -265,30 +246,19 @@ le_in k n m l h =
     let e : m ≡ k + (m - k) = omega arith in
     ap (λ (j : ℕ). le n (drop k (take j l))) e ∙ ap (le n) (drop-take k (m - k) l) ∙ le_part n (m - k) (drop k l) (omega arith)
 
-pub slot_part : (area : List ℕ) (k : ℕ) → slot_of (part_of slot_size area k) 0 ≡ slot_of area k
-unfolding slot_of decode_slot decode_fid part_of
-slot_part area k =
-    let l : List ℕ = drop (k * slot_size) area in
-    let m : k * slot_size ≡ slot_size * k = omega arith in
+pub slot_part : (area : List ℕ) → slot_of (take slot_size area) 0 ≡ decode_slot area
+unfolding slot_of decode_slot decode_fid
+slot_part area =
     rw (
-      le_part 8 slot_size l (omega arith),
-      le_in 8 4 slot_size l (omega arith),
-      le_in 12 4 slot_size l (omega arith),
-      le_in 16 4 slot_size l (omega arith),
-      le_in 20 4 slot_size l (omega arith),
-      m,
+      le_part 8 slot_size area (omega arith),
+      le_in 8 4 slot_size area (omega arith),
+      le_in 12 4 slot_size area (omega arith),
+      le_in 16 4 slot_size area (omega arith),
+      le_in 20 4 slot_size area (omega arith),
     )
 
--- a test that is true exactly where the slot of each part is allowed
-pub allowed_tests : (holes : Bool) (area : List ℕ) (b : Bool) → PartsTested slot_size area (λ part. allowed_slot holes (slot_of part 0)) b →
-    b ≡ allowed_slots holes (decode_slots (length area / slot_size) area)
-allowed_tests holes area b w = go b (allowed_slots holes (decode_slots n area)) refl w
-  where
-    n : ℕ
-    n = length area / slot_size
-
-    go : (b a : Bool) → allowed_slots holes (decode_slots n area) ≡ a → PartsTested slot_size area (λ part. allowed_slot holes (slot_of part 0)) b →
-        b ≡ allowed_slots holes (decode_slots n area)
-    go true a e w = sym (allowed_all holes area n (λ k h. rw (slot_part area k) at (w.all refl k h)))
-    go false true e w = absurd (w.not_all refl (λ k h. rw (slot_part area k) (allowed_each holes area n e k h)))
-    go false false e w = sym e
+-- the test of each part of a slot area is that of its slots
+pub allowed_parts : (holes : Bool) (n : ℕ) (area : List ℕ) → list_all (λ part. allowed_slot holes (slot_of part 0)) (rows slot_size n area) ≡ allowed_slots holes (decode_slots n area)
+unfolding rows decode_slots allowed_slots
+allowed_parts holes zero area = refl
+allowed_parts holes (suc n) area = rw (slot_part area, allowed_parts holes n (drop slot_size area))

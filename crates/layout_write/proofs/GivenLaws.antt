@@ -5,12 +5,11 @@ use mathlib.Core.Bool.{Bool, true, false, ◌&&◌}
 use Prim.Native.Nat.{ℕ, zero, suc, ◌+◌, ◌*◌, ◌/◌, ◌≤◌, ◌<◌}
 use borrow.Author.Tests.{eq-eqb, le-leb}
 use native.Mathlib.Omega.{arith}
-use native.Mathlib.Nat.{not-suc-le-zero}
 use lib.ListN.{length, get_or, take, drop}
-use lib.Seq.{get_or-drop}
+use lib.Seq.{get_or-drop, drop-drop}
 use Rattle.std.proofs.lemmas.List.{get_or-take}
-use Rattle.wire.proofs.Both.{and_first, and_second}
-use Rattle.wire.proofs.Chunks.{part_of, PartsTested}
+use Rattle.std.specs.List.{list_all}
+use Rattle.wire.specs.Rows.{rows}
 use Rattle.layout.specs.declared.Slot.{Slot}
 use Rattle.layout.specs.declared.Slot.TheVariants.{Hole, Names}
 use Rattle.std.specs.Prelude.{Option, Some}
@@ -49,51 +48,29 @@ module _ (holes : Bool) (l : List ℕ) where
   unfolding All all_given given_slots allowed_slots allowed_one
   first_rest n j = regroup (is_slot (given_at l j)) (allowed_slot holes (slot_given (given_at l j))) (all_given l n (suc j)) (allowed_slots holes (given_slots l n (suc j)))
 
-  given_all : (n j : ℕ) → ((k : ℕ) → k < n → allowed_one holes (given_at l (j + k)) ≡ true) → All n j ≡ true
-  unfolding All all_given given_slots allowed_slots
-  given_all zero j h = refl
-  given_all (suc n) j h =
-      let later : (k : ℕ) → k < n → allowed_one holes (given_at l (suc j + k)) ≡ true =
-      λ k q. let e : suc j + k ≡ j + suc k = omega arith in rw e (h (suc k) (omega arith)) in
-      let here : allowed_one holes (given_at l j) ≡ true = let e : j + 0 ≡ j = omega arith in rw e at (h 0 (omega arith)) in
-      first_rest n j ∙ rw (here, given_all n (suc j) later)
-
-  given_each : (n j : ℕ) → All n j ≡ true → (k : ℕ) → k < n → allowed_one holes (given_at l (j + k)) ≡ true
-  given_each zero j e k h = absurd (not-suc-le-zero h)
-  given_each (suc n) j e zero h =
-      let z : j + 0 ≡ j = omega arith in
-      rw z (and_first (allowed_one holes (given_at l j)) (All n (suc j)) (sym (first_rest n j) ∙ e))
-  given_each (suc n) j e (suc k) h =
-      let z : j + suc k ≡ suc j + k = omega arith in
-      rw z (given_each n (suc j) (and_second (allowed_one holes (given_at l j)) (All n (suc j)) (sym (first_rest n j) ∙ e)) k (omega arith))
-
 -- five numbers of a list are those of its part
-given_part : (l : List ℕ) (k : ℕ) → given_at (part_of slot_numbers l k) 0 ≡ given_at l k
-unfolding given_at part_of
-given_part l k =
-    let at : ℕ = slot_numbers * k in
-    let m : k * slot_numbers ≡ at = omega arith in
+given_part : (l : List ℕ) (j : ℕ) → given_at (take slot_numbers (drop (slot_numbers * j) l)) 0 ≡ given_at l j
+unfolding given_at
+given_part l j =
+    let at : ℕ = slot_numbers * j in
     let n : (i : ℕ) → i < slot_numbers → get_or (take slot_numbers (drop at l)) i 0 ≡ get_or l (at + i) 0 =
     λ i h. get_or-take slot_numbers (drop at l) i 0 h ∙ get_or-drop at l i 0 in
     let z : at + 0 ≡ at = omega arith in
-    rw (m, n 0 (omega arith), n 1 (omega arith), n 2 (omega arith), n 3 (omega arith), n 4 (omega arith), z)
+    rw (n 0 (omega arith), n 1 (omega arith), n 2 (omega arith), n 3 (omega arith), n 4 (omega arith), z)
 
--- a test that is true exactly where each five numbers are an allowed slot
-pub given_tests : (holes : Bool) (l : List ℕ) (b : Bool) → PartsTested slot_numbers l (λ part. allowed_one holes (given_at part 0)) b →
-    b ≡ (all_given l (length l / slot_numbers) 0 && allowed_slots holes (given_slots l (length l / slot_numbers) 0))
+-- the test of each five numbers from the j-th on is that of the slots given
+given_parts : (holes : Bool) (l : List ℕ) (n j : ℕ) →
+    list_all (λ part. allowed_one holes (given_at part 0)) (rows slot_numbers n (drop (slot_numbers * j) l)) ≡ All holes l n j
+unfolding rows All all_given given_slots allowed_slots
+given_parts holes l zero j = refl
+given_parts holes l (suc n) j =
+    let m : slot_numbers * suc j ≡ slot_numbers * j + slot_numbers = omega arith in
+    rw (given_part l j, drop-drop slot_numbers (slot_numbers * j) l, ← m, given_parts holes l n (suc j)) (sym (first_rest holes l n j))
+
+pub given_tests : (holes : Bool) (l : List ℕ) → list_all (λ part. allowed_one holes (given_at part 0)) (rows slot_numbers (length l / slot_numbers) l) ≡
+    (all_given l (length l / slot_numbers) 0 && allowed_slots holes (given_slots l (length l / slot_numbers) 0))
 unfolding All
-given_tests holes l b w = go b (All holes l n 0) refl w
-  where
-    n : ℕ
-    n = length l / slot_numbers
-
-    shift : (k : ℕ) → 0 + k ≡ k
-    shift k = omega arith
-
-    go : (b a : Bool) → All holes l n 0 ≡ a → PartsTested slot_numbers l (λ part. allowed_one holes (given_at part 0)) b → b ≡ All holes l n 0
-    go true a e w = sym (given_all holes l n 0 (λ k h. rw (shift k) (rw (given_part l k) at (w.all refl k h))))
-    go false true e w = absurd (w.not_all refl (λ k h. rw (given_part l k) (rw (shift k) at (given_each holes l n 0 e k h))))
-    go false false e w = sym e
+given_tests holes l = given_parts holes l (length l / slot_numbers) 0
 
 pub length_given : (l : List ℕ) (n j : ℕ) → length (given_slots l n j) ≡ n
 unfolding given_slots

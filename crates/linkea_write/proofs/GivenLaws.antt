@@ -1,13 +1,14 @@
 -- Laws of records that are handed in as numbers: the tests case by case, one record and all of them. Assumes nothing.
-use mathlib.Core.Path.{◌≡◌, refl, ap}
+use mathlib.Core.Path.{◌≡◌, refl, sym, ap, ◌∙◌}
 use mathlib.Core.List.{List, [], ◌∷◌, map}
-use mathlib.Core.Bool.{Bool, true, false, ◌||◌}
+use mathlib.Core.Bool.{Bool, true, false, cond, not, ◌||◌}
 use Prim.Native.Nat.{ℕ, zero, suc, ◌+◌, ◌-◌, ◌*◌, ◌≤◌, ◌<◌}
 use borrow.Author.Tests.{lt-ltb, le-ltb, ltb-false, eq-eqb, ne_eqb, eqb-false}
 use native.Mathlib.Omega.{arith}
 use lib.Dec.{ltb}
 use lib.ListN.{length, take, drop, get_or, length-append, length-drop}
 use lib.Seq.{length-take-le}
+use Rattle.std.specs.Prelude.{Option, Some, None, is_some}
 use Rattle.wire.specs.Numbers.{max_word}
 use Rattle.fid.specs.declared.MdtFid.{MdtFid}
 use Rattle.linkea.specs.Link.{name_at, encode_links}
@@ -32,14 +33,6 @@ abbrev pub size_of : List ℕ → ℕ → ℕ
 size_of numbers j = get_or numbers (link_numbers * j + 4) 0
 
 module _ (numbers : List ℕ) (j : ℕ) where
-  pub wide_id : max_word < id_of numbers j → true ≡ wide_parent numbers j
-  unfolding wide_parent number_of
-  wide_id h = rw (lt-ltb max_word (id_of numbers j) h)
-
-  pub wide_version : id_of numbers j ≤ max_word → ltb max_word (version_of numbers j) ≡ wide_parent numbers j
-  unfolding wide_parent number_of
-  wide_version h = rw (le-ltb max_word (id_of numbers j) h)
-
   pub parent_fits : wide_parent numbers j ≡ false → (id_of numbers j ≤ max_word) × (version_of numbers j ≤ max_word)
   unfolding wide_parent number_of
   parent_fits h =
@@ -47,13 +40,23 @@ module _ (numbers : List ℕ) (j : ℕ) where
       let b : Bool = ltb max_word (version_of numbers j) in
       (ltb-false max_word (id_of numbers j) (or_first a b h), ltb-false max_word (version_of numbers j) (or_second a b h))
 
-  pub parent_is : ◌≡◌ {A = MdtFid} (record { 0 = record { seq = get_or numbers (link_numbers * j) 0; oid = id_of numbers j; ver = version_of numbers j } }) (parent_given numbers j)
-  unfolding parent_given number_of
-  parent_is = let e : link_numbers * j + 0 ≡ link_numbers * j = omega arith in rw e
-
   pub narrow_parent : id_of numbers j ≤ max_word → version_of numbers j ≤ max_word → wide_parent numbers j ≡ false
   unfolding wide_parent number_of
   narrow_parent h k = rw (le-ltb max_word (id_of numbers j) h, le-ltb max_word (version_of numbers j) k)
+
+-- a parent is given, or it is too wide
+wide_is : (w b : Bool) (p : MdtFid) (o : Option MdtFid) → o ≡ cond w None (Some p) → is_some o ≡ not b → w ≡ b
+wide_is true true p o e h = refl
+wide_is true false p o e h = sym h ∙ ap is_some e
+wide_is false true p o e h = sym h ∙ ap is_some e
+wide_is false false p o e h = refl
+
+module _ (numbers : List ℕ) (j : ℕ) (o : Option MdtFid) (e : o ≡ cond (wide_parent numbers j) None (Some (parent_given numbers j))) where
+  pub wide_none : (b : Bool) → is_some o ≡ not b → wide_parent numbers j ≡ b
+  wide_none b h = wide_is (wide_parent numbers j) b (parent_given numbers j) o e h
+
+  pub narrow_some : wide_parent numbers j ≡ false → o ≡ Some (parent_given numbers j)
+  narrow_some h = rw h at e
 
 module _ (numbers names : List ℕ) (j : ℕ) where
   pub bad_parent : wide_parent numbers j ≡ true → true ≡ bad_given numbers names j

@@ -1,7 +1,7 @@
 // The linkEA writer, whose records are handed in as numbers, with the bytes in which their names lie.
 #![tactic(auto)]
 
-ghost use Rattle.std.specs.Prelude.{◌≡◌, false, not, map, ◌+◌, ◌≤◌, ◌<◌, ◌^◌, length, sum_by};
+ghost use Rattle.std.specs.Prelude.{◌≡◌, false, not, cond, Some, None, map, ◌+◌, ◌≤◌, ◌<◌, ◌^◌, length, sum_by};
 ghost use Rattle.std.specs.List.{list_any};
 ghost use Rattle.std.proofs.lemmas.List.Edits.{sets};
 ghost use Rattle.linkea.specs.Link.{link_header, name_at, encode_link_header, encode_link, encode_links};
@@ -13,7 +13,7 @@ use linkea::{
     TOTAL_AT,
 };
 use refusals::Refusal;
-use wire::{Big, Little, MAX_WORD};
+use wire::{Big, Little};
 
 // The numbers of a record that is handed in: sequence, id and version of the parent, where the name starts, its length.
 pub const LINK_NUMBERS: usize = 5;
@@ -26,32 +26,23 @@ const LONGEST_RECORD: u64 = 65535;
 
 const LONGEST_NAME: u64 = LONGEST_RECORD - NAME_AT as u64;
 
-// The parent of a record that is handed in, whose id and version fit their fields.
-fn parent_given(given: &[u64; LINK_NUMBERS]) -> MdtFid
-    requires { wide_parent given.now 0 ≡ false }
-    ensures { result ≡ parent_given given.now 0 }
+// The parent of a record that is handed in, if its id and version fit their fields.
+fn parent_given(given: &[u64; LINK_NUMBERS]) -> Option<MdtFid>
+    ensures { result ≡ cond (wide_parent given.now 0) None (Some (parent_given given.now 0)) }
 {
     let [seq, oid, ver, _, _] = *given;
-    MdtFid(Fid {
+    Some(MdtFid(Fid {
         seq,
-        oid: oid as u32,
-        ver: ver as u32,
-    })
-}
-
-// Whether its id or version doesn't fit its field.
-fn wide_parent(given: &[u64; LINK_NUMBERS]) -> bool
-    ensures { result ≡ wide_parent given.now 0 }
-{
-    let [_, oid, ver, _, _] = *given;
-    MAX_WORD < oid || MAX_WORD < ver
+        oid: u32::try_from(oid).ok()?,
+        ver: u32::try_from(ver).ok()?,
+    }))
 }
 
 // Whether the writer refuses it.
 fn bad_given(given: &[u64; LINK_NUMBERS], names: &[u8]) -> bool
     ensures { result ≡ bad_given given.now names.now 0 }
 {
-    if wide_parent(given) {
+    if parent_given(given).is_none() {
         return true;
     }
     let [_, _, _, start, size] = *given;
@@ -124,7 +115,7 @@ fn put_given(part: &mut [u8], given: &[u64; LINK_NUMBERS], names: &[u8])
     ensures { part.new ≡ encode_link (link_given given.now names.now 0) }
 {
     let [_, _, _, start, size] = *given;
-    let parent = parent_given(given);
+    let parent = parent_given(given).unwrap();
     let a = start as usize;
     let n = size as usize;
     wire::put::<u16, Big>(part, 0, (NAME_AT + n) as u16);

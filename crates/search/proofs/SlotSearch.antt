@@ -7,7 +7,6 @@ use Prim.Native.Nat.{ℕ, zero, suc, ◌+◌, ◌*◌, ◌/◌, ◌<◌}
 use native.Mathlib.Omega.{arith}
 use lib.ListN.{length, get_or, take, drop}
 use Rattle.std.proofs.Common.{add-zero, zero-add}
-use Rattle.wire.proofs.Chunks.{part_of}
 use Rattle.fid.specs.declared.OstFid.{OstFid}
 use Rattle.layout.specs.Slot.{slot_size, slot_of, decode_slots, slot_names}
 use Rattle.layout.specs.declared.Slot.{Slot}
@@ -61,10 +60,9 @@ slots_after f (s ∷ ss) i p h = go (slot_names f s) refl (slots_after f ss (suc
 
 module _ (ps : List ParentRow) (f : OstFid) (r : ℕ) (area : List ℕ) (e : slots_of (row_at ps r) ≡ decode_slots (length area / 24) area) where
   part_names : (j : ℕ) → j < length area / 24 → slot_names f (slot_of (take slot_size (drop (slot_size * j) area)) 0) ≡ names_at ps f r j
-  unfolding part_of
+  unfolding slot_of
   part_names j h =
-      let m : slot_size * j ≡ j * slot_size = omega arith in
-      rw m (ap (slot_names f) (slot_part area j)) ∙ sym (area_names ps r (length area / 24) area e f j (slot_of area j) (slot_names f (slot_of area j)) h refl refl)
+      ap (slot_names f) (slot_part (drop (slot_size * j) area)) ∙ sym (area_names ps r (length area / 24) area e f j (slot_of area j) (slot_names f (slot_of area j)) h refl refl)
 
   module _ (x : Option ℕ) (found : x ≡ row_from (length area / 24) 0 (λ j. slot_names f (slot_of (take slot_size (drop (slot_size * j) area)) 0))) where
     first : x ≡ row_from (width ps r) 0 (names_at ps f r)

@@ -1,10 +1,13 @@
--- What `chunks_exact` gives of a table: its whole rows, one after another.
-use Rattle.std.proofs.Common.{◌≡◌, ℕ, suc, ◌+◌, ◌*◌, ◌/◌, ◌<◌, List, [], ◌∷◌, ◌++◌, length, take, drop, sym, ap, ◌∙◌, add-one, arith, Bor, Some, None}
+-- What `chunks_exact` gives of a table: its whole rows, one after another, and a test of them all.
+use Rattle.std.proofs.Common.{◌≡◌, ℕ, suc, ◌+◌, ◌*◌, ◌/◌, ◌<◌, List, [], ◌∷◌, ◌++◌, length, take, drop, sym, ap, ◌∙◌, add-one, arith, Bool, Bor, Some, None}
 use Rattle.std.proofs.Math.Nat.{add-mul-div_left, mul-one, div-eq_of_lt}
 use Rattle.std.proofs.Math.Seq.{take-append_seam, drop-append_seam}
 use Rattle.std.proofs.lemmas.List.{length-append}
 use Rattle.std.proofs.lemmas.Iterator.{YieldsList}
-use Rattle.std.specs.Iterator.{AlwaysYields}
+use Rattle.std.proofs.lemmas.Iterator.Search.{all_from_yields_List}
+use Rattle.std.specs.Fn.{Mut, Called}
+use Rattle.std.specs.Iterator.{AlwaysYields, ChecksAll}
+use Rattle.std.specs.List.{list_all}
 use Rattle.std.specs.Slice.Iter.{chunks_exact_rest, chunks_exact_size, chunks_exact_steps}
 use Rattle.std.specs.declared.slice.ChunksExact.{ChunksExact}
 use Rattle.wire.specs.Rows.{rows}
@@ -52,3 +55,10 @@ chunks (y ∷ ls) s h e = (
 pub chunk_rows : (size : ℕ) (l : List ℕ) {s : ChunksExact ℕ} → 0 < size → chunks_exact_rest s ≡ l → chunks_exact_size s ≡ size
     → YieldsList (chunks_exact_steps {A = ℕ}) (λ x. x.now) s (rows size (length l / size) l)
 chunk_rows size l {s} h e z = record { runs = chunks (rows size (length l / size) l) s (omega arith) (left_first s size l e z) }
+
+-- `chunks_exact(size).all(f)`, where f computes a test of the row
+pub chunks_all : {F : Type 0} {g : Mut F (Bor (List ℕ) × Unit {0}) Bool} {s : ChunksExact ℕ} {size : ℕ} {l : List ℕ} (test : List ℕ → Bool) (u : ChunksExact ℕ) (f : F) (r : Bool)
+    → ChecksAll (chunks_exact_steps {A = ℕ}) g s f r u → 0 < size → chunks_exact_rest s ≡ l → chunks_exact_size s ≡ size
+    → ((x : Bor (List ℕ)) (b : Bool) (q : F) → Called g f (x, tt) b q → (q ≡ f) × (b ≡ test x.now))
+    → r ≡ list_all test (rows size (length l / size) l)
+chunks_all {size = size} {l = l} test u f r d h e z k = all_from_yields_List test u f r d (chunk_rows size l h e z) k

@@ -5,4 +5,3 @@ pub mod OrderLaws
 pub mod PlaceLaws
 pub mod RowLaws
 pub mod ChunkLaws
-pub mod Chunks

@@ -1,12 +1,15 @@
-use native.Mathlib.Omega.{arith}
-use Rattle.linkea_write.proofs.GivenLaws.{parent_fits, parent_is}
+use Rattle.std.proofs.Common.{arith}
+use Rattle.linkea_write.specs.Writer.{wide_parent, parent_given, number_of}
 use Rattle.linkea_write.proofs.parent_given.Goals as goal
 
-pub overflow_cast-result : goal.overflow_cast-result
-overflow_cast-result c = omega (arith, parent_fits _ _ c.requires)
+pub returns-in_err-ok : goal.returns-in_err-ok
+unfolding wide_parent parent_given number_of
+returns-in_err-ok c = grind arith
 
-pub overflow_cast-result-2 : goal.overflow_cast-result-2
-overflow_cast-result-2 c = omega (arith, parent_fits _ _ c.requires)
+pub returns-in_err-ok-2 : goal.returns-in_err-ok-2
+unfolding wide_parent parent_given number_of
+returns-in_err-ok-2 c = grind arith
 
 pub returns : goal.returns
-returns c = parent_is c.args.given.now 0
+unfolding wide_parent parent_given number_of
+returns c = grind arith

@@ -1,12 +1,12 @@
-use Rattle.std.proofs.Common.{◌≡◌, length, arith}
-use Rattle.linkea_write.proofs.GivenLaws.{taken_facts, start_of, size_of}
+use Rattle.std.proofs.Common.{◌≡◌, ◌∙◌, sym, length, arith}
+use Rattle.linkea_write.proofs.GivenLaws.{taken_facts, narrow_some, start_of, size_of}
 use Rattle.linkea_write.proofs.WriteLaws.{record_stores, part_long}
 use lib.Seq.{length-sets}
 use Rattle.linkea_write.specs.Writer.{size_given, number_of}
 use Rattle.linkea_write.proofs.put_given.Goals as goal
 
-pub parent_given-parent-requires : goal.parent_given-parent-requires
-parent_given-parent-requires c = (taken_facts c.args.given.now _ 0 c.requires.taken).parent
+pub unwrap-parent-requires : goal.unwrap-parent-requires
+unwrap-parent-requires c = rw (narrow_some _ _ _ c.parent_given.ensures (taken_facts c.args.given.now _ 0 c.requires.taken).parent)
 
 pub overflow_add-n : goal.overflow_add-n
 overflow_add-n c = omega (arith, taken_facts c.args.given.now _ 0 c.requires.taken)
@@ -30,4 +30,5 @@ put_bytes-requires c =
 pub returns : goal.returns
 unfolding size_given number_of
 returns c =
-    record_stores _ _ c.args.part.now _ _ _ 0 _ c.requires.taken c.requires.room c.parent_given-parent.ensures c.put.ensures c.write_in.ensures c.put_bytes.ensures
+    let s = sym c.unwrap-parent.ensures ∙ narrow_some _ _ _ c.parent_given.ensures (taken_facts c.args.given.now _ 0 c.requires.taken).parent in
+    record_stores _ _ c.args.part.now _ _ _ 0 _ c.requires.taken c.requires.room (cc s) c.put.ensures c.write_in.ensures c.put_bytes.ensures

@@ -1,15 +1,18 @@
-use native.Mathlib.Omega.{arith}
-use Rattle.intake_close.proofs.OwnerLaws.{pass_start, pass_on, pass_end, pass_last}
+use Rattle.std.proofs.Common.{rules, ◌∙◌, sym, drop}
+use Rattle.std.proofs.lemmas.Iterator.{YieldsList-from_slice}
+use Rattle.std.proofs.lemmas.Iterator.Search.{position_from_yields_List}
+use Rattle.intake_close.proofs.OwnerLaws.{rest_whole, stops_found, stops_end}
+use lib.Dec.{eqb}
 use Rattle.intake_close.proofs.owners.line_stop.Goals as goal
 
-pub returns-then-s-at-eq-NEWLINE : goal.returns-then-s-at-eq-NEWLINE
-returns-then-s-at-eq-NEWLINE c = pass_end _ _ _ c.loop-at.invariant (omega arith) c.if-s-at-eq-NEWLINE.true
+pub returns-in-Some : goal.returns-in-Some
+returns-in-Some c =
+    let a = c.args in
+    stops_found a.s.now a.from c.requires c.in-Some.n
+    (sym c.in-Some.is ∙ position_from_yields_List (λ b. eqb b 10) _ _ _ c.position.ensures.ran (YieldsList-from_slice (drop a.from a.s.now) (c.iter.ensures.rest ∙ rest_whole a.s.now a.from c.requires)) (λ x b q k. search (rules, k)))
 
-pub loop-at-preserved : goal.loop-at-preserved
-loop-at-preserved c = pass_on _ _ _ c.loop-at.invariant (omega arith) c.if-s-at-eq-NEWLINE.false
-
-pub loop-at-init : goal.loop-at-init
-loop-at-init c = pass_start _ _ (omega arith)
-
-pub returns : goal.returns
-returns c = pass_last _ _ _ c.loop-at.invariant (omega arith)
+pub returns-in-None : goal.returns-in-None
+returns-in-None c =
+    let a = c.args in
+    stops_end a.s.now a.from c.requires
+    (sym c.in-None.is ∙ position_from_yields_List (λ b. eqb b 10) _ _ _ c.position.ensures.ran (YieldsList-from_slice (drop a.from a.s.now) (c.iter.ensures.rest ∙ rest_whole a.s.now a.from c.requires)) (λ x b q k. search (rules, k)))
