@@ -57,7 +57,7 @@ loop-at-preserved c =
     let l = a.l.now in (
       walked_next l c.loop-at.k c.loop-at.at c.loop-at.invariant.0 (omega arith) _ (ap (λ (n : ℕ). c.loop-at.at + n) (c.get.ensures ∙ length_read l c.loop-at.at)),
       rw (← gone_byte _ _ _ c.from.ensures c.from-gone.ensures)
-      (flagged_next (seen_by a.self.marks.now (parse_children a.self.children.now)) (parse_entries a.self.entries.now) a.r (decode_link_ea l).links c.loop-at.k c.loop-at.gone _
+          (flagged_next (seen_by a.self.marks.now (parse_children a.self.children.now)) (parse_entries a.self.entries.now) a.r (decode_link_ea l).links c.loop-at.k c.loop-at.gone _
           c.loop-at.flags (link_at l c.loop-at.at) c.loop-at.invariant.1 (walked_here l c.loop-at.k c.loop-at.at c.loop-at.invariant.0 (omega arith))
           (omega (arith, c.loop-at.invariant.0)) (flag_byte _ _ _ c.from.ensures c.stays-stays.ensures)),
       length-set c.loop-at.flags c.loop-at.k _ ∙ c.loop-at.invariant.2,
