@@ -1,5 +1,5 @@
 -- What `chunks_exact` gives of a table: its whole rows, one after another, and a test of them all.
-use Rattle.std.proofs.Common.{◌≡◌, ℕ, suc, ◌+◌, ◌*◌, ◌/◌, ◌<◌, List, [], ◌∷◌, ◌++◌, length, take, drop, sym, ap, ◌∙◌, add-one, arith, Bool, Bor, Some, None}
+use Rattle.std.proofs.Common.{◌≡◌, ℕ, ◌+◌, ◌*◌, ◌/◌, ◌<◌, List, [], ◌∷◌, ◌++◌, length, take, drop, sym, ap, ◌∙◌, add-one, arith, Bool, Bor, Some, None}
 use Rattle.std.proofs.Math.Nat.{add-mul-div_left, mul-one, div-eq_of_lt}
 use Rattle.std.proofs.Math.Seq.{take-append_seam, drop-append_seam}
 use Rattle.std.proofs.lemmas.List.{length-append}
@@ -29,9 +29,9 @@ module _ (s t : ChunksExact ℕ) (h : 0 < chunks_exact_size s) where
   left_some x p =
       let k : s.rest.now ≡ x.now ++ t.rest.now = p.1.0 in
       let q : length s.rest.now ≡ length t.rest.now + s.size * 1 =
-          omega (arith, ap length k, length-append x.now t.rest.now, mul-one s.size, p.1.1) in
+      omega (arith, ap length k, length-append x.now t.rest.now, mul-one s.size, p.1.1) in
       let d : length s.rest.now / s.size ≡ length t.rest.now / s.size + 1 =
-          ap (λ (n : ℕ). n / s.size) q ∙ add-mul-div_left (length t.rest.now) 1 h in
+      ap (λ (n : ℕ). n / s.size) q ∙ add-mul-div_left (length t.rest.now) 1 h in
       let a : take s.size s.rest.now ≡ x.now = rw (k, ← p.1.1) (take-append_seam x.now t.rest.now) in
       let b : drop s.size s.rest.now ≡ t.rest.now = rw (k, ← p.1.1) (drop-append_seam x.now t.rest.now) in
       rw (p.0, d, add-one, a, b)
@@ -47,8 +47,8 @@ chunks [] s h e = λ x j p. cc (e, left_some s j h x p)
 chunks (y ∷ ls) s h e = (
   (λ j p. cc (e, left_none s j h p)),
   λ x j p.
-    let k : x.now ∷ left j ≡ y ∷ ls = sym (left_some s j h x p) ∙ e in
-    (cc k, chunks ls j (omega (arith, p.0)) (cc k)),
+      let k : x.now ∷ left j ≡ y ∷ ls = sym (left_some s j h x p) ∙ e in
+      (cc k, chunks ls j (omega (arith, p.0)) (cc k)),
 )
 
 -- `chunks_exact` gives the whole rows of a table
