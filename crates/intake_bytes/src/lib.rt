@@ -249,6 +249,7 @@ fn feed_digits(buf: &mut [u8], line: Unfinished, piece: &[u8], from: usize) -> R
     ensures { ValueFed buf.old line piece.now from buf.new result }
 {
     let mut x = line;
+    // A loop: the place where the line ends is part of the answer.
     for at in from..piece.len() {
         let b = piece[at];
         if b == NEWLINE {
@@ -304,6 +305,7 @@ pub fn feed_line(buf: &mut [u8], m: Marks, line: Unfinished, piece: &[u8], from:
     ensures { LineFed (want_of m (length buf.old)) buf.old line piece.now from buf.new result }
 {
     let mut x = line;
+    // A loop: the value's bytes are read from the place where the head ends.
     for at in from..piece.len() {
         if HEAD_SIZE <= x.seen {
             return feed_value(buf, x, piece, at);

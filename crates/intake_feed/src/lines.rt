@@ -58,6 +58,7 @@ fn with_line(k: Kept, line: Unfinished) -> Kept
 }
 
 // The line that closes an entry.
+// State, file and tables stay arguments of their own: a struct that holds a table as &mut needs a clause on it in every function that passes it on.
 fn close_line(state: &[u8], k: Kept, file: &[u8], parents: &mut [u8], objects: &mut [u8]) -> Kept
     requires { Going state.now file.now k }
     ensures { LineClosed state.now file.now k parents.old objects.old parents.new objects.new result }
