@@ -35,7 +35,7 @@ unfolding one
 flag_byte true b f k h = rw (k, ← h)
 flag_byte false b f k h = rw (k, ← h)
 
-pub gone_most : (s : Bool) (g : ℕ) → g ≡ bool_byte (not s) → g ≤ 1
+pub gone_most : (b : Bool) (g : ℕ) → g ≡ bool_byte b → g ≤ 1
 gone_most true g e = omega (arith, e)
 gone_most false g e = omega (arith, e)
 
