@@ -47,6 +47,7 @@ pub fn take_selves(entries: &[u8], children: &mut [u8], notes: &[u8]) -> usize
 {
     let count = entries.len() / ENTRY_SIZE;
     let mut n = 0usize;
+    // A loop over numbers: turn i writes the child that entry i names, by note i.
     for i in 0..count {
         n += usize::from(take_self(entries, children, notes, i));
     }
