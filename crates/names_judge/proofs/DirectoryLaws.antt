@@ -24,7 +24,7 @@ use Rattle.names.specs.Rows.{Child, child_size, is_none, no_child, child_at, dec
 use Rattle.names.specs.Findings.{same}
 use Rattle.names.specs.Visible.{first_row, directory}
 use Rattle.names.proofs.SoundLaws.{parsed_children, parsed_child}
-use Rattle.names_judge.specs.Listed.{child_key, child_numbers, is_row, listed_count, listed_bytes}
+use Rattle.names_judge.specs.Listed.{child_key, child_numbers, is_row, listed_count, listed_bytes, Names}
 
 -- ## What is found
 
@@ -84,6 +84,19 @@ module _ (f : MdtFid) (n r : ℕ) (l : List ℕ) where
   unfolding listed_count listed_bytes
   row_put new h e = (rw h, rw h e)
 
+-- at most one entry more
+pub list_few : (f : MdtFid) (n m : ℕ) → m ≡ listed_count f n → m ≤ n + 1
+unfolding listed_count
+list_few f n m e = go (is_none f) e
+  where
+    go : (b : Bool) → m ≡ cond b n (n + 1) → m ≤ n + 1
+    go true h = omega arith
+    go false h = omega arith
+
+pub named : (answers : ℕ → MdtFid → Type 0) (cs : List Child) → Names answers cs → (r : ℕ) (f : MdtFid) → r < length cs → answers r f → f ≡ (child_at cs r).self
+unfolding Names
+named answers cs p = p
+
 module _ (cs : List Child) where
   -- the entries of the rows from r on
   pub listed_from : ℕ → List ℕ
@@ -115,15 +128,15 @@ module _ (cs : List Child) where
   -- a row passed by or put
   pub list_row : (r n m : ℕ) (l new : List ℕ) (f : MdtFid) → f ≡ (child_at cs r).self → m ≡ listed_count f n → new ≡ listed_bytes f n r l →
       r < length cs → place_size * n + place_size ≤ length l → f.0.seq < 2 ^ 64 → f.0.oid < 2 ^ 32 → r < 2 ^ 32 →
-      entries n l ++ listed_from r ≡ child_numbers cs → (entries m new ++ listed_from (r + 1) ≡ child_numbers cs) × (m ≤ n + 1)
+      entries n l ++ listed_from r ≡ child_numbers cs → entries m new ++ listed_from (r + 1) ≡ child_numbers cs
   unfolding listed_count listed_bytes
   list_row r n m l new f p q s h k a b d i = go (is_none f) refl q s
     where
       go : (t : Bool) → is_none f ≡ t → m ≡ cond t n (n + 1) →
           new ≡ cond t l (sets l (place_size * n) (bytes place_size (number f.0.seq f.0.oid r))) →
-          (entries m new ++ listed_from (r + 1) ≡ child_numbers cs) × (m ≤ n + 1)
-      go true t x y = (rw (x, y) (list_past r n l h (ap is_none (sym p) ∙ t) i), omega arith)
-      go false t x y = (rw x (list_put r n l new h k f.0 (ap (λ (g : MdtFid). g.0) p) a b d (ap is_none (sym p) ∙ t) y i), omega arith)
+          entries m new ++ listed_from (r + 1) ≡ child_numbers cs
+      go true t x y = rw (x, y) (list_past r n l h (ap is_none (sym p) ∙ t) i)
+      go false t x y = rw x (list_put r n l new h k f.0 (ap (λ (g : MdtFid). g.0) p) a b d (ap is_none (sym p) ∙ t) y i)
 
   pub list_end : (r n : ℕ) (l : List ℕ) → length cs ≤ r → entries n l ++ listed_from r ≡ child_numbers cs → entries n l ≡ child_numbers cs
   unfolding listed_from listed
@@ -140,12 +153,10 @@ module _ (c : List ℕ) (f : MdtFid) (r : ℕ) where
   unfolding is_row
   row_past h = rw (le-ltb r (length (parse_children c)) (omega (arith, parsed_children c)))
 
-  pub row_there : r < length c / child_size → (g : MdtFid) → g ≡ (decode_child (take child_size (drop (child_size * r) c))).self →
+  pub row_there : r < length c / child_size → (g : MdtFid) → g ≡ (child_at (parse_children c) r).self →
       same_fid g.0 f.0 ≡ is_row (parse_children c) f r
   unfolding is_row same
-  row_there h g e =
-      rw (lt-ltb r (length (parse_children c)) (omega (arith, parsed_children c)))
-      (ap (λ (x : MdtFid). same_fid x.0 f.0) (e ∙ ap (λ (x : Child). x.self) (sym (parsed_child c r h))))
+  row_there h g e = rw (lt-ltb r (length (parse_children c)) (omega (arith, parsed_children c))) (ap (λ (x : MdtFid). same_fid x.0 f.0) e)
 
 -- the self FID of row r, as it is read
 pub its_self : (c : List ℕ) (r : ℕ) (row : List ℕ) (g : MdtFid) → r < length c / child_size → row ≡ take child_size (drop (child_size * r) c) →

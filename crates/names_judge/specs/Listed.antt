@@ -1,5 +1,5 @@
 -- The index of the child rows that have a self FID, by sequence and object id.
-use Rattle.std.specs.Prelude.{ℕ, ◌+◌, ◌*◌, ◌/◌, ◌≤◌, ◌≡◌, Bool, cond, ◌&&◌, List, map, ltb, length}
+use Rattle.std.specs.Prelude.{ℕ, ◌+◌, ◌*◌, ◌/◌, ◌≤◌, ◌<◌, ◌≡◌, Bool, cond, ◌&&◌, List, map, ltb, length}
 use Rattle.std.proofs.lemmas.List.Edits.{sets}
 use Rattle.wire.specs.Numbers.{bytes}
 use Rattle.index.specs.Entries.{place_size, number, entries, sorted}
@@ -25,6 +25,10 @@ listed_count f n = cond (is_none f) n (n + 1)
 
 unfoldable pub listed_bytes : MdtFid → ℕ → ℕ → List ℕ → List ℕ
 listed_bytes f n r l = cond (is_none f) l (sets l (place_size * n) (bytes place_size (number f.0.seq f.0.oid r)))
+
+-- the FIDs that rows may be given are the self FIDs of cs
+unfoldable pub Names : (ℕ → MdtFid → Type 0) → List Child → Type 0
+Names answers cs = (r : ℕ) (f : MdtFid) → r < length cs → answers r f → f ≡ (child_at cs r).self
 
 -- n entries of the index are the child rows that have a self FID, in order
 pub record Indexed (children index : List ℕ) (n : ℕ) : Type 0 where

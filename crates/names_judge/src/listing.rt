@@ -1,10 +1,10 @@
 // The index of the child rows that have a self FID, and the directory of a FID found by it.
-ghost use Rattle.std.specs.Prelude.{◌≡◌, ◌+◌, ◌*◌, ◌/◌, ◌≤◌, length};
+ghost use Rattle.std.specs.Prelude.{◌≡◌, ◌+◌, ◌*◌, ◌/◌, ◌≤◌, ◌<◌, ℕ, List, length};
 ghost use Rattle.index.specs.Entries.{place_size, entries, sorted};
-ghost use Rattle.names.specs.Rows.{child_size, parse_children};
+ghost use Rattle.names.specs.Rows.{Child, child_size, child_at, parse_children};
 ghost use Rattle.names.specs.Visible.{directory};
 ghost use Rattle.names.specs.Check.{max_rows};
-ghost use Rattle.names_judge.specs.Listed.{child_numbers, is_row, listed_count, listed_bytes, Indexed};
+ghost use Rattle.names_judge.specs.Listed.{child_numbers, is_row, listed_count, listed_bytes, Names, Indexed};
 
 use fid::MdtFid;
 use names::rows;
@@ -23,19 +23,35 @@ pub fn put_row(index: &mut [u8], n: usize, r: u32, name: MdtFid) -> usize
     n + 1
 }
 
-// Puts the rows that have a self FID in the index, and tells how many they are.
+// Puts the rows up to `count` in the index, each under the FID that `name` gives it if that is one, and tells how many they are.
 // A loop: how many were put so far says where the next one goes.
+pub fn list_by<F: Fn(usize) -> MdtFid>(count: usize, index: &mut [u8], name: F) -> usize
+    requires room { (count ≤ max_rows) × (place_size * count ≤ length index.old) }
+    requires callable { (r : ℕ) → r < count → F.pre name r }
+    ensures listed { (cs : List Child) → length cs ≡ count → Names (F.post name) cs → entries result index.new ≡ child_numbers cs }
+    ensures few { result ≤ count }
+{
+    let mut n = 0usize;
+    for r in 0..count {
+        n = put_row(index, n, r as u32, name(r));
+    }
+    n
+}
+
+// The self FID of row r.
+pub fn self_at(children: &[u8], r: usize) -> MdtFid
+    requires { r < length children.now / child_size }
+    ensures { result ≡ (child_at (parse_children children.now) r).self }
+{
+    rows::self_of(tables::rows::row_at(children, CHILD_SIZE, r))
+}
+
+// Puts the rows that have a self FID in the index, and tells how many they are.
 pub fn list(children: &[u8], index: &mut [u8]) -> usize
     requires { (length children.now / child_size ≤ max_rows) × (place_size * (length children.now / child_size) ≤ length index.old) }
     ensures { (entries result index.new ≡ child_numbers (parse_children children.now)) × (result ≤ length children.now / child_size) }
 {
-    let count = children.len() / CHILD_SIZE;
-    let mut n = 0usize;
-    for r in 0..count {
-        let row = tables::rows::row_at(children, CHILD_SIZE, r);
-        n = put_row(index, n, r as u32, rows::self_of(row));
-    }
-    n
+    list_by(children.len() / CHILD_SIZE, index, |r| self_at(children, r))
 }
 
 // Whether row r is there and has the FID.
@@ -43,8 +59,7 @@ fn is_row(children: &[u8], r: u32, f: MdtFid) -> bool
     ensures { result ≡ is_row (parse_children children.now) f r }
 {
     let k = r as usize;
-    k < children.len() / CHILD_SIZE
-        && rows::self_of(tables::rows::row_at(children, CHILD_SIZE, k)) == f
+    k < children.len() / CHILD_SIZE && self_at(children, k) == f
 }
 
 // The directory of a FID: the first row with it.

@@ -3,20 +3,20 @@ use Rattle.std.specs.Prelude.{Option, None, Some}
 use mathlib.Core.Path.{◌≡◌, refl, sym, ap, ◌∙◌}
 use mathlib.Core.Bool.{Bool, true, false, cond, not, ◌&&◌}
 use mathlib.Core.List.{List, [], ◌∷◌}
-use Prim.Native.Nat.{ℕ, zero, suc, ◌-◌, ◌*◌, ◌/◌, ◌≤◌, ◌<◌}
+use Prim.Native.Nat.{ℕ, zero, suc, ◌-◌, ◌/◌, ◌≤◌, ◌<◌}
 use native.Mathlib.Nat.{not-suc-le-zero}
 use native.Mathlib.Omega.{arith}
 use borrow.Author.Tests.{lt-ltb, le-ltb}
 use lib.Dec.{ltb, eqb}
-use lib.ListN.{length, take, drop, get_or}
+use lib.ListN.{length, get_or}
 use Rattle.fid.specs.Fid.{same_fid, zero_fid}
 use Rattle.fid.specs.declared.Fid.{Fid}
 use Rattle.fid.specs.declared.MdtFid.{MdtFid}
 use Rattle.fid.proofs.SameLaws.{same_is, same_self}
-use Rattle.names.specs.Rows.{Child, child_size, is_none, with_self, no_child, child_at, decode_child, parse_children}
+use Rattle.names.specs.Rows.{Child, child_size, is_none, with_self, no_child, child_at, parse_children}
 use Rattle.names.specs.Findings.{same}
 use Rattle.names.specs.Visible.{no_self_mark, visible_mark, is_root, first_row, directory, first_marked, seen_by}
-use Rattle.names.proofs.SoundLaws.{parsed_children, parsed_child}
+use Rattle.names.proofs.SoundLaws.{parsed_children}
 use Rattle.names_judge.specs.Listed.{is_row}
 use Rattle.names_judge.proofs.LookLaws.{first_is, row_inside}
 use Rattle.names_marks.specs.Directories.{self_under, directories, visible_from}
@@ -54,13 +54,11 @@ module _ (c ms : List ℕ) (h : length ms ≡ length c / child_size) where
   directories_many = directories_length ms (parse_children c) fits ∙ parsed_children c
 
   -- the self FID of row r, as it is read
-  pub directory_self : (r : ℕ) (row : List ℕ) (g f : MdtFid) → r < length c / child_size → row ≡ take child_size (drop (child_size * r) c) →
-      g ≡ (decode_child row).self → f ≡ self_under (get_or ms r 0) g → f ≡ (child_at (directories ms (parse_children c)) r).self
+  pub directory_self : (r : ℕ) (g f : MdtFid) → r < length c / child_size → g ≡ (child_at (parse_children c) r).self →
+      f ≡ self_under (get_or ms r 0) g → f ≡ (child_at (directories ms (parse_children c)) r).self
   unfolding child_at
-  directory_self r row g f k p q s =
-      let d : child_at (parse_children c) r ≡ decode_child row = parsed_child c r k ∙ ap decode_child (sym p) in
-      let z : g ≡ (child_at (parse_children c) r).self = q ∙ ap (λ (x : Child). x.self) (sym d) in
-      s ∙ ap (self_under (get_or ms r 0)) z ∙ sym (self_at_lem ms (parse_children c) r fits (omega (arith, parsed_children c)))
+  directory_self r g f k q s =
+      s ∙ ap (self_under (get_or ms r 0)) q ∙ sym (self_at_lem ms (parse_children c) r fits (omega (arith, parsed_children c)))
 
   module _ (f : MdtFid) (r : ℕ) where
     pub mark_past : length c / child_size ≤ r → false ≡ is_row (directories ms (parse_children c)) f r

@@ -1,7 +1,7 @@
 // The directories under marks: listed in the index, and found by it.
-ghost use Rattle.std.specs.Prelude.{◌≡◌, ◌*◌, ◌/◌, ◌≤◌, length};
+ghost use Rattle.std.specs.Prelude.{◌≡◌, ◌*◌, ◌/◌, ◌≤◌, ◌<◌, length};
 ghost use Rattle.index.specs.Entries.{place_size, entries};
-ghost use Rattle.names.specs.Rows.{child_size, parse_children};
+ghost use Rattle.names.specs.Rows.{child_size, child_at, parse_children};
 ghost use Rattle.names.specs.Check.{max_rows};
 ghost use Rattle.names.specs.Visible.{directory, seen_by};
 ghost use Rattle.names_judge.specs.Listed.{child_numbers, is_row};
@@ -23,20 +23,21 @@ fn self_under(mark: u64, f: MdtFid) -> MdtFid
     MdtFid(Fid::ZERO)
 }
 
+// The self FID of row r, if it is a directory under its mark, else none.
+fn marked_at(children: &[u8], marks: &[u64], r: usize) -> MdtFid
+    requires { (length marks.now ≡ length children.now / child_size) × (r < length children.now / child_size) }
+    ensures { result ≡ (child_at (directories marks.now (parse_children children.now)) r).self }
+{
+    self_under(marks[r], listing::self_at(children, r))
+}
+
 // Puts the rows that are directories under the marks in the index, and tells how many they are.
-// A loop: how many were put so far says where the next one goes.
 fn list(children: &[u8], marks: &[u64], index: &mut [u8]) -> usize
     requires { (length children.now / child_size ≤ max_rows) × (length marks.now ≡ length children.now / child_size) × (place_size * (length children.now / child_size) ≤ length index.old) }
     ensures { (entries result index.new ≡ child_numbers (directories marks.now (parse_children children.now))) × (result ≤ length children.now / child_size) }
 {
     let count = children.len() / CHILD_SIZE;
-    let mut n = 0usize;
-    for r in 0..count {
-        let row = tables::rows::row_at(children, CHILD_SIZE, r);
-        let name = self_under(marks[r], rows::self_of(row));
-        n = listing::put_row(index, n, r as u32, name);
-    }
-    n
+    listing::list_by(count, index, |r| marked_at(children, marks, r))
 }
 
 // Puts them in order.
@@ -55,11 +56,7 @@ fn is_marked(children: &[u8], marks: &[u64], r: u32, f: MdtFid) -> bool
     ensures { result ≡ is_row (directories marks.now (parse_children children.now)) f r }
 {
     let k = r as usize;
-    if children.len() / CHILD_SIZE <= k {
-        return false;
-    }
-    let row = tables::rows::row_at(children, CHILD_SIZE, k);
-    self_under(marks[k], rows::self_of(row)) == f
+    k < children.len() / CHILD_SIZE && marked_at(children, marks, k) == f
 }
 
 // The directory of a FID under the marks.

@@ -1,10 +1,7 @@
 use Rattle.fid.proofs.SameLaws.{eq_same}
-use mathlib.Core.Path.{ap, ◌∙◌}
-use mathlib.Core.List.{List}
-use Prim.Native.Nat.{ℕ}
+use mathlib.Core.Path.{◌∙◌}
 use native.Mathlib.Omega.{arith}
 use borrow.Author.Tests.{le-ltb}
-use Rattle.names.specs.Rows.{decode_child}
 use Rattle.names_judge.proofs.DirectoryLaws.{row_past, row_there}
 use Rattle.names_judge.proofs.listing.is_row.Goals as goal
 
@@ -15,5 +12,4 @@ pub returns-then-k-children : goal.returns-then-k-children
 returns-then-k-children c =
     let a = c.args in
     c.eq.ensures ∙ eq_same _ _
-    ∙ row_there a.children.now a.f a.r (omega arith) _
-    (c.self_of.ensures ∙ ap (λ (l : List ℕ). (decode_child l).self) c.row_at.ensures.0)
+    ∙ row_there a.children.now a.f a.r (omega arith) _ c.self_at.ensures
