@@ -1,5 +1,5 @@
 // Sweep 1: a child without self FID takes that of the first entry of a visible directory that has one.
-ghost use Rattle.std.specs.Prelude.{◌≡◌, Bool, ◌/◌, ◌≤◌, ◌<◌, length, get_or};
+ghost use Rattle.std.specs.Prelude.{◌≡◌, Bool, ◌/◌, ◌≤◌, ◌<◌, length};
 ghost use Rattle.fid.specs.declared.MdtFid.{MdtFid};
 ghost use Rattle.names.specs.Rows.{entry_size, parse_entries, parse_children};
 ghost use Rattle.names.specs.Check.{SoundNames};
@@ -10,15 +10,15 @@ ghost use Rattle.names_store.specs.Notes.{note_of, Noted};
 use names::rows;
 use names::rows::{CHILD_SIZE, ENTRY_SIZE};
 
-// What entry i gives its child, and whether it gave.
-fn take_self(entries: &[u8], children: &mut [u8], notes: &[u8], i: usize) -> bool
-    requires { SoundNames entries.now children.old × (i < length entries.now / entry_size) × (length entries.now / entry_size ≤ length notes.now) }
+// What entry i gives its child, under its note, and whether it gave.
+fn take_self(entries: &[u8], children: &mut [u8], i: usize, note: u8) -> bool
+    requires { SoundNames entries.now children.old × (i < length entries.now / entry_size) }
     ensures { SoundNames entries.now children.new
-        × ((seen : MdtFid → Bool) → get_or notes.now i 0 ≡ note_of seen (entry_at entries.now i) →
+        × ((seen : MdtFid → Bool) → note ≡ note_of seen (entry_at entries.now i) →
         (parse_children children.new ≡ taking seen (parse_children children.old) (entry_at entries.now i))
         × (result ≡ gives seen (parse_children children.old) (entry_at entries.now i))) }
 {
-    if notes[i] == 0 {
+    if note == 0 {
         return false;
     }
     let row = tables::rows::row_at(entries, ENTRY_SIZE, i);
@@ -47,9 +47,8 @@ pub fn take_selves(entries: &[u8], children: &mut [u8], notes: &[u8]) -> usize
 {
     let count = entries.len() / ENTRY_SIZE;
     let mut n = 0usize;
-    // A loop over numbers: turn i writes the child that entry i names, by note i.
-    for i in 0..count {
-        n += usize::from(take_self(entries, children, notes, i));
+    for (i, note) in notes[..count].iter().enumerate() {
+        n += usize::from(take_self(entries, children, i, *note));
     }
     n
 }

@@ -9,10 +9,10 @@ use Rattle.names_fids.proofs.NotedLaws.{hidden_note, visible_note}
 use Rattle.names_fids.proofs.SelvesLaws.{not_visible, no_fid, has_self_lem, takes, its_fid, its_row, its_child, self_stored, self_of_entry}
 use Rattle.names_fids.proofs.selves.take_self.Goals as goal
 
-pub returns-then-notes-i-eq0 : goal.returns-then-notes-i-eq0
-returns-then-notes-i-eq0 c =
+pub returns-then-note-eq0 : goal.returns-then-note-eq0
+returns-then-note-eq0 c =
     let a = c.args in
-    (c.requires.0, λ seen q. not_visible seen (parse_children a.children.now) (entry_at a.entries.now a.i) (hidden_note seen (entry_at a.entries.now a.i) _ c.if-notes-i-eq0.true q))
+    (c.requires.0, λ seen q. not_visible seen (parse_children a.children.now) (entry_at a.entries.now a.i) (hidden_note seen (entry_at a.entries.now a.i) _ c.if-note-eq0.true q))
 
 pub returns-then-is_none : goal.returns-then-is_none
 returns-then-is_none c =
@@ -56,6 +56,6 @@ returns c =
     let t = self_stored a.entries.now a.children.now c.requires.0 _ k c.fid_of-f.result (record { seq = omega (arith, c.fid_of-f.type_inv); oid = omega (arith, c.fid_of-f.type_inv); ver = omega (arith, c.fid_of-f.type_inv) }) _ c.put_self.ensures in (
       t.1,
       λ seen q.
-          let v = takes seen cs x (visible_note seen x _ c.if-notes-i-eq0.false q) n h in
+          let v = takes seen cs x (visible_note seen x _ c.if-note-eq0.false q) n h in
           (t.0 ∙ self_of_entry cs x _ _ (its_row a.entries.now a.children.now a.i _ w _ o) f ∙ v.0, v.1),
     )

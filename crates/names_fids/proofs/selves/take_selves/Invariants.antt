@@ -1,6 +1,6 @@
 use mathlib.Core.Path.{◌≡◌}
 use mathlib.Core.Bool.{Bool}
-use Prim.Native.Nat.{◌+◌, ◌-◌, ◌≤◌}
+use Prim.Native.Nat.{◌+◌, ◌≤◌}
 use lib.ListN.{length}
 use Rattle.fid.specs.declared.MdtFid.{MdtFid}
 use Rattle.names.specs.Rows.{parse_entries, parse_children}
@@ -15,6 +15,3 @@ invariant-loop-i l = (l.i ≤ l.count) × (l.n ≤ l.i) × (length l.children �
     × ((seen : MdtFid → Bool) → Noted seen l.entries l.notes →
     (sweep1 seen (parse_entries l.entries) (parse_children l.initial.children) ≡ swept_from seen l.entries l.i (parse_children l.children))
     × (taken seen (parse_entries l.entries) (parse_children l.initial.children) ≡ l.n + taken_from seen l.entries l.i (parse_children l.children)))
-
-abbrev pub decreases-loop-i : goal.decreases-loop-i
-decreases-loop-i l = l.count - l.i
