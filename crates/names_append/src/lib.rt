@@ -1,7 +1,7 @@
 // Sweep 3: missing records are appended, in the order of the entries.
 #![tactic(auto)]
 
-ghost use Rattle.std.specs.Prelude.{◌≡◌, Bool, ◌/◌, ◌≤◌, ◌<◌, length, get_or};
+ghost use Rattle.std.specs.Prelude.{◌≡◌, Bool, ◌/◌, ◌≤◌, ◌<◌, length};
 ghost use Rattle.fid.specs.declared.MdtFid.{MdtFid};
 ghost use Rattle.names.specs.Rows.{entry_size, parse_entries, parse_children};
 ghost use Rattle.names.specs.Check.{SoundNames};
@@ -32,15 +32,15 @@ pub struct Swept {
     pub full: bool,
 }
 
-// Appends the record of entry i where its child lacks it and has room for it.
-fn append_at(entries: &[u8], children: &mut [u8], notes: &[u8], i: usize) -> Asked
-    requires { SoundNames entries.now children.old × (i < length entries.now / entry_size) × (length entries.now / entry_size ≤ length notes.now) }
+// Appends the record of entry i where its child lacks it and has room for it, under its note.
+fn append_at(entries: &[u8], children: &mut [u8], i: usize, note: u8) -> Asked
+    requires { SoundNames entries.now children.old × (i < length entries.now / entry_size) }
     ensures { SoundNames entries.now children.new
-        × ((seen : MdtFid → Bool) → get_or notes.now i 0 ≡ note_of seen (entry_at entries.now i) →
+        × ((seen : MdtFid → Bool) → note ≡ note_of seen (entry_at entries.now i) →
         (asked_by result ≡ asks seen (parse_children children.old) (entry_at entries.now i))
         × (parse_children children.new ≡ children_after (asked_by result) (parse_children children.old) (entry_at entries.now i))) }
 {
-    if notes[i] == 0 {
+    if note == 0 {
         return Asked::Nothing;
     }
     let row = tables::rows::row_at(entries, ENTRY_SIZE, i);
@@ -65,7 +65,6 @@ fn append_at(entries: &[u8], children: &mut [u8], notes: &[u8], i: usize) -> Ask
 }
 
 // The sweep over tables that pass the check, under every visibility that the notes are of.
-// A loop over numbers: the entry it stops in front of is told by its number.
 pub fn append_all(entries: &[u8], children: &mut [u8], notes: &[u8]) -> Swept
     requires { SoundNames entries.now children.old × (length entries.now / entry_size ≤ length notes.now) }
     ensures { SoundNames entries.now children.new
@@ -74,8 +73,8 @@ pub fn append_all(entries: &[u8], children: &mut [u8], notes: &[u8]) -> Swept
 {
     let count = entries.len() / ENTRY_SIZE;
     let mut n = 0usize;
-    for i in 0..count {
-        match append_at(entries, children, notes, i) {
+    for (i, note) in notes[..count].iter().enumerate() {
+        match append_at(entries, children, i, *note) {
             Asked::Nothing => {}
             Asked::Room => {
                 n += 1;

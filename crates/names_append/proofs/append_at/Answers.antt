@@ -78,11 +78,11 @@ room_is c own =
     ∙ ap (λ (z : Child). outgrows z x) own
 
 -- ## The needs
-pub returns-then-notes-i-eq0 : goal.returns-then-notes-i-eq0
-returns-then-notes-i-eq0 c =
+pub returns-then-note-eq0 : goal.returns-then-note-eq0
+returns-then-note-eq0 c =
     let a = c.args in
     let e = entry_at a.entries.now a.i in
-    (c.requires.0, λ seen q. not_visible seen (parse_children a.children.now) e (hidden_note seen e _ c.if-notes-i-eq0.true q))
+    (c.requires.0, λ seen q. not_visible seen (parse_children a.children.now) e (hidden_note seen e _ c.if-note-eq0.true q))
 
 pub row_at-child-requires : goal.row_at-child-requires
 row_at-child-requires c = row_fits child_size _ (length c.args.children.now) (omega arith) (inside c)
@@ -122,7 +122,7 @@ returns-then-outgrows_room c =
     let s = goal.at.returns-then-outgrows_room c in
     let own = its_own s.After-row_at-child (inside s.After-child_of-r) in (
       c.requires.0,
-      λ seen q. has_no_room seen (parse_children a.children.now) e (visible_note seen e _ c.if-notes-i-eq0.false q) (sym (none_is s.After-is_none own) ∙ c.if-is_none.false)
+      λ seen q. has_no_room seen (parse_children a.children.now) e (visible_note seen e _ c.if-note-eq0.false q) (sym (none_is s.After-is_none own) ∙ c.if-is_none.false)
           (sym (has_is s.After-has_record own) ∙ c.if-has_record.false) (sym (room_is s.After-outgrows_room own) ∙ c.if-outgrows_room.true),
     )
 
@@ -163,7 +163,7 @@ returns c =
     let t = link_stored a.entries.now a.children.now c.requires.0 _ h _ l.new.row (l.auto.row ∙ ap length (part_row s.After-row_at-child) ∙ c.row_at-child.ensures.1) l.ensures.0 l.ensures.1 in (
       t.1,
       λ seen q.
-          let v = has_room seen cs e (visible_note seen e _ c.if-notes-i-eq0.false q) (sym (none_is s.After-is_none own) ∙ c.if-is_none.false) (sym (has_is s.After-has_record own) ∙ c.if-has_record.false)
+          let v = has_room seen cs e (visible_note seen e _ c.if-note-eq0.false q) (sym (none_is s.After-is_none own) ∙ c.if-is_none.false) (sym (has_is s.After-has_record own) ∙ c.if-has_record.false)
           (sym (room_is s.After-outgrows_room own) ∙ c.if-outgrows_room.false) in
           (v.0, t.0 ∙ record_of_entry cs e _ _ (its_row a.entries.now a.children.now a.i _ w.ensures.0 _ c.child_of-r.ensures) x ∙ v.1),
     )
