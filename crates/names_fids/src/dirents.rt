@@ -1,5 +1,5 @@
 // Sweep 2: the entries of visible directories get the self FID of their child.
-ghost use Rattle.std.specs.Prelude.{◌≡◌, Bool, ◌/◌, ◌≤◌, ◌<◌, length, get_or, set};
+ghost use Rattle.std.specs.Prelude.{◌≡◌, Bool, ◌/◌, ◌≤◌, ◌<◌, length, set};
 ghost use Rattle.fid.specs.declared.MdtFid.{MdtFid};
 ghost use Rattle.names.specs.Rows.{entry_size, parse_entries, parse_children};
 ghost use Rattle.names.specs.Check.{SoundNames};
@@ -10,15 +10,15 @@ ghost use Rattle.names_store.specs.Notes.{note_of, Noted};
 use names::rows;
 use names::rows::{CHILD_SIZE, ENTRY_SIZE};
 
-// Writes the FID-in-dirent of entry i, and tells whether it differed.
-fn write_fid(entries: &mut [u8], children: &[u8], notes: &[u8], i: usize) -> bool
-    requires { SoundNames entries.old children.now × (i < length entries.old / entry_size) × (length entries.old / entry_size ≤ length notes.now) }
+// Writes the FID-in-dirent of entry i, under its note, and tells whether it differed.
+fn write_fid(entries: &mut [u8], children: &[u8], i: usize, note: u8) -> bool
+    requires { SoundNames entries.old children.now × (i < length entries.old / entry_size) }
     ensures { SoundNames entries.new children.now
-        × ((seen : MdtFid → Bool) → get_or notes.now i 0 ≡ note_of seen (entry_at entries.old i) →
+        × ((seen : MdtFid → Bool) → note ≡ note_of seen (entry_at entries.old i) →
         (parse_entries entries.new ≡ set (parse_entries entries.old) i (written seen (parse_children children.now) (entry_at entries.old i)))
         × (result ≡ differs seen (parse_children children.now) (entry_at entries.old i))) }
 {
-    if notes[i] == 0 {
+    if note == 0 {
         return false;
     }
     let row = tables::rows::row_at(entries, ENTRY_SIZE, i);
@@ -37,7 +37,6 @@ fn write_fid(entries: &mut [u8], children: &[u8], notes: &[u8], i: usize) -> boo
 }
 
 // The sweep over tables that pass the check, and how many FIDs were written, under every visibility that the notes are of.
-// A loop: turn i writes row i of the entries, and of rows that chunks_exact_mut lends a proof knows the length only.
 pub fn write_fids(entries: &mut [u8], children: &[u8], notes: &[u8]) -> usize
     requires { SoundNames entries.old children.now × (length entries.old / entry_size ≤ length notes.now) }
     ensures { SoundNames entries.new children.now
@@ -47,8 +46,8 @@ pub fn write_fids(entries: &mut [u8], children: &[u8], notes: &[u8]) -> usize
 {
     let count = entries.len() / ENTRY_SIZE;
     let mut n = 0usize;
-    for i in 0..count {
-        n += usize::from(write_fid(entries, children, notes, i));
+    for (i, note) in notes[..count].iter().enumerate() {
+        n += usize::from(write_fid(entries, children, i, *note));
     }
     n
 }

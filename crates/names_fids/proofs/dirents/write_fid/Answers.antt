@@ -13,14 +13,14 @@ use Rattle.names_fids.proofs.SelvesLaws.{its_fid, its_child}
 use Rattle.names_fids.proofs.DirentLaws.{not_visible, no_self, agrees, wins, entry_stays, fid_stored, fid_wins}
 use Rattle.names_fids.proofs.dirents.write_fid.Goals as goal
 
-pub returns-then-notes-i-eq0 : goal.returns-then-notes-i-eq0
-returns-then-notes-i-eq0 c =
+pub returns-then-note-eq0 : goal.returns-then-note-eq0
+returns-then-note-eq0 c =
     let a = c.args in
     let cs = parse_children a.children.now in
     let x = entry_at a.entries.now a.i in (
       c.requires.0,
       λ seen q.
-          let v = not_visible seen cs x (hidden_note seen x _ c.if-notes-i-eq0.true q) in
+          let v = not_visible seen cs x (hidden_note seen x _ c.if-note-eq0.true q) in
           (entry_stays a.entries.now a.i (written seen cs x) c.requires.1 v.0, v.1),
     )
 
@@ -83,6 +83,6 @@ returns c =
     let t = fid_stored a.entries.now a.children.now c.requires.0 a.i c.requires.1 c.self_of-own.result (record { seq = omega (arith, r); oid = omega (arith, r); ver = omega (arith, r) }) _ c.put_fid.ensures in (
       t.1,
       λ seen q.
-          let v = wins seen cs x (visible_note seen x _ c.if-notes-i-eq0.false q) n h in
+          let v = wins seen cs x (visible_note seen x _ c.if-note-eq0.false q) n h in
           (t.0 ∙ fid_wins a.entries.now a.i x _ _ g ∙ ap (set (parse_entries a.entries.now) a.i) v.0, v.1),
     )

@@ -1,6 +1,6 @@
 use mathlib.Core.Path.{◌≡◌}
 use mathlib.Core.Bool.{Bool}
-use Prim.Native.Nat.{◌+◌, ◌-◌, ◌≤◌}
+use Prim.Native.Nat.{◌+◌, ◌≤◌}
 use lib.ListN.{length}
 use Rattle.fid.specs.declared.MdtFid.{MdtFid}
 use Rattle.names.specs.Rows.{parse_entries, parse_children}
@@ -15,6 +15,3 @@ invariant-loop-i l = (l.i ≤ l.count) × (l.n ≤ l.i) × (length l.entries ≡
     × ((seen : MdtFid → Bool) → Noted seen l.initial.entries l.notes →
     done_to seen (parse_children l.children) l.initial.entries l.i l.entries
     × (writes seen (parse_children l.children) (parse_entries l.initial.entries) ≡ l.n + writes_from seen (parse_children l.children) l.initial.entries l.i))
-
-abbrev pub decreases-loop-i : goal.decreases-loop-i
-decreases-loop-i l = l.count - l.i
