@@ -11,7 +11,7 @@ use names::rows;
 use names::rows::CHILD_SIZE;
 
 // Puts row r in the index after n entries, if it has a self FID, and tells how many they are then.
-fn put_row(index: &mut [u8], n: usize, r: u32, name: MdtFid) -> usize
+pub fn put_row(index: &mut [u8], n: usize, r: u32, name: MdtFid) -> usize
     requires { (place_size * n + place_size ≤ length index.old) × (n ≤ max_rows) }
     ensures { (result ≡ listed_count name n) × (index.new ≡ listed_bytes name n r index.old) }
 {
