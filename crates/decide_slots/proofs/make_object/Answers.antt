@@ -3,7 +3,7 @@ use Rattle.decide_slots.proofs.SlotLaws.{make_none, make_done}
 use Rattle.decide_slots.proofs.make_object.Goals as goal
 
 pub returns-in_default : goal.returns-in_default
-returns-in_default c = let a = c.args in make_none a.parents.now a.objects.now a.r a.j a.ost a.f (sym c.free_object.ensures ∙ c.in_default.is)
+returns-in_default c = let a = c.args in make_none a.parents.now a.objects.now a.at.row a.at.index a.at.ost a.at.fid (sym c.free_object.ensures ∙ c.in_default.is)
 
 pub returns : goal.returns
-returns c = let a = c.args in make_done a.parents.now a.objects.now a.r a.j a.ost a.f c.in-Some.o (sym c.free_object.ensures ∙ c.in-Some.is) _ c.new_object-x.ensures
+returns c = let a = c.args in make_done a.parents.now a.objects.now a.at.row a.at.index a.at.ost a.at.fid c.in-Some.o (sym c.free_object.ensures ∙ c.in-Some.is) _ c.new_object-x.ensures

@@ -13,7 +13,7 @@ unfolding settings_of
 returns-then-not-creates c =
     let a = c.args in
     decides_rest a.parents.now a.objects.now _
-    (multiple_off a.parents.now a.objects.now (settings_of a.policy a.reserve.now) a.r a.j a.ost (sym c.creates.ensures ∙ c.if-not-creates.true))
+    (multiple_off a.parents.now a.objects.now (settings_of a.policy a.reserve.now) a.at.row a.at.index a.at.ost (sym c.creates.ensures ∙ c.if-not-creates.true))
 
 pub reusable-requires : goal.reusable-requires
 reusable-requires c = (sound_facts _ _ c.requires.tables).layouts
@@ -28,12 +28,12 @@ unfolding settings_of row_bytes
 returns-in-None c =
     let d = c in let s = d in let a = s.args in
     decides_same a.parents.now a.objects.now _ _ _ c.redirect.ensures
-    (multiple_none a.parents.now a.objects.now (settings_of a.policy a.reserve.now) a.r a.j a.ost s.requires.row _ d.row_at-row.ensures.0 _ d.self_of-file.ensures _
+    (multiple_none a.parents.now a.objects.now (settings_of a.policy a.reserve.now) a.at.row a.at.index a.at.ost s.requires.row _ d.row_at-row.ensures.0 _ d.self_of.ensures _
     d.reusable.ensures (sym d.creates.ensures ∙ d.if-not-creates.false) c.in-None.is)
 
 pub returns-in-Some : goal.returns-in-Some
 unfolding settings_of row_bytes
 returns-in-Some c =
     let d = c in let s = d in let a = s.args in decides_same a.parents.now a.objects.now _ _ _ c.reuse.ensures
-    (multiple_some a.parents.now a.objects.now (settings_of a.policy a.reserve.now) a.r a.j a.ost s.requires.row _ d.row_at-row.ensures.0 _ d.self_of-file.ensures _
+    (multiple_some a.parents.now a.objects.now (settings_of a.policy a.reserve.now) a.at.row a.at.index a.at.ost s.requires.row _ d.row_at-row.ensures.0 _ d.self_of.ensures _
     d.reusable.ensures (sym d.creates.ensures ∙ d.if-not-creates.false) c.in-Some.o c.in-Some.is)
