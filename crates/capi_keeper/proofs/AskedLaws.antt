@@ -20,6 +20,10 @@ use Rattle.capi_keeper.specs.Keepers.{asked, good_asked, keeper_tests, keeper_nu
 -- ## The FID asked for
 
 module _ (s i : ℕ) where
+  pub asked_wide : max_word < i → false ≡ good_asked s i
+  unfolding good_asked
+  asked_wide h = rw (lt-leb i max_word h)
+
   pub good_fits : good_asked s i ≡ true → i ≤ max_word
   unfolding good_asked
   good_fits h = leb-true i max_word (and_l (leb i max_word) (good_object (asked s i)) h)

@@ -3,12 +3,12 @@ use mathlib.Core.Path.{◌≡◌, refl, ◌∙◌}
 use mathlib.Core.List.{List}
 use mathlib.Core.Bool.{Bool, true, false, cond, ◌&&◌}
 use Prim.Native.Nat.{ℕ, ◌≤◌, ◌<◌}
-use borrow.Author.Tests.{ne_eqb, eqb-true, leb-true}
+use borrow.Author.Tests.{ne_eqb, eqb-true, leb-true, eq-eqb}
 use native.Mathlib.Omega.{arith}
 use lib.Dec.{eqb, leb}
 use lib.ListN.{length, get_or, set}
 use Rattle.wire.proofs.Both.{and_first, and_second}
-use Rattle.layout.specs.Layout.{layout_size}
+use Rattle.layout.specs.Layout.{layout_size, magic_one, magic_three}
 use Rattle.wire.specs.Numbers.{max_word}
 use Rattle.layout_write.specs.Writer.{writable, write_layout, written_number, left_by, write_bytes}
 use Rattle.layout.specs.declared.Header.{Header}
@@ -17,9 +17,19 @@ use Rattle.refusals.specs.Numbers.{number}
 use Rattle.refusals.specs.declared.Refusal.{Refusal}
 use Rattle.refusals.proofs.NumberLaws.{number_above}
 use Rattle.capi_out.specs.Out.{out_numbers}
-use Rattle.capi_write.specs.Write.{header_numbers, max_half, is_version, fields_fit, fields_header, fields_count, header_given, header_number, header_values, header_answer, header_dest, header_out, write_number, write_values, write_answer, write_dest}
+use Rattle.capi_write.specs.Write.{header_numbers, max_half, is_version, fields_fit, fields_header, fields_count, header_given, header_number, header_values, header_answer, header_dest, header_out, write_number, write_values, write_answer, write_dest, magic_of}
 use Rattle.layout_write.proofs.WriteLaws.{write_took}
 use Rattle.capi_out.proofs.OutLaws.{out_refused, out_short, out_done}
+
+-- ## The magic numbers
+
+pub magic_three_lem : (v : ℕ) → v ≡ 3 → magic_three ≡ magic_of v
+unfolding magic_of
+magic_three_lem v e = rw (eq-eqb v 3 e)
+
+pub magic_one_lem : (v : ℕ) → (v ≡ 3 → ⊥) → magic_one ≡ magic_of v
+unfolding magic_of
+magic_one_lem v e = rw (ne_eqb v 3 e)
 
 -- ## The fields
 

@@ -1,9 +1,9 @@
 -- Laws of FIDs: the round trips between a FID and its 16 bytes. Assumes nothing.
 use mathlib.Core.Path.{◌≡◌, ◌∙◌}
 use mathlib.Core.List.{List, ◌++◌, append_assoc}
-use mathlib.Core.Bool.{Bool, true, ◌&&◌}
+use mathlib.Core.Bool.{Bool, true, ◌&&◌, false}
 use Prim.Native.Nat.{ℕ, ◌+◌, ◌≤◌, ◌<◌, ◌^◌}
-use borrow.Author.Tests.{leb-true, eqb-true}
+use borrow.Author.Tests.{leb-true, eqb-true, lt-leb}
 use native.Mathlib.Nat.{mod-eq_of_lt}
 use native.Mathlib.Omega.{arith}
 use lib.Dec.{leb, eqb}
@@ -133,3 +133,9 @@ good_facts f h =
 -- the sequence of a good FID is not 0
 pub good_positive : (f : Fid) → good_fid f ≡ true → 0 < f.seq
 good_positive f h = omega (arith, good_facts f h)
+
+-- ## A sequence below the good ones
+
+pub number_low : (f : Fid) → f.seq < least_sequence → false ≡ good_number f
+unfolding good_number good_sequence
+number_low f h = simp (lt-leb _ _ h)

@@ -302,3 +302,9 @@ module _ (s : List ℕ) (n seq oid r : ℕ) (o : Ordered (entries n s)) (e : r �
       go : (f : Option ℕ) → value_with (key_of seq oid) (entry_at r s) ≡ f → f ≡ lowest_of always (key_of seq oid) (entries n s)
       go None g = walk_over always r (omega arith) h g ∙ sym (walk_start always)
       go (Some v) g = walk_takes always r v h g (passes_always v) ∙ sym (walk_start always)
+
+-- ## The value in the low half
+
+pub value_is_lem : (lo hi : ℕ) → wide lo hi % value_range ≡ lo % value_range
+unfolding wide
+value_is_lem lo hi = omega arith

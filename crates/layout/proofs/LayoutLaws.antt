@@ -66,6 +66,10 @@ module _ (l : List ℕ) where
       let z : length l ≡ start + slot_size * n = rw (b, q) (exact_size x) in
       rw (drop_take_all start l, length-drop) (omega arith)
 
+  pub accepted_header : (h : Header) → h ≡ decode_header l → exact_length l ≡ true → good_header h ≡ false → false ≡ accepted_layout l
+  unfolding accepted_layout layout_rules
+  accepted_header h e x k = rw (x, ← e, k)
+
   pub slots_many : length (decode_layout l).slots ≡ stripe_count l
   unfolding decode_layout
   slots_many = length_slots (stripe_count l) (drop (slot_start l) l)

@@ -129,7 +129,7 @@ pub fn step_at(l: &[u8], p: usize) -> Result<Option<Found>, Refusal>
 fn good_records(l: &[u8], count: usize) -> bool
     ensures { result ≡ (not (some (bad_record l.now) (places l.now)) && eqb count (length (places l.now))) }
 {
-    // A loop: the next place comes from the record read, so no iterator gives it.
+    // A loop: the next place comes from the record read; `successors` gives places, and would read each length twice.
     let mut at = LINK_HEADER;
     let mut k = 0usize;
     while at < l.len() {
@@ -178,7 +178,7 @@ fn begins(l: &[u8], p: usize) -> bool
     if end <= p {
         return false;
     }
-    // A loop: the next place comes from the record read, so no iterator gives it.
+    // A loop: the next place comes from the record read; `successors` gives places, and would read each length twice.
     let mut at = LINK_HEADER;
     while at < p {
         at = at + wire::get::<u16, Big>(l, at) as usize;

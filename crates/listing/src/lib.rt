@@ -20,7 +20,7 @@ struct Told {
 }
 
 // The classes from a position on, as many as out has whole places for.
-// A loop: the next position comes from the tables, so no iterator gives it.
+// A loop: each turn writes a place of out, and the position after the last one told is part of the answer.
 fn tell(parents: &[u8], objects: &[u8], at: Position, out: &mut [u64]) -> Told
     requires { Sound parents.now objects.now × (is_position (parse parents.now objects.now) at ≡ true) }
     ensures done { result.done ≡ length (told_positions (parse parents.now objects.now) at out.old) }

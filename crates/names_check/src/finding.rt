@@ -64,7 +64,7 @@ fn find_at(entries: &[u8], children: &[u8], i: usize, out: &mut [u64])
 }
 
 // The findings of every entry of tables that pass the check.
-// A loop: turn i writes two numbers, and of parts that chunks_exact_mut lends a proof knows the length only.
+// A loop: turn i writes two numbers, and of parts that chunks_exact_mut lends a proof knows what they held, and not what the slice ends as.
 pub fn find(entries: &[u8], children: &[u8], out: &mut [u64])
     requires { SoundNames entries.now children.now × (2 * (length entries.now / entry_size) ≤ length out.old) }
     ensures { out.new ≡ sets out.old 0 (findings (parse_children children.now) (parse_entries entries.now)) }

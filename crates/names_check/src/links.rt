@@ -27,7 +27,7 @@ pub fn is_link(l: &[u8], p: usize, parent: MdtFid, name: &[u8]) -> bool
 }
 
 // Whether a linkEA that is not refused has a record with a directory and a name.
-// A loop: the place of the next record comes from the one read, so no iterator gives it.
+// A loop: the next place comes from the record read; `successors` gives places, and would read each length twice.
 pub fn has_link(l: &[u8], parent: MdtFid, name: &[u8]) -> bool
     requires { refused_link l.now ≡ false }
     ensures { result ≡ any (same_link (asked parent name.now)) (decode_link_ea l.now).links }

@@ -41,7 +41,7 @@ fn keep_one(row: &mut [u8], p: Packed, bytes: &[u8], flag: u8) -> Packed
 }
 
 // Puts the records of a linkEA whose flag says that they stay in the row, behind the place of the header.
-// A loop: the place of the next record comes from the one read, so no iterator gives it.
+// A loop: the next place comes from the record read; `successors` gives places, and would read each length twice.
 fn keep_all(row: &mut [u8], old: &[u8], flags: &[u8]) -> Packed
     requires { (length row.old ≡ child_size) × (refused_link old.now ≡ false) × (length old.now ≤ link_room) × (length (decode_link_ea old.now).links ≤ length flags.now) }
     ensures { PackedIn row.old row.new result (kept_by flags.now (decode_link_ea old.now).links) }

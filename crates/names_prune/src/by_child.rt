@@ -13,7 +13,7 @@ use names::rows::ENTRY_SIZE;
 use names_check::links;
 
 // Puts the entries in the index, in their order.
-// A loop: turn i writes place i, and of places that chunks_exact_mut lends a proof knows the length only.
+// A loop: turn i writes place i, and of parts that chunks_exact_mut lends a proof knows what they held, and not what the slice ends as.
 fn list(entries: &[u8], index: &mut [u8])
     requires { (length entries.now / entry_size ≤ max_rows) × (place_size * (length entries.now / entry_size) ≤ length index.old) }
     ensures { entries_of (length entries.now / entry_size) index.new ≡ entry_numbers (parse_entries entries.now) }

@@ -18,7 +18,7 @@ use names_marks::marked;
 use wire::Big;
 
 // Whether one of the first k records of a linkEA has a directory and a name.
-// A loop: the place of the next record comes from the one read, so no iterator gives it.
+// A loop: the next place comes from the record read; `successors` gives places, and would read each length twice.
 fn stands_before(l: &[u8], k: usize, parent: MdtFid, name: &[u8]) -> bool
     requires { (refused_link l.now ≡ false) × (k ≤ length (decode_link_ea l.now).links) }
     ensures { result ≡ any (same_link (asked parent name.now)) (take k (decode_link_ea l.now).links) }
@@ -76,7 +76,7 @@ impl Lent<'_> {
     }
 
     // Flags the records of a linkEA of child r, and tells how many go.
-    // A loop: the place of the next record comes from the one read, so no iterator gives it.
+    // A loop: the next place comes from the record read; `successors` gives places, and would read each length twice.
     pub fn flag(self, r: u32, l: &[u8], flags: &mut [u8]) -> usize
         requires { (refused_link l.now ≡ false) × (length l.now ≤ link_room) × (flag_room ≤ length flags.old) }
         ensures { Told (seen_by self.entry.marks.now (parse_children self.entry.children.now)) (parse_entries self.entry.entries.now) r (decode_link_ea l.now).links flags.new result }

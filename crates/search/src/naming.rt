@@ -32,7 +32,7 @@ pub fn first_naming(parents: &[u8], f: OstFid) -> Search
     let n = parents.len() / PARENT_SIZE;
     let mut place = None;
     let mut compared = 0;
-    // Loops: the scan is nested loops left by a label, a form that the paper names (docs/DECISIONS.md).
+    // Loops: the scan is nested loops left by a label, a form that document 01 names.
     'rows: for r in 0..n {
         let area = slots::slot_area(rows::row_at(parents, PARENT_SIZE, r));
         let count = area.len() / SLOT_SIZE;

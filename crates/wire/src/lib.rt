@@ -160,6 +160,7 @@ pub fn put<W: Word, O: ByteOrder>(s: &mut [u8], at: usize, v: W)
     requires { at + W.SIZE ≤ length s.old }
     ensures { s.new ≡ sets s.old at (O.bytes_of W.SIZE (W.value v)) }
 {
+    // A loop over places, as in `get`.
     let mut n = v.to_number();
     for i in 0..W::SIZE {
         s[at + O::place(i, W::SIZE)] = (n % 256) as u8;

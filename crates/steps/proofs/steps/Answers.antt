@@ -29,8 +29,8 @@ returns-then-is_end c =
     let whole = told _ c.report.ensures (l.invariant.5 ∙ here_end l.parents l.objects a.reserve.now a.policy a.most l.counts l.position l.done l.invariant.3 l.invariant.4 (sym c.if-is_end.true ∙ c.is_end.ensures)) in
     record { report = whole.0; parents = whole.1.0; objects = whole.1.1 }
 
-pub step-requires : goal.step-requires
-step-requires c =
+pub step-outcome-requires : goal.step-outcome-requires
+step-outcome-requires c =
     let l = c.loop-done in
     let v = c.requires in
     record {
@@ -48,7 +48,7 @@ returns-in-Err c =
     let v = w in
     let a = v.args in
     let n = sym w.if-is_end.false ∙ w.is_end.ensures in
-    let whole = told _ (c.report-in-Err.ensures ∙ (λ i. record { answer = c.number.ensures i; steps = l.done; counts = l.counts; position = l.position })) (l.invariant.5 ∙ here_stuck l.parents l.objects a.reserve.now a.policy a.most l.counts l.position l.done l.invariant.3 l.invariant.4 w.step.result _ _ w.loop-done-test.true n w.step.ensures.outcome w.step.ensures.parents w.step.ensures.objects b.in-Err.stop b.in-Err.is) in
+    let whole = told _ (c.report-in-Err.ensures ∙ (λ i. record { answer = c.number.ensures i; steps = l.done; counts = l.counts; position = l.position })) (l.invariant.5 ∙ here_stuck l.parents l.objects a.reserve.now a.policy a.most l.counts l.position l.done l.invariant.3 l.invariant.4 w.step-outcome.result _ _ w.loop-done-test.true n w.step-outcome.ensures.outcome w.step-outcome.ensures.parents w.step-outcome.ensures.objects b.in-Err.stop b.in-Err.is) in
     record { report = whole.0; parents = whole.1.0; objects = whole.1.1 }
 
 pub tallied-counts-requires : goal.tallied-counts-requires
@@ -66,7 +66,7 @@ next_position-position-requires c =
     let a = v.args in
     let n = sym w.if-is_end.false ∙ w.is_end.ensures in
     let s : Bytes a.reserve.now = λ i. omega (arith, w.shared_slice_known-1.given i) in
-    let t = stands_still l.parents l.objects a.reserve.now a.policy a.most l.counts l.position l.done l.invariant.3 l.invariant.4 w.step.result _ _ w.loop-done-test.true n w.step.ensures.outcome w.step.ensures.parents w.step.ensures.objects s v.requires.reserve in
+    let t = stands_still l.parents l.objects a.reserve.now a.policy a.most l.counts l.position l.done l.invariant.3 l.invariant.4 w.step-outcome.result _ _ w.loop-done-test.true n w.step-outcome.ensures.outcome w.step-outcome.ensures.parents w.step-outcome.ensures.objects s v.requires.reserve in
     (stands_sound _ _ _ t, t.position)
 
 pub overflow_add-done : goal.overflow_add-done
@@ -84,15 +84,15 @@ loop-done-preserved c =
     let a = v.args in
     let n = sym w.if-is_end.false ∙ w.is_end.ensures in
     let s : Bytes a.reserve.now = λ i. omega (arith, w.shared_slice_known-1.given i) in
-    let k = w.step.auto in
+    let k = w.step-outcome.auto in
     let x = c.tallied-counts.ensures in
     let y = c.next_position-position.ensures in (
       omega (arith, c.loop-done-test.true),
       k.parents ∙ l.invariant.1,
       k.objects ∙ l.invariant.2,
-      within_next l.counts l.done l.invariant.3 c.in-Ok.repair _ x,
-      stands_next l.parents l.objects a.reserve.now a.policy a.most l.counts l.position l.done l.invariant.3 l.invariant.4 w.step.result _ _ w.loop-done-test.true n w.step.ensures.outcome w.step.ensures.parents w.step.ensures.objects s v.requires.reserve _ y,
-      l.invariant.5 ∙ here_next l.parents l.objects a.reserve.now a.policy a.most l.counts l.position l.done l.invariant.3 l.invariant.4 w.step.result _ _ w.loop-done-test.true n w.step.ensures.outcome w.step.ensures.parents w.step.ensures.objects s v.requires.reserve c.in-Ok.repair c.in-Ok.is _ _ x y,
+      within_next l.counts l.done l.invariant.3 w.step-outcome.result _ x,
+      stands_next l.parents l.objects a.reserve.now a.policy a.most l.counts l.position l.done l.invariant.3 l.invariant.4 w.step-outcome.result _ _ w.loop-done-test.true n w.step-outcome.ensures.outcome w.step-outcome.ensures.parents w.step-outcome.ensures.objects s v.requires.reserve _ y,
+      l.invariant.5 ∙ here_next l.parents l.objects a.reserve.now a.policy a.most l.counts l.position l.done l.invariant.3 l.invariant.4 w.step-outcome.result _ _ w.loop-done-test.true n w.step-outcome.ensures.outcome w.step-outcome.ensures.parents w.step-outcome.ensures.objects s v.requires.reserve _ _ c.in_default.not-Err x y,
     )
 
 pub returns : goal.returns
