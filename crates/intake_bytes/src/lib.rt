@@ -112,6 +112,10 @@ pub fn digit_byte(buf: &mut [u8], x: Unfinished, b: u8) -> Unfinished
     requires { Room (length buf.old) x }
     ensures { DigitStep buf.old x b buf.new result }
 {
+    // Asked first: most digits of a skipped attribute come after its value is broken.
+    if let Half::Broken = x.half {
+        return x;
+    }
     let Some(d) = digit(b) else {
         return Unfinished {
             half: Half::Broken,

@@ -3,8 +3,11 @@ use Rattle.intake_bytes.proofs.StartsLaws.{digit_at, digit_not}
 use Rattle.intake_bytes.proofs.StoreLaws.{stays_broken, no_digit, first_half_lem, byte_second, half_below}
 use Rattle.intake_bytes.proofs.digit_byte.Goals as goal
 
-pub returns-in_default : goal.returns-in_default
-returns-in_default c = let a = c.args in no_digit a.buf.now a.x a.b (digit_not a.b c.in_default.ensures)
+pub returns-in-Broken-half : goal.returns-in-Broken-half
+returns-in-Broken-half c = let a = c.args in stays_broken a.buf.now a.x a.b c.in-Broken-half.is
+
+pub returns-in_default-digit : goal.returns-in_default-digit
+returns-in_default-digit c = let a = c.args in no_digit a.buf.now a.x a.b (digit_not a.b c.in_default-digit.ensures)
 
 pub overflow_mul-h : goal.overflow_mul-h
 overflow_mul-h c = omega (arith, half_below c.args.x c.in-Odd.h c.requires.halves c.in-Odd.is)
