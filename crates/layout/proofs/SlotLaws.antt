@@ -19,10 +19,11 @@ use Rattle.wire.proofs.NumberLaws.{Bytes, bytes_drop, bytes_le, length_bytes, le
 use Rattle.fid.specs.Fid.{decode_fid, encode_fid, good_object}
 use Rattle.fid.specs.declared.Fid.{Fid}
 use Rattle.fid.specs.declared.OstFid.{OstFid}
+use Rattle.fid.proofs.SameLaws.{eq_same}
 use Rattle.fid.proofs.FidLaws.{length_encode, decode_encode, encode_decode, Fits, fid_fits, good_positive}
 use Rattle.layout.specs.declared.Slot.{Slot}
 use Rattle.layout.specs.declared.Slot.TheVariants.{Hole, Names}
-use Rattle.layout.specs.Slot.{slot_generation_at, slot_index_at, slot_size, zero_slot, slot_from, slot_of, decode_slot, encode_slot, decode_slots, encode_slots, allowed_slot, allowed_slots, max_index}
+use Rattle.layout.specs.Slot.{slot_generation_at, slot_index_at, slot_size, zero_slot, slot_from, slot_of, decode_slot, encode_slot, decode_slots, encode_slots, allowed_slot, allowed_slots, max_index, slot_names}
 
 -- ## The tests
 
@@ -41,6 +42,25 @@ module _ (f : Fid) (g i : ℕ) where
       i ≡ le 4 (drop (slot_size * j + slot_index_at) area) → zero_slot f g i ≡ false → Names (record { 0 = f }) g i ≡ slot_of area j
   unfolding slot_of decode_slot slot_from
   slot_names_lem area j p q r h = rw (drop-drop slot_generation_at (slot_size * j) area, drop-drop slot_index_at (slot_size * j) area, ← p, ← q, ← r, h)
+
+-- a slot of another FID doesn't name the object, be it a hole or not: what `==` computes is the answer
+pub other_fid : (f : OstFid) (h : Fid) (area : List ℕ) (j : ℕ) {r : Bool} → h ≡ decode_fid (drop (slot_size * j) area) →
+    r ≡ (eqb h.seq f.0.seq && (eqb h.oid f.0.oid && eqb h.ver f.0.ver)) → r ≡ false → r ≡ slot_names f (slot_of area j)
+unfolding slot_of decode_slot slot_from slot_names
+other_fid f h area j p e n = n ∙ go (zero_slot d g i)
+  where
+    d : Fid
+    d = decode_fid (drop (slot_size * j) area)
+
+    g : ℕ
+    g = le 4 (drop slot_generation_at (drop (slot_size * j) area))
+
+    i : ℕ
+    i = le 4 (drop slot_index_at (drop (slot_size * j) area))
+
+    go : (b : Bool) → false ≡ slot_names f (cond b Hole (Names (record { 0 = d }) g i))
+    go true = refl
+    go false = sym (rw p at (sym (eq_same h f.0) ∙ sym e ∙ n))
 
 -- ## The bytes of a slot
 

@@ -112,6 +112,16 @@ pub fn names(s: Slot, f: OstFid) -> bool
     }
 }
 
+// Whether slot j of a slot area names an object. The FID is compared first, in which most slots differ: whether a slot is a hole
+// is asked of the others alone.
+#[tactic(auto, using(crate::proofs::SlotLaws::other_fid))]
+pub fn names_at(area: &[u8], j: usize, f: OstFid) -> bool
+    requires { slot_size * j + slot_size ≤ length area.now }
+    ensures { result ≡ slot_names f (slot_of area.now j) }
+{
+    OstFid(fid::read_fid(area, SLOT_SIZE * j)) == f && names(slot_at(area, j), f)
+}
+
 // Whether a slot may stand in a layout, with or without the hole pattern.
 pub fn allowed_slot(holes: bool, s: Slot) -> bool
     ensures { result ≡ allowed_slot holes s }

@@ -1,6 +1,6 @@
 // The slots that name an object, in scan order: parent row, then slot.
-ghost use Rattle.std.specs.Prelude.{◌≡◌, true, not, ◌&&◌, eqb, ◌/◌, ◌<◌, length};
-ghost use Rattle.layout.specs.Slot.{slot_names};
+ghost use Rattle.std.specs.Prelude.{◌≡◌, true, not, ◌&&◌, eqb, ◌+◌, ◌*◌, ◌/◌, ◌≤◌, ◌<◌, length};
+ghost use Rattle.layout.specs.Slot.{slot_size, slot_of, slot_names};
 ghost use Rattle.tables.specs.Bytes.{parent_size, parse_parents};
 ghost use Rattle.tables.specs.Positions.{width};
 ghost use Rattle.tables.specs.Check.{good_layouts};
@@ -10,16 +10,17 @@ ghost use Rattle.rules.specs.Compared.{up_to, all_slots};
 
 use super::slots;
 use fid::OstFid;
-use layout::{SLOT_SIZE, Slot};
+use layout::SLOT_SIZE;
 use rules::Search;
 use tables::rows;
 use tables::rows::PARENT_SIZE;
 
-// Whether slot i of row k, which is s, names an object and is not slot j of row r.
-fn names_else(s: Slot, f: OstFid, k: usize, i: usize, r: usize, j: usize) -> bool
-    ensures { result ≡ (slot_names f s && not (eqb k r && eqb i j)) }
+// Whether slot i of row k, whose slot area is lent, names an object and is not slot j of row r.
+fn names_else(area: &[u8], f: OstFid, k: usize, i: usize, r: usize, j: usize) -> bool
+    requires { slot_size * i + slot_size ≤ length area.now }
+    ensures { result ≡ (slot_names f (slot_of area.now i) && not (eqb k r && eqb i j)) }
 {
-    layout::names(s, f) && (k != r || i != j)
+    layout::names_at(area, i, f) && (k != r || i != j)
 }
 
 // The first slot in scan order that names an object, and the slots compared up to it. The search stops at the first parent and
@@ -38,7 +39,7 @@ pub fn first_naming(parents: &[u8], f: OstFid) -> Search
         let count = area.len() / SLOT_SIZE;
         for j in 0..count {
             compared += 1;
-            if layout::names(layout::slot_at(area, j), f) {
+            if layout::names_at(area, j, f) {
                 place = Some((r, j));
                 break 'rows;
             }
@@ -53,7 +54,7 @@ fn named_in(parents: &[u8], f: OstFid, k: usize, r: usize, j: usize) -> bool
     ensures { result ≡ is_somewhere (slot_from k (width (parse_parents parents.now) k) 0 (names_else (parse_parents parents.now) f r j)) }
 {
     let area = slots::slot_area(rows::row_at(parents, PARENT_SIZE, k));
-    (0..area.len() / SLOT_SIZE).any(|i| names_else(layout::slot_at(area, i), f, k, i, r, j))
+    (0..area.len() / SLOT_SIZE).any(|i| names_else(area, f, k, i, r, j))
 }
 
 // Whether a slot names an object.

@@ -52,7 +52,7 @@ pub fn claimed_at(parents: &[u8], f: OstFid, r: usize, j: usize) -> Search
             compared: 0,
         };
     }
-    if layout::names(layout::slot_at(area, j), f) {
+    if layout::names_at(area, j, f) {
         return Search {
             place: Some((r, j)),
             compared: 1,
@@ -73,7 +73,7 @@ pub fn first_in(parents: &[u8], f: OstFid, r: usize) -> Search
     let area = slot_area(rows::row_at(parents, PARENT_SIZE, r));
     let found = area
         .chunks_exact(SLOT_SIZE)
-        .position(|slot| layout::names(layout::slot_at(slot, 0), f));
+        .position(|slot| layout::names_at(slot, 0, f));
     match found {
         Some(j) => Search {
             place: Some((r, j)),

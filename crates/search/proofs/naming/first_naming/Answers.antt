@@ -12,7 +12,7 @@ use Rattle.search.proofs.SlotArea.{area_width, area_of}
 use Rattle.search.proofs.NamingLaws.{scan_start, area_names}
 use Rattle.search.proofs.CountLaws.{all_fit_lem, slot_fits, slot_counted, slot_passed, row_count_start, row_enters, row_leaves, rows_passed}
 use Rattle.search.proofs.naming.first_naming.Goals as goal
-use Rattle.search.proofs.naming.first_naming.Goals.{After-names, After-slot_area-area}
+use Rattle.search.proofs.naming.first_naming.Goals.{After-names_at, After-slot_area-area}
 
 -- the slots of row r lie in the area
 area : (c : goal.After-slot_area-area) →
@@ -21,10 +21,10 @@ area : (c : goal.After-slot_area-area) →
 area c = area_of _ _ _ c.slot_area-area.result.now (omega arith) c.row_at.ensures.0 c.slot_area-area.ensures
 
 -- slot j names the object or not, as its bytes say
-named : (c : goal.After-names) →
+named : (c : goal.After-names_at) →
     let d = c in
-    names_at (parse_parents d.args.parents.now) d.args.f d.rows.r c.loop-j.j ≡ c.names.result
-named c = area_names _ _ _ _ ((area_of _ _ _ c.slot_area-area.result.now (omega arith) c.row_at.ensures.0 c.slot_area-area.ensures)) _ _ _ _ (omega arith) c.slot_at.ensures c.names.ensures
+    names_at (parse_parents d.args.parents.now) d.args.f d.rows.r c.loop-j.j ≡ c.names_at.result
+named c = area_names _ _ _ _ ((area_of _ _ _ c.slot_area-area.result.now (omega arith) c.row_at.ensures.0 c.slot_area-area.ensures)) _ _ _ _ (omega arith) refl c.names_at.ensures
 
 pub rows-init : goal.rows-init
 rows-init c = (refl, scan_start _ _, row_count_start _ _)
@@ -45,7 +45,7 @@ overflow_add-compared c =
 pub loop-j-preserved : goal.loop-j-preserved
 loop-j-preserved c =
     let i = c.loop-j.invariant in
-    let t = named (goal.at.loop-j-preserved c).After-names ∙ c.if-names.false in
+    let t = named (goal.at.loop-j-preserved c).After-names_at ∙ c.if-names_at.false in
     (i.0, again _ _ _ _ _ _ _ i.1 (omega arith) t, slot_passed _ _ _ _ (area_width _ _ _ _ (area (goal.at.loop-j-preserved c).After-slot_area-area)) _ _ _ _ i.2 (omega arith) t)
 
 pub rows-preserved : goal.rows-preserved
@@ -61,11 +61,11 @@ returns-after-rows c =
       compared = rows_passed _ _ _ _ _ i.2 (omega arith);
     }
 
-pub returns-then-names : goal.returns-then-names
-returns-then-names c =
+pub returns-then-names_at : goal.returns-then-names_at
+returns-then-names_at c =
     let i = c.loop-j.invariant in
-    let t = named (goal.at.returns-then-names c).After-names ∙ c.if-names.true in
+    let t = named (goal.at.returns-then-names_at c).After-names_at ∙ c.if-names_at.true in
     record {
       place = stop _ _ _ _ _ _ _ i.1 (omega arith) t;
-      compared = slot_counted _ _ _ _ (area_width _ _ _ _ (area (goal.at.returns-then-names c).After-slot_area-area)) _ _ _ _ i.2 (omega arith) t;
+      compared = slot_counted _ _ _ _ (area_width _ _ _ _ (area (goal.at.returns-then-names_at c).After-slot_area-area)) _ _ _ _ i.2 (omega arith) t;
     }

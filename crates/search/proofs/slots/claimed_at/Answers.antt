@@ -1,4 +1,4 @@
-use mathlib.Core.Path.{◌≡◌, ◌∙◌}
+use mathlib.Core.Path.{◌≡◌, refl, ◌∙◌}
 use native.Mathlib.Omega.{arith}
 use Prim.Native.Nat.{◌/◌}
 use lib.ListN.{length}
@@ -25,16 +25,16 @@ pub returns-then-area-j : goal.returns-then-area-j
 returns-then-area-j c = let whole = claimed_past _ _ _ _ _ (area_width _ _ _ _ (area (goal.at.returns-then-area-j c).After-slot_area-area)) (omega arith) in
     record { place = whole.0; compared = whole.1 }
 
-pub returns-then-names : goal.returns-then-names
-returns-then-names c =
-    let e = area (goal.at.returns-then-names c).After-slot_area-area in
+pub returns-then-names_at : goal.returns-then-names_at
+returns-then-names_at c =
+    let e = area (goal.at.returns-then-names_at c).After-slot_area-area in
     let whole = claimed_hit _ _ _ _ _ (area_width _ _ _ _ e) (omega arith)
-    (area_names _ _ _ _ e _ _ _ _ (omega arith) c.slot_at.ensures c.names.ensures ∙ c.if-names.true) in
+    (area_names _ _ _ _ e _ _ _ _ (omega arith) refl c.names_at.ensures ∙ c.if-names_at.true) in
     record { place = whole.0; compared = whole.1 }
 
 pub returns : goal.returns
 returns c =
     let e = area (goal.at.returns c).After-slot_area-area in
     let whole = claimed_miss _ _ _ _ _ (area_width _ _ _ _ e) (omega arith)
-    (area_names _ _ _ _ e _ _ _ _ (omega arith) c.slot_at.ensures c.names.ensures ∙ c.if-names.false) in
+    (area_names _ _ _ _ e _ _ _ _ (omega arith) refl c.names_at.ensures ∙ c.if-names_at.false) in
     record { place = whole.0; compared = whole.1 }
