@@ -173,5 +173,8 @@ pub fn put_bytes(s: &mut [u8], at: usize, v: &[u8])
     requires { at + length v.now ≤ length s.old }
     ensures { s.new ≡ sets s.old at v.now }
 {
-    s[at..at + v.len()].copy_from_slice(v);
+    // A loop: copy_from_slice of a length that the compiler doesn't know is a call of memmove, which the archive for C has no other need of.
+    for (i, b) in v.iter().enumerate() {
+        s[at + i] = *b;
+    }
 }
