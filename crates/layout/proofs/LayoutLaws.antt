@@ -212,14 +212,18 @@ module _ (l : List ℕ) where
   pub place_long : (j : ℕ) (s : Slot) (y : List ℕ) → exact_length l ≡ true → y ≡ sets l (slot_start l + slot_size * j) (encode_slot s) → plain_header ≤ length y
   place_long j s y x e = rw (e, length-sets l (slot_start l + slot_size * j) (encode_slot s)) (exact_long l x)
 
-  pub rewrite_bad : (j : ℕ) (s : Slot) (e : Refusal) → read_layout l ≡ Err e → (number e ≡ rewrite_answer l j s) × (l ≡ rewrite_bytes l j s)
+  -- what may not be rewritten is 13, whatever the index
+  pub rewrite_bad : (j : ℕ) (s : Slot) → (accepted_layout l && allowed_slot (with_holes (decode_header l)) s) ≡ false →
+      (13 ≡ rewrite_answer l j s) × (l ≡ rewrite_bytes l j s)
   unfolding rewrite_answer rewrite_bytes
-  rewrite_bad j s e h = let b = read_bad e h in (rw (b.0, b.1), rw (b.0))
+  rewrite_bad j s h = (rw h, rw h)
+
+  pub rewrite_refused : (j : ℕ) (s : Slot) (e : Refusal) → read_layout l ≡ Err e → (number e ≡ rewrite_answer l j s) × (l ≡ rewrite_bytes l j s)
+  rewrite_refused j s e h = let b = read_bad e h in let w = rewrite_bad j s (rw (b.0)) in (rw (b.1) (w.0), w.1)
 
   module _ (j n : ℕ) (s : Slot) (h : Header) (holes : Bool) (e : read_layout l ≡ Ok (h, n)) (w : holes ≡ with_holes h) where
     pub rewrite_unfit : false ≡ allowed_slot holes s → (13 ≡ rewrite_answer l j s) × (l ≡ rewrite_bytes l j s)
-    unfolding rewrite_answer rewrite_bytes
-    rewrite_unfit t = let a = read_taken h n e in (rw (a.0, a.1, ← w, ← t), rw (a.0, a.1, ← w, ← t))
+    rewrite_unfit t = let a = read_taken h n e in rewrite_bad j s (rw (a.0, a.1, ← w, ← t))
 
     module _ (t : true ≡ allowed_slot holes s) where
       pub rewrite_past : n ≤ j → (16 ≡ rewrite_answer l j s) × (l ≡ rewrite_bytes l j s)

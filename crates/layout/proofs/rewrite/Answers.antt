@@ -3,13 +3,13 @@ use mathlib.Core.Path.{◌≡◌, ap, sym, ◌∙◌}
 use Rattle.std.proofs.Common.{rules}
 use Rattle.std.specs.Prelude.{Err}
 use Rattle.refusals.specs.Numbers.{answer}
-use Rattle.layout.proofs.LayoutLaws.{read_taken, rewrite_bad, rewrite_unfit, rewrite_past, rewrite_done, accepted_exact}
+use Rattle.layout.proofs.LayoutLaws.{read_taken, rewrite_refused, rewrite_unfit, rewrite_past, rewrite_done, accepted_exact}
 use Rattle.layout.proofs.rewrite.Goals as goal
 
 pub returns-in_err-h : goal.returns-in_err-h
 returns-in_err-h c =
     let e : c.from_residual.result ≡ Err c.in_err-h.field-0.0 = search rules in
-    let whole = rewrite_bad _ _ _ _ (sym c.read.ensures ∙ c.in_err-h.was) in
+    let whole = rewrite_refused _ _ _ _ (sym c.read.ensures ∙ c.in_err-h.was) in
     record { answer = ap answer e ∙ whole.0; bytes = whole.1 }
 
 pub returns-then-not-allowed_slot : goal.returns-then-not-allowed_slot
