@@ -2,6 +2,8 @@
 -- from 1 (an unclosed entry's first); earlier rows stand".
 use Rattle.std.specs.Prelude.{ℕ, suc, ◌+◌, List, [], ◌∷◌, ◌++◌, Bool, true, false, cond, ◌&&◌, length, drop, set, get_or, leb, ltb}
 use Rattle.wire.specs.Numbers.{bytes}
+use Rattle.refusals.specs.Numbers.{number}
+use Rattle.refusals.specs.declared.Refusal.TheVariants.{BadDump, AttributeTwice, NoSelf, NoKind, NoFit}
 use Rattle.tables.specs.Bytes.{is_used, room_at}
 use Rattle.intake.specs.Lines.{lines}
 use Rattle.intake.specs.Says.{Line, opens, closes, skipped, bad, takes, line_says, lma_self_at, is_empty}
@@ -13,23 +15,23 @@ use Rattle.intake.specs.Owners.{Owning, no_owner, owning, next_owner}
 
 -- "A bad line, hex .. or length or an unclosed last entry (33)", and no good owners line
 abbrev pub bad_dump : ℕ
-bad_dump = 33
+bad_dump = number BadDump
 
 -- "one of the three twice (34)"
 abbrev pub attribute_twice : ℕ
-attribute_twice = 34
+attribute_twice = number AttributeTwice
 
 -- "no self FID (35)"
 abbrev pub no_self : ℕ
-no_self = 35
+no_self = number NoSelf
 
 -- "a file of neither kind or both (36)"
 abbrev pub no_kind : ℕ
-no_kind = 36
+no_kind = number NoKind
 
 -- "a row that doesn't fit (37)"
 abbrev pub no_fit : ℕ
-no_fit = 37
+no_fit = number NoFit
 
 -- ## What a reading holds
 

@@ -1,8 +1,8 @@
 // The state of a reading in lent bytes, and its test.
 #![tactic(auto)]
 
-ghost use Rattle.std.specs.Prelude.{◌≡◌, ◌≤◌};
-ghost use Rattle.refusals.specs.Numbers.{answer};
+ghost use Rattle.std.specs.Prelude.{◌≡◌, ◌≤◌, eqb};
+ghost use Rattle.refusals.specs.Numbers.{number, answer};
 ghost use Rattle.intake.specs.Reading.{bad_dump, no_fit};
 
 pub mod state;
@@ -23,19 +23,34 @@ pub struct Kept {
 }
 
 impl Kept {
+    // Whether its answer is the number of this refusal.
+    fn is(self, stop: Refusal) -> bool
+        ensures { result ≡ eqb self.answer (number stop) }
+    {
+        self.answer == stop.number() as usize
+    }
+
     // Its answer: the reading goes on, or why it stopped.
     pub fn told(self) -> Result<(), Refusal>
         requires most { self.answer ≤ no_fit }
         requires least { (self.answer ≡ 0 → ⊥) → bad_dump ≤ self.answer }
         ensures { answer result ≡ self.answer }
     {
-        match self.answer {
-            0 => Ok(()),
-            33 => Err(Refusal::BadDump),
-            34 => Err(Refusal::AttributeTwice),
-            35 => Err(Refusal::NoSelf),
-            36 => Err(Refusal::NoKind),
-            _ => Err(Refusal::NoFit),
+        if self.answer == 0 {
+            return Ok(());
         }
+        if self.is(Refusal::BadDump) {
+            return Err(Refusal::BadDump);
+        }
+        if self.is(Refusal::AttributeTwice) {
+            return Err(Refusal::AttributeTwice);
+        }
+        if self.is(Refusal::NoSelf) {
+            return Err(Refusal::NoSelf);
+        }
+        if self.is(Refusal::NoKind) {
+            return Err(Refusal::NoKind);
+        }
+        Err(Refusal::NoFit)
     }
 }

@@ -1,12 +1,14 @@
 -- The mending under a visibility: the sweeps one after the other. Document 02, 2026-06.
 use Rattle.std.specs.Prelude.{ℕ, Bool, true, false, List}
+use Rattle.refusals.specs.Numbers.{number}
+use Rattle.refusals.specs.declared.Refusal.TheVariants.{LinkFull}
 use Rattle.fid.specs.declared.MdtFid.{MdtFid}
 use Rattle.names.specs.Rows.{Entry, Child}
 use Rattle.names.specs.Sweeps.{Appends, sweep1, taken, sweep2, writes, sweep3, sweep4, removals}
 
 -- "with 38"
 abbrev pub link_full : ℕ
-link_full = 38
+link_full = number LinkFull
 
 -- the numbers of a report: self FIDs taken, FID-in-dirents written, records appended, records removed, the entry it stopped in front of, else
 -- the number of entries
